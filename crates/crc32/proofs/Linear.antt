@@ -1,0 +1,78 @@
+-- The bit step of the checksum is linear over exclusive or, so eight steps are one look into a table of 256 entries.
+-- Assumes nothing.
+use Prim.Native.Nat.{ℕ, zero, suc, _+_, _*_, _/_, _%_, _^_, _<_}
+use mathlib.Core.Path.{_≡_, refl, sym, ap, ap₂, _∙_}
+use mathlib.Core.List.{List, [], _∷_, _++_}
+use native.Mathlib.Omega.{arith}
+use native.Mathlib.Nat.{div-eq-of-lt, mod-lt, mul-one}
+use lib.Pow.{pow-pos, split}
+use lib.Bits.{bitXor, differ, xor-shr, xor-zero-r, xor-shifted, shifted-half, shifted-even}
+use lib.ListN.{length, getD, drop}
+use lib.Seq.{drop-cons}
+use native.Mathlib.Numerals.{add-one}
+use Rattle.crc32.specs.Crc.{poly, shiftBit, shiftBits, crcFrom}
+use Rattle.crc32.proofs.Xor.{xor-swap, xor-half, xor-odd, bit-lt, too-big}
+
+times-poly : (x y : ℕ) → x < 2 → y < 2 → differ x y * poly ≡ bitXor (x * poly) (y * poly)
+times-poly zero zero h g = refl
+times-poly zero (suc zero) h g = refl
+times-poly zero (suc (suc y)) h g = absurd (too-big g)
+times-poly (suc zero) zero h g = refl
+times-poly (suc zero) (suc zero) h g = refl
+times-poly (suc zero) (suc (suc y)) h g = absurd (too-big g)
+times-poly (suc (suc x)) y h g = absurd (too-big h)
+
+pub shiftBit-linear : (a b : ℕ) → shiftBit (bitXor a b) ≡ bitXor (shiftBit a) (shiftBit b)
+unfolding shiftBit
+shiftBit-linear a b =
+    ap₂ bitXor (xor-half a b) (ap (λ (x : ℕ). x * poly) (xor-odd a b) ∙ times-poly (a % 2) (b % 2) (bit-lt a) (bit-lt b))
+    ∙ xor-swap (a / 2) (b / 2) (a % 2 * poly) (b % 2 * poly)
+
+pub shiftBits-linear : (k a b : ℕ) → shiftBits k (bitXor a b) ≡ bitXor (shiftBits k a) (shiftBits k b)
+unfolding shiftBits
+shiftBits-linear zero a b = refl
+shiftBits-linear (suc k) a b = ap (shiftBits k) (shiftBit-linear a b) ∙ shiftBits-linear k (shiftBit a) (shiftBit b)
+
+-- what stands above k bits comes down by k places
+pub shiftBits-high : (k a : ℕ) → shiftBits k (a * 2 ^ k) ≡ a
+unfolding shiftBits shiftBit
+shiftBits-high zero a = mul-one a
+shiftBits-high (suc k) a =
+    ap (shiftBits k) (ap₂ (λ (x y : ℕ). bitXor x (y * poly)) (shifted-half a k) (shifted-even a k) ∙ xor-zero-r (a * 2 ^ k))
+    ∙ shiftBits-high k a
+
+-- k steps: the bits above come down, and the k low bits are looked up
+pub shiftBits-split : (k c : ℕ) → shiftBits k c ≡ bitXor (c / 2 ^ k) (shiftBits k (c % 2 ^ k))
+shiftBits-split k c =
+    ap (shiftBits k) (sym (xor-shifted (c / 2 ^ k) k (c % 2 ^ k) (mod-lt c (pow-pos k)) ∙ split c k))
+    ∙ shiftBits-linear k (c / 2 ^ k * 2 ^ k) (c % 2 ^ k)
+    ∙ ap (λ (x : ℕ). bitXor x (shiftBits k (c % 2 ^ k))) (shiftBits-high k (c / 2 ^ k))
+
+pub crcFrom-append : (c : ℕ) (s t : List ℕ) → crcFrom c (s ++ t) ≡ crcFrom (crcFrom c s) t
+unfolding crcFrom
+crcFrom-append c [] t = refl
+crcFrom-append c (b ∷ bs) t = crcFrom-append (shiftBits 8 (bitXor c b)) bs t
+
+-- two byte strings of one length, exclusive or place by place
+abbrev pub xorEach : List ℕ → List ℕ → List ℕ
+xorEach [] t = []
+xorEach (x ∷ s) [] = []
+xorEach (x ∷ s) (y ∷ t) = bitXor x y ∷ xorEach s t
+
+-- taking bytes in is linear: what two strings differ by alone decides what their remainders differ by
+pub crcFrom-linear : (a b : ℕ) (s t : List ℕ) → length s ≡ length t → crcFrom (bitXor a b) (xorEach s t) ≡ bitXor (crcFrom a s) (crcFrom b t)
+unfolding crcFrom
+crcFrom-linear a b [] [] e = refl
+crcFrom-linear a b [] (y ∷ t) e = absurd (omega arith)
+crcFrom-linear a b (x ∷ s) [] e = absurd (omega arith)
+crcFrom-linear a b (x ∷ s) (y ∷ t) e =
+    ap (λ (c : ℕ). crcFrom c (xorEach s t)) (ap (shiftBits 8) (xor-swap a b x y) ∙ shiftBits-linear 8 (bitXor a x) (bitXor b y))
+    ∙ crcFrom-linear (shiftBits 8 (bitXor a x)) (shiftBits 8 (bitXor b y)) s t (omega arith)
+
+-- a byte taken in through the table
+pub table-step : (c b : ℕ) → b < 256 → bitXor (c / 256) (shiftBits 8 (bitXor c b % 256)) ≡ shiftBits 8 (bitXor c b)
+table-step c b h = sym (shiftBits-split 8 (bitXor c b) ∙ ap (λ (x : ℕ). bitXor x (shiftBits 8 (bitXor c b % 256))) (xor-shr c b 8 ∙ ap (bitXor (c / 256)) (div-eq-of-lt h) ∙ xor-zero-r (c / 256)))
+
+pub crcFrom-step : (c : ℕ) (s : List ℕ) (i : ℕ) → i < length s → crcFrom c (drop i s) ≡ crcFrom (shiftBits 8 (bitXor c (getD s i 0))) (drop (i + 1) s)
+unfolding crcFrom
+crcFrom-step c s i h = rw (add-one, drop-cons s i 0)

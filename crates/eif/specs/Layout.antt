@@ -1,0 +1,137 @@
+-- The layout of an image: what the rules look at, and where it stands.
+-- Assumes nothing.
+use Prim.Native.Nat.{ℕ, zero, suc, _+_, _*_}
+use mathlib.Core.List.{List}
+use lib.ListN.{length}
+use Rattle.octets.specs.Bytes.{field}
+
+-- ---- sizes and the magic number
+
+abbrev pub headerSize : ℕ
+headerSize = 548
+
+abbrev pub sectionHeaderSize : ℕ
+sectionHeaderSize = 12
+
+-- 2e 65 69 66
+abbrev pub magicNumber : ℕ
+magicNumber = 0x2e656966
+
+-- where the checksum stands, in 4 bytes, the header's last
+abbrev pub checksumAt : ℕ
+checksumAt = 544
+
+-- ---- what the rules look at
+
+-- A file as the rules see it: its size, the numbers in its header and what each section's own header says.
+-- So a reader that sees the file in pieces has the same rules.
+pub record View : Type 0 where
+  pub size : ℕ
+  -- the number of w bytes at a position of the header
+  pub header : ℕ → ℕ → ℕ
+  -- the type, the flags and the size in the own header of section i
+  pub kind : ℕ → ℕ
+  pub flags : ℕ → ℕ
+  pub ownSize : ℕ → ℕ
+
+-- the header's fields
+abbrev pub magic : View → ℕ
+magic v = v .header 4 0
+
+abbrev pub version : View → ℕ
+version v = v .header 2 4
+
+abbrev pub headerFlags : View → ℕ
+headerFlags v = v .header 2 6
+
+-- default_mem
+abbrev pub memory : View → ℕ
+memory v = v .header 8 8
+
+-- default_cpus
+abbrev pub cpus : View → ℕ
+cpus v = v .header 8 16
+
+abbrev pub reserved : View → ℕ
+reserved v = v .header 2 24
+
+-- num_sections
+abbrev pub count : View → ℕ
+count v = v .header 2 26
+
+-- the table's entries for section i; an offset points at the section's own header, a size counts the data only
+abbrev pub offsetEntry : (ℕ → ℕ → ℕ) → ℕ → ℕ
+offsetEntry header i = header 8 (28 + 8 * i)
+
+abbrev pub offset : View → ℕ → ℕ
+offset v i = offsetEntry (v .header) i
+
+abbrev pub size : View → ℕ → ℕ
+size v i = v .header 8 (284 + 8 * i)
+
+abbrev pub reservedAfter : View → ℕ
+reservedAfter v = v .header 4 540
+
+abbrev pub checksum : View → ℕ
+checksum v = v .header 4 checksumAt
+
+-- the first byte after section i
+abbrev pub end : View → ℕ → ℕ
+end v i = offset v i + sectionHeaderSize + size v i
+
+-- where section i may start: at the end of the header or of the section before
+abbrev pub start : View → ℕ → ℕ
+start v zero = headerSize
+start v (suc i) = end v i
+
+-- ---- of a whole file
+
+abbrev pub offsetAt : List ℕ → ℕ → ℕ
+offsetAt s i = offsetEntry (λ w at. field w at s) i
+
+-- a section's own header: type, flags, size
+abbrev pub kindAt : List ℕ → ℕ → ℕ
+kindAt s i = field 2 (offsetAt s i) s
+
+abbrev pub flagsAt : List ℕ → ℕ → ℕ
+flagsAt s i = field 2 (offsetAt s i + 2) s
+
+abbrev pub ownSizeAt : List ℕ → ℕ → ℕ
+ownSizeAt s i = field 8 (offsetAt s i + 4) s
+
+abbrev pub viewOf : List ℕ → View
+viewOf s =
+    record {
+      size = length s;
+      header = λ w at. field w at s;
+      kind = kindAt s;
+      flags = flagsAt s;
+      ownSize = ownSizeAt s;
+    }
+
+abbrev pub versionOf : List ℕ → ℕ
+versionOf s = version (viewOf s)
+
+abbrev pub countOf : List ℕ → ℕ
+countOf s = count (viewOf s)
+
+abbrev pub sizeAt : List ℕ → ℕ → ℕ
+sizeAt s = size (viewOf s)
+
+abbrev pub endAt : List ℕ → ℕ → ℕ
+endAt s = end (viewOf s)
+
+abbrev pub startAt : List ℕ → ℕ → ℕ
+startAt s = start (viewOf s)
+
+-- ---- of parts of a file: its header, 12 bytes for each section, and its size
+
+abbrev pub viewFrom : List ℕ → List ℕ → ℕ → View
+viewFrom header heads size =
+    record {
+      size = size;
+      header = λ w at. field w at header;
+      kind = λ i. field 2 (sectionHeaderSize * i) heads;
+      flags = λ i. field 2 (sectionHeaderSize * i + 2) heads;
+      ownSize = λ i. field 8 (sectionHeaderSize * i + 4) heads;
+    }

@@ -1,0 +1,14 @@
+pub mod Numbers
+pub mod Logic
+pub mod Answers
+pub mod Rules
+pub mod Table
+pub mod Layout
+pub mod Reading
+pub mod Acceptance
+pub mod Order
+pub mod Output
+pub mod Plan
+pub mod Stream
+pub mod Roll
+pub mod Rows

@@ -1,0 +1,173 @@
+-- Writing an image: the rules on a plan in their order, the plain image of a plan, and when an accepted image is plain.
+-- Assumes nothing.
+use Prim.Native.Nat.{ℕ, zero, suc, _+_, _<_, _≤_}
+use mathlib.Core.Bool.{Bool, true, false, not}
+use mathlib.Core.List.{List, [], _∷_, _++_, map}
+use mathlib.Core.Path.{_≡_}
+use lib.Dec.{ltb, eqb}
+use lib.ListN.{length, take, drop, getD}
+use Rattle.octets.specs.Bytes.{beBytes}
+use Rattle.crc32.specs.Crc.{crc32}
+use Rattle.eif.specs.Numbers.{sizeLimit, placeCount, imageTooLong, wrongVersion, wrongCount, typeNotAllowed, sectionMissing, outputTooShort, dataLengthDiffers}
+use Rattle.eif.specs.Logic.{choose}
+use Rattle.eif.specs.Answers.{refuse, andThen, wholeVerdict, beside}
+use Rattle.eif.specs.Rules.{versionKnown, countKnown, allowedIn, orderFault, missing, firstFault}
+use Rattle.eif.specs.Table.{filled}
+use Rattle.eif.specs.Layout.{magicNumber, headerSize, sectionHeaderSize, viewOf, reserved, reservedAfter, countOf, offsetAt, sizeAt, startAt}
+use Rattle.eif.specs.Reading.{verdictOf, blankSection, dataOf}
+use Rattle.eif.specs.Output.{outputFor}
+use Rattle.eif.specs.declared.Section.{Section}
+use Rattle.eif.specs.declared.Reading.{Reading}
+use Rattle.eif.specs.declared.Place.{Place}
+use Rattle.eif.specs.declared.Plan.{Plan}
+use Rattle.eif.specs.declared.Written.{Written}
+use Rattle.eif.specs.declared.Verdict.{Verdict}
+use Rattle.eif.specs.declared.Verdict.the-variants.{Accepted, Refused}
+
+-- ---- the places of a plan
+
+abbrev pub blankPlace : Place
+blankPlace = record { kind = 0; flags = 0; length = record { 0 = 0 } }
+
+abbrev pub placeAt : List Place → ℕ → Place
+placeAt l i = getD l i blankPlace
+
+abbrev pub plannedKind : List Place → ℕ → ℕ
+plannedKind l i = placeAt l i .kind
+
+abbrev pub plannedSize : List Place → ℕ → ℕ
+plannedSize l i = placeAt l i .length .0
+
+-- where section i starts, packed from the header's end; at the count: how long the image is
+unfoldable pub packedAt : List Place → ℕ → ℕ
+packedAt l zero = headerSize
+packedAt l (suc i) = packedAt l i + sectionHeaderSize + plannedSize l i
+
+-- how much data the sections before i have; at the count: the plan's sum of lengths
+unfoldable pub dataBefore : List Place → ℕ → ℕ
+dataBefore l zero = 0
+dataBefore l (suc i) = dataBefore l i + plannedSize l i
+
+-- how long the plain image of a plan is
+abbrev pub plainSize : Plan → ℕ
+plainSize p = packedAt (p .places) (p .count)
+
+-- ---- the rules; 0: none applies
+
+-- 4 and 5
+unfoldable pub fieldFault : Plan → ℕ
+fieldFault p =
+    choose (not (versionKnown (p .version))) wrongVersion
+    (choose (not (countKnown (p .count))) wrongCount
+    0)
+
+-- 9, 10 and 11 at section i of places, in a version
+unfoldable pub placeFault : ℕ → List Place → ℕ → ℕ
+placeFault version l i =
+    choose (not (allowedIn version (plannedKind l i))) typeNotAllowed
+    (orderFault (plannedKind l) (plannedKind l i) i)
+
+-- 12, 1 and 15, for so many bytes of data
+unfoldable pub planFault : Plan → ℕ → ℕ
+planFault p given =
+    choose (missing (plannedKind (p .places)) (p .version) (p .count)) sectionMissing
+    (choose (ltb sizeLimit (plainSize p)) imageTooLong
+    (choose (not (eqb given (dataBefore (p .places) (p .count)))) dataLengthDiffers
+    0))
+
+-- the rules but 14, which the output adds
+unfoldable pub planVerdict : Plan → ℕ → Verdict
+planVerdict p given =
+    andThen (wholeVerdict (fieldFault p))
+    (andThen (firstFault (placeFault (p .version) (p .places)) (p .count) 0)
+    (wholeVerdict (planFault p given)))
+
+-- all, for so many bytes of data and of room
+unfoldable pub writeVerdict : Plan → ℕ → ℕ → Verdict
+writeVerdict p given room =
+    andThen (planVerdict p given)
+    (choose (ltb room (plainSize p)) (refuse outputTooShort 0) Accepted)
+
+-- ---- the plain image
+
+-- 8 bytes for each number
+abbrev pub entries : List ℕ → List ℕ
+entries [] = []
+entries (x ∷ xs) = beBytes 8 x ++ entries xs
+
+-- the header up to the table, 28 bytes: magic, version, flags, default_mem, default_cpus, reserved, num_sections
+unfoldable pub fixedFields : Plan → List ℕ
+fixedFields p =
+    beBytes 4 magicNumber ++ (beBytes 2 (p .version) ++ (beBytes 2 (p .flags) ++ (beBytes 8 (p .memory)
+    ++ (beBytes 8 (p .cpus) ++ (beBytes 2 0 ++ beBytes 2 (p .count))))))
+
+unfoldable pub offsetTable : List Place → ℕ → List ℕ
+offsetTable l count = entries (filled (packedAt l) 0 placeCount count)
+
+unfoldable pub sizeTable : List Place → ℕ → List ℕ
+sizeTable l count = entries (filled (plannedSize l) 0 placeCount count)
+
+-- the header up to the checksum, 544 bytes: its last field is reserved
+unfoldable pub headerBytes : Plan → List ℕ
+headerBytes p = fixedFields p ++ (offsetTable (p .places) (p .count) ++ (sizeTable (p .places) (p .count) ++ beBytes 4 0))
+
+-- the data of section i, taken from the lent data in plan order
+abbrev pub pieceAt : List Place → List ℕ → ℕ → List ℕ
+pieceAt l given i = take (plannedSize l i) (drop (dataBefore l i) given)
+
+-- a section's own header, 12 bytes
+unfoldable pub sectionHeader : Place → List ℕ
+sectionHeader x = beBytes 2 (x .kind) ++ (beBytes 2 (x .flags) ++ beBytes 8 (x .length .0))
+
+-- n sections from section i on
+unfoldable pub sectionBytes : List Place → List ℕ → ℕ → ℕ → List ℕ
+sectionBytes l given zero i = []
+sectionBytes l given (suc n) i = sectionHeader (placeAt l i) ++ (pieceAt l given i ++ sectionBytes l given n (suc i))
+
+abbrev pub bodyBytes : Plan → List ℕ → List ℕ
+bodyBytes p given = sectionBytes (p .places) given (p .count) 0
+
+-- the header, the checksum of all other bytes, the sections
+unfoldable pub plainImage : Plan → List ℕ → List ℕ
+plainImage p given =
+    headerBytes p ++ (beBytes 4 (crc32 (headerBytes p ++ bodyBytes p given)) ++ bodyBytes p given)
+
+-- ---- the answer and the output
+
+abbrev pub writtenFor : Verdict → ℕ → Written
+writtenFor verdict size = record { verdict = verdict; length = beside verdict size 0 }
+
+unfoldable pub writeAnswer : Plan → ℕ → ℕ → Written
+writeAnswer p given room = writtenFor (writeVerdict p given room) (plainSize p)
+
+unfoldable pub writeOutput : Plan → List ℕ → List ℕ → List ℕ
+writeOutput p given d = outputFor (writeVerdict p (length given) (length d)) (plainImage p given) d
+
+-- ---- an image read and written again
+
+-- an accepted image of that form: reserved fields and unused entries zero, sections packed, nothing after the last
+pub record Plain (s : List ℕ) : Type 0 where
+  pub accepted : verdictOf s ≡ Accepted
+  pub reserved-zero : reserved (viewOf s) ≡ 0
+  pub reserved-after-zero : reservedAfter (viewOf s) ≡ 0
+  pub unused-offset : (i : ℕ) → countOf s ≤ i → i < placeCount → offsetAt s i ≡ 0
+  pub unused-size : (i : ℕ) → countOf s ≤ i → i < placeCount → sizeAt s i ≡ 0
+  pub packed : (i : ℕ) → i < countOf s → offsetAt s i ≡ startAt s i
+  pub ends : length s ≡ startAt s (countOf s)
+
+abbrev pub placeOf : Section → Place
+placeOf x = record { kind = x .kind; flags = x .flags; length = x .length }
+
+-- the plan of a reading
+abbrev pub planOf : Reading → Plan
+planOf r =
+    record { version = r .version; flags = r .flags; memory = r .memory; cpus = r .cpus; count = r .count; places = map placeOf (r .sections) }
+
+-- n lists from list i on, joined
+unfoldable pub joinFrom : (ℕ → List ℕ) → ℕ → ℕ → List ℕ
+joinFrom f zero i = []
+joinFrom f (suc n) i = f i ++ joinFrom f n (suc i)
+
+-- the sections' data, joined in file order
+abbrev pub dataJoined : List ℕ → Reading → List ℕ
+dataJoined s r = joinFrom (λ i. dataOf s (getD (r .sections) i blankSection)) (r .count) 0

@@ -1,0 +1,169 @@
+-- Reading an image: the rules 1 to 13 in their order, and what a reading holds.
+-- Assumes nothing.
+use Prim.Native.Nat.{ℕ, zero, suc, _+_, _*_}
+use mathlib.Core.Bool.{Bool, true, false, not}
+use mathlib.Core.List.{List, [], _∷_, _++_}
+use lib.Dec.{ltb, eqb}
+use lib.ListN.{replicate, take, drop}
+use Rattle.crc32.specs.Crc.{crc32}
+use Rattle.eif.specs.Numbers.{sizeLimit, placeCount, ramdisk, imageTooLong, imageTooShort, wrongMagic, wrongVersion, wrongCount, startsEarly, endsLate, sizesDiffer, typeNotAllowed, sectionMissing, checksumDiffers}
+use Rattle.eif.specs.Logic.{choose}
+use Rattle.eif.specs.Answers.{refuse, andThen, wholeVerdict}
+use Rattle.eif.specs.Rules.{versionKnown, countKnown, allowedIn, orderFault, missing, firstFault}
+use Rattle.eif.specs.Table.{filled}
+use Rattle.eif.specs.Layout.{magicNumber, headerSize, sectionHeaderSize, checksumAt, View, viewOf, magic, version, headerFlags, memory, cpus, count, offset, size, checksum, end, start}
+use Rattle.eif.specs.declared.Section.{Section}
+use Rattle.eif.specs.declared.Reading.{Reading}
+use Rattle.eif.specs.declared.Verdict.{Verdict}
+use Rattle.eif.specs.declared.Verdict.the-variants.{Accepted, Refused}
+
+-- ---- the rules; 0: none applies
+
+-- 1 to 5
+unfoldable pub headerRule : View → ℕ
+headerRule v =
+    choose (ltb sizeLimit (v .size)) imageTooLong
+    (choose (ltb (v .size) headerSize) imageTooShort
+    (choose (not (eqb (magic v) magicNumber)) wrongMagic
+    (choose (not (versionKnown (version v))) wrongVersion
+    (choose (not (countKnown (count v))) wrongCount
+    0))))
+
+-- 6 to 9 at section i
+unfoldable pub entryRule : View → ℕ → ℕ
+entryRule v i =
+    choose (ltb (offset v i) (start v i)) startsEarly
+    (choose (ltb (v .size) (end v i)) endsLate
+    (choose (not (eqb (v .ownSize i) (size v i))) sizesDiffer
+    (choose (not (allowedIn (version v) (v .kind i))) typeNotAllowed
+    0)))
+
+-- 6 to 11 at section i
+unfoldable pub sectionRule : View → ℕ → ℕ
+sectionRule v i =
+    choose (eqb (entryRule v i) 0) (orderFault (v .kind) (v .kind i) i) (entryRule v i)
+
+-- 12
+unfoldable pub missingRule : View → ℕ
+missingRule v = choose (missing (v .kind) (version v) (count v)) sectionMissing 0
+
+-- 13, for the checksum that was computed
+unfoldable pub checksumRule : View → ℕ → ℕ
+checksumRule v computed = choose (not (eqb (checksum v) computed)) checksumDiffers 0
+
+-- ---- the verdict
+
+-- by the rules 1 to 12: the header, then the sections in ascending index up to the first that fails, then what is missing
+unfoldable pub judged : View → Verdict
+judged v =
+    andThen (wholeVerdict (headerRule v))
+    (andThen (firstFault (sectionRule v) (count v) 0)
+    (wholeVerdict (missingRule v)))
+
+-- by all rules
+unfoldable pub verdictIn : View → ℕ → Verdict
+verdictIn v computed = andThen (judged v) (wholeVerdict (checksumRule v computed))
+
+-- the checksum over every byte of a file but 544 to 547, which are taken out
+unfoldable pub checksumOf : List ℕ → ℕ
+checksumOf s = crc32 (take checksumAt s ++ drop headerSize s)
+
+abbrev pub verdictOf : List ℕ → Verdict
+verdictOf s = verdictIn (viewOf s) (checksumOf s)
+
+-- ---- the sections
+
+-- what a reading says of section i: its data stands after its header
+abbrev pub section : View → ℕ → Section
+section v i =
+    record {
+      kind = v .kind i;
+      flags = v .flags i;
+      position = record { 0 = offset v i + sectionHeaderSize };
+      length = record { 0 = size v i };
+    }
+
+abbrev pub blankSection : Section
+blankSection = record { kind = 0; flags = 0; position = record { 0 = 0 }; length = record { 0 = 0 } }
+
+abbrev pub sections : View → List Section
+sections v = filled (section v) blankSection placeCount (count v)
+
+abbrev pub sectionAt : List ℕ → ℕ → Section
+sectionAt s = section (viewOf s)
+
+abbrev pub sectionsOf : List ℕ → List Section
+sectionsOf s = sections (viewOf s)
+
+-- the data bytes of a section
+abbrev pub dataOf : List ℕ → Section → List ℕ
+dataOf s x = take (x .length .0) (drop (x .position .0) s)
+
+-- ---- the ramdisk mark: bit i is one exactly when section i is a ramdisk
+
+abbrev pub ramdiskBit : Section → ℕ
+ramdiskBit x = choose (eqb (x .kind) ramdisk) 1 0
+
+unfoldable pub markOf : List Section → ℕ
+markOf [] = 0
+markOf (x ∷ xs) = ramdiskBit x + 2 * markOf xs
+
+-- the number of ramdisks of a section list
+unfoldable pub ramdiskCount : List Section → ℕ
+ramdiskCount [] = 0
+ramdiskCount (x ∷ xs) = ramdiskBit x + ramdiskCount xs
+
+-- the place of its first ramdisk, or where there is none the number of its places
+unfoldable pub firstRamdisk : List Section → ℕ
+firstRamdisk [] = 0
+firstRamdisk (x ∷ xs) = choose (eqb (x .kind) ramdisk) 0 (suc (firstRamdisk xs))
+
+-- ---- the reading
+
+-- what stands beside a refusal: all zero
+abbrev pub blankReading : Verdict → Reading
+blankReading verdict =
+    record {
+      verdict = verdict;
+      version = 0;
+      flags = 0;
+      memory = 0;
+      cpus = 0;
+      count = 0;
+      sections = replicate placeCount blankSection;
+      ramdisks = 0;
+    }
+
+abbrev pub readingOf : View → Verdict → Reading
+readingOf v (Refused r) = blankReading (Refused r)
+readingOf v Accepted =
+    record {
+      verdict = Accepted;
+      version = version v;
+      flags = headerFlags v;
+      memory = memory v;
+      cpus = cpus v;
+      count = count v;
+      sections = sections v;
+      ramdisks = markOf (sections v);
+    }
+
+-- by the rules 1 to 12
+unfoldable pub readEarly : View → Reading
+readEarly v = readingOf v (judged v)
+
+-- a reading by the rules 1 to 12, and then by 13: the stored checksum against the one that was computed
+abbrev pub sealedFor : Verdict → Reading → ℕ → ℕ → Reading
+sealedFor (Refused r) reading stored computed = reading
+sealedFor Accepted reading stored computed = choose (eqb stored computed) reading (blankReading (refuse checksumDiffers 0))
+
+unfoldable pub sealed : Reading → ℕ → ℕ → Reading
+sealed reading stored computed = sealedFor (reading .verdict) reading stored computed
+
+-- by all rules, for the checksum that was computed
+unfoldable pub readView : View → ℕ → Reading
+readView v computed = readingOf v (verdictIn v computed)
+
+-- the reading of an image
+abbrev pub readImage : List ℕ → Reading
+readImage s = readView (viewOf s) (checksumOf s)

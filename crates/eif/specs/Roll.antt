@@ -1,0 +1,180 @@
+-- The boot roll (the paper's term): its bytes, what writing one answers, and what reading one answers.
+-- Assumes nothing.
+use Prim.Native.Nat.{ℕ, zero, suc, _+_, _≤_}
+use mathlib.Core.Bool.{Bool, true, false, not}
+use mathlib.Core.List.{List, [], _∷_, _++_}
+use mathlib.Core.Path.{_≡_}
+use lib.Dec.{ltb, leb, eqb}
+use lib.ListN.{length, replicate, take}
+use Rattle.octets.specs.Bytes.{leField, leBytes}
+use Rattle.eif.specs.Numbers.{sizeLimit, placeCount, oldestVersion, kernel, ramdisk, imageTooLong, wrongCount, sectionMissing, outputTooShort, recordCut, recordTypeWrong, bytesAfterEnd}
+use Rattle.eif.specs.Logic.{both, choose}
+use Rattle.eif.specs.Answers.{refuse, andThen}
+use Rattle.eif.specs.Rules.{orderFault, missing}
+use Rattle.eif.specs.Table.{filled}
+use Rattle.eif.specs.Layout.{headerSize, sectionHeaderSize}
+use Rattle.eif.specs.Reading.{sectionsOf, dataOf, verdictOf}
+use Rattle.eif.specs.Output.{outputFor}
+use Rattle.eif.specs.Plan.{writtenFor}
+use Rattle.eif.specs.declared.Section.{Section}
+use Rattle.eif.specs.declared.RollRecord.{RollRecord}
+use Rattle.eif.specs.declared.RollReading.{RollReading}
+use Rattle.eif.specs.declared.Written.{Written}
+use Rattle.eif.specs.declared.Verdict.{Verdict}
+use Rattle.eif.specs.declared.Verdict.the-variants.{Accepted, Refused}
+
+-- ---- the bytes of a roll
+
+-- an 8-byte length and a 2-byte type, little-endian
+abbrev pub recordHeadSize : ℕ
+recordHeadSize = 10
+
+unfoldable pub headOf : ℕ → ℕ → List ℕ
+headOf size kind = leBytes 8 size ++ leBytes 2 kind
+
+-- the type of the end record, whose length is 0 too
+abbrev pub endType : ℕ
+endType = 0
+
+-- what a record holds: a type and the data
+pub record Record : Type 0 where
+  pub kind : ℕ
+  pub bytes : List ℕ
+
+-- a record for each, and the end record
+unfoldable pub rollOf : List Record → List ℕ
+rollOf [] = headOf 0 endType
+rollOf (r ∷ rs) = headOf (length (r .bytes)) (r .kind) ++ (r .bytes ++ rollOf rs)
+
+-- ---- the roll of an image
+
+-- the types that a roll holds: kernel, command line, ramdisk
+abbrev pub inRoll : ℕ → Bool
+inRoll kind = both (leb kernel kind) (leb kind ramdisk)
+
+abbrev pub recordFor : List ℕ → Section → Record
+recordFor s x = record { kind = x .kind; bytes = dataOf s x }
+
+-- the type and the data of every section of such a type, in file order
+unfoldable pub recordsIn : List ℕ → List Section → List Record
+recordsIn s [] = []
+recordsIn s (x ∷ xs) =
+    let rest = recordsIn s xs in
+    choose (inRoll (x .kind)) (recordFor s x ∷ rest) rest
+
+abbrev pub recordsOf : List ℕ → List Record
+recordsOf s = recordsIn s (sectionsOf s)
+
+unfoldable pub rollBytes : List ℕ → List ℕ
+rollBytes s = rollOf (recordsOf s)
+
+-- ---- two words of the demands
+
+-- two images hold the same such sections: same types, lengths, bytes and order
+abbrev pub SameSections : List ℕ → List ℕ → Type 0
+SameSections s t = recordsOf s ≡ recordsOf t
+
+-- one roll is the beginning of another
+pub record Begins (x y : List ℕ) : Type 0 where
+  pub shorter : length x ≤ length y
+  pub same : take (length x) y ≡ x
+
+-- ---- writing: the image's own refusal, then 14
+
+unfoldable pub rollVerdict : List ℕ → ℕ → Verdict
+rollVerdict s room =
+    andThen (verdictOf s)
+    (choose (ltb room (length (rollBytes s))) (refuse outputTooShort 0) Accepted)
+
+unfoldable pub rollAnswer : List ℕ → ℕ → Written
+rollAnswer s room = writtenFor (rollVerdict s room) (length (rollBytes s))
+
+unfoldable pub rollOutput : List ℕ → List ℕ → List ℕ
+rollOutput s d = outputFor (rollVerdict s (length d)) (rollBytes s) d
+
+-- ---- reading: the records by their place
+
+-- where record i starts
+unfoldable pub recordAt : List ℕ → ℕ → ℕ
+recordAt s zero = 0
+recordAt s (suc i) = let p = recordAt s i in p + recordHeadSize + leField 8 p s
+
+abbrev pub recordSize : List ℕ → ℕ → ℕ
+recordSize s i = leField 8 (recordAt s i) s
+
+abbrev pub recordKind : List ℕ → ℕ → ℕ
+recordKind s i = leField 2 (recordAt s i + 8) s
+
+abbrev pub isEnd : List ℕ → ℕ → Bool
+isEnd s i = eqb (recordKind s i) endType
+
+-- the rules 16 and 17 on a record's head; 0: none applies
+unfoldable pub headFault : List ℕ → ℕ → ℕ
+headFault s i =
+    choose (ltb (length s) (recordAt s i + recordHeadSize)) recordCut
+    (choose (ltb ramdisk (recordKind s i)) recordTypeWrong
+    (choose (both (isEnd s i) (not (eqb (recordSize s i) 0))) recordTypeWrong
+    0))
+
+-- the rules 5, 16, 10 and 11 on a record that is not the end record
+unfoldable pub bodyFault : List ℕ → ℕ → ℕ
+bodyFault s i =
+    choose (leb placeCount i) wrongCount
+    (choose (ltb (length s) (recordAt s (suc i))) recordCut
+    (orderFault (recordKind s) (recordKind s i) i))
+
+-- where the records end, or the refusal on the way
+pub data Ending : Type 0 where
+  ended : ℕ → Ending
+  stopped : ℕ → ℕ → Ending
+
+-- a refusal at record i: 5 gives the index 0
+abbrev pub stop : ℕ → ℕ → Ending
+stop number i = stopped number (choose (eqb number wrongCount) 0 i)
+
+-- from record i on, in at most n records: a head, then the end, or what follows the head and the next record
+unfoldable pub endFrom : List ℕ → ℕ → ℕ → Ending
+endFrom s zero i = stopped wrongCount 0
+endFrom s (suc n) i =
+    let rest = endFrom s n (suc i) in
+    let judged = choose (eqb (bodyFault s i) 0) rest (stop (bodyFault s i) i) in
+    choose (eqb (headFault s i) 0) (choose (isEnd s i) (ended i) judged) (stop (headFault s i) i)
+
+-- what the records before i would take in an image, with its header
+unfoldable pub imageSize : List ℕ → ℕ → ℕ
+imageSize s zero = headerSize
+imageSize s (suc i) = imageSize s i + sectionHeaderSize + recordSize s i
+
+-- the rules 18, 12 (for kernel or command line) and 1 on a roll whose end record is record n
+unfoldable pub rollFault : List ℕ → ℕ → ℕ
+rollFault s n =
+    choose (ltb (recordAt s n + recordHeadSize) (length s)) bytesAfterEnd
+    (choose (missing (recordKind s) oldestVersion n) sectionMissing
+    (choose (ltb sizeLimit (imageSize s n)) imageTooLong
+    0))
+
+-- ---- the answer
+
+-- what a reading says of record i
+abbrev pub listedAt : List ℕ → ℕ → RollRecord
+listedAt s i = record { kind = recordKind s i; position = record { 0 = recordAt s i + recordHeadSize }; length = record { 0 = recordSize s i } }
+
+abbrev pub blankRecord : RollRecord
+blankRecord = record { kind = 0; position = record { 0 = 0 }; length = record { 0 = 0 } }
+
+abbrev pub refusedRoll : Verdict → RollReading
+refusedRoll verdict = record { verdict = verdict; count = 0; records = replicate placeCount blankRecord }
+
+abbrev pub acceptedRoll : ℕ → List RollRecord → RollReading
+acceptedRoll count records = record { verdict = Accepted; count = count; records = records }
+
+abbrev pub rollAnswerFor : List ℕ → Ending → RollReading
+rollAnswerFor s (stopped number index) = refusedRoll (refuse number index)
+rollAnswerFor s (ended n) =
+    choose (eqb (rollFault s n) 0)
+    (acceptedRoll n (filled (listedAt s) blankRecord placeCount n))
+    (refusedRoll (refuse (rollFault s n) 0))
+
+-- at most 32 records and the end record
+unfoldable pub readRoll : List ℕ → RollReading
+readRoll s = rollAnswerFor s (endFrom s (suc placeCount) 0)

@@ -1,0 +1,11 @@
+-- A table of a fixed number of places, of which the first are used.
+-- Assumes nothing.
+use Prim.Native.Nat.{ℕ, zero, suc}
+use mathlib.Core.List.{List, [], _∷_}
+use lib.ListN.{replicate}
+
+-- f at the first n of m places, and d at the others
+abbrev pub filled {ℓ} : {A : Type ℓ} → (ℕ → A) → A → ℕ → ℕ → List A
+filled f d zero n = []
+filled f d (suc m) zero = d ∷ replicate m d
+filled f d (suc m) (suc n) = f 0 ∷ filled (λ k. f (suc k)) d m n

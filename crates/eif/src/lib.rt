@@ -1,0 +1,277 @@
+// The Enclave Image File: its vocabulary. The definitions that all contracts cite stand in specs/, in the order of the
+// paper; nothing here computes but the section type's own test of which version may hold it.
+ghost use mathlib.Core.Path.{_≡_};
+ghost use Rattle.eif.specs.Answers.{refuse};
+ghost use Rattle.eif.specs.Rules.{allowedIn};
+
+// ---- limits
+
+// The longest image, in bytes.
+pub const SIZE_LIMIT: usize = 16777216;
+
+// The places of the section table, and with them the most sections; and the fewest sections.
+pub const PLACES: usize = 32;
+
+pub const FEWEST_SECTIONS: u16 = 2;
+
+pub const OLDEST_VERSION: u16 = 2;
+
+pub const NEWEST_VERSION: u16 = 4;
+
+// The version that allows a signature, and the one that allows metadata and asks for it.
+pub const SIGNATURE_VERSION: u16 = 3;
+
+pub const METADATA_VERSION: u16 = 4;
+
+// ---- layout
+
+// The file's header: its size, its magic number and where its fields stand.
+pub struct Header;
+
+impl Header {
+    pub const SIZE: usize = 548;
+
+    pub const MAGIC: u32 = 0x2e656966;
+
+    pub const MAGIC_AT: usize = 0;
+
+    pub const VERSION_AT: usize = 4;
+
+    pub const FLAGS_AT: usize = 6;
+
+    pub const MEMORY_AT: usize = 8;
+
+    pub const CPUS_AT: usize = 16;
+
+    pub const RESERVED_AT: usize = 24;
+
+    pub const COUNT_AT: usize = 26;
+
+    pub const OFFSETS_AT: usize = 28;
+
+    pub const SIZES_AT: usize = 284;
+
+    pub const RESERVED_AFTER_AT: usize = 540;
+
+    pub const CHECKSUM_AT: usize = 544;
+}
+
+// A section's own header: its size and where its fields stand.
+pub struct SectionHeader;
+
+impl SectionHeader {
+    pub const SIZE: usize = 12;
+
+    pub const TYPE_AT: usize = 0;
+
+    pub const FLAGS_AT: usize = 2;
+
+    pub const SIZE_AT: usize = 4;
+}
+
+// A record's head in a boot roll.
+pub struct RecordHead;
+
+impl RecordHead {
+    pub const SIZE: usize = 10;
+
+    pub const LENGTH_AT: usize = 0;
+
+    pub const TYPE_AT: usize = 8;
+}
+
+// ---- numbers that must not be mixed up
+
+// A position in the file, in a stream and in a boot roll, and a length of data.
+#[repr(C)]
+pub struct FilePosition(pub u64);
+
+#[repr(C)]
+pub struct StreamPosition(pub u64);
+
+#[repr(C)]
+pub struct RollPosition(pub u64);
+
+#[repr(C)]
+pub struct DataLength(pub u64);
+
+// ---- section types
+
+pub struct SectionType;
+
+impl SectionType {
+    pub const KERNEL: u16 = 1;
+
+    pub const COMMAND_LINE: u16 = 2;
+
+    pub const RAMDISK: u16 = 3;
+
+    pub const SIGNATURE: u16 = 4;
+
+    pub const METADATA: u16 = 5;
+
+    // Whether an image of a version may hold a section of a type.
+    pub fn allowed(number: u16, version: u16) -> bool
+        ensures { λ r. ⌜ r ≡ allowedIn version number ⌝ }
+    {
+        if number == SectionType::SIGNATURE {
+            return SIGNATURE_VERSION <= version;
+        }
+        if number == SectionType::METADATA {
+            return METADATA_VERSION <= version;
+        }
+        if number < SectionType::KERNEL {
+            return false;
+        }
+        number <= SectionType::RAMDISK
+    }
+}
+
+// ---- answers
+
+// Why something is refused: the paper's answer number, and the index of the section or record that it is about, else 0.
+pub struct Refusal {
+    pub number: u8,
+    pub index: u64,
+}
+
+// The answer numbers.
+impl Refusal {
+    pub const IMAGE_TOO_LONG: u8 = 1;
+
+    pub const IMAGE_TOO_SHORT: u8 = 2;
+
+    pub const WRONG_MAGIC: u8 = 3;
+
+    pub const WRONG_VERSION: u8 = 4;
+
+    pub const WRONG_COUNT: u8 = 5;
+
+    pub const STARTS_EARLY: u8 = 6;
+
+    pub const ENDS_LATE: u8 = 7;
+
+    pub const SIZES_DIFFER: u8 = 8;
+
+    pub const TYPE_NOT_ALLOWED: u8 = 9;
+
+    pub const RAMDISK_BEFORE_KERNEL: u8 = 10;
+
+    pub const TYPE_REPEATED: u8 = 11;
+
+    pub const SECTION_MISSING: u8 = 12;
+
+    pub const CHECKSUM_DIFFERS: u8 = 13;
+
+    pub const OUTPUT_TOO_SHORT: u8 = 14;
+
+    pub const DATA_LENGTH_DIFFERS: u8 = 15;
+
+    pub const RECORD_CUT: u8 = 16;
+
+    pub const RECORD_TYPE_WRONG: u8 = 17;
+
+    pub const BYTES_AFTER_END: u8 = 18;
+
+    pub const PAST_STREAM_END: u8 = 19;
+}
+
+pub enum Verdict {
+    Accepted,
+    Refused(Refusal),
+}
+
+impl Verdict {
+    pub fn refuse(number: u8, index: u64) -> Verdict
+        ensures { λ r. ⌜ r ≡ refuse number index ⌝ }
+    {
+        Verdict::Refused(Refusal { number, index })
+    }
+}
+
+// ---- reading an image
+
+// What a reading says of a section. `kind` is its type.
+#[repr(C)]
+pub struct Section {
+    pub kind: u16,
+    pub flags: u16,
+    pub position: FilePosition,
+    pub length: DataLength,
+}
+
+// `memory` and `cpus` are the header's default_mem and default_cpus; bit i of `ramdisks` is one exactly when section i is a
+// ramdisk.
+pub struct Reading {
+    pub verdict: Verdict,
+    pub version: u16,
+    pub flags: u16,
+    pub memory: u64,
+    pub cpus: u64,
+    pub count: u16,
+    pub sections: [Section; PLACES],
+    pub ramdisks: u32,
+}
+
+// ---- writing an image
+
+// A section to be written.
+#[repr(C)]
+pub struct Place {
+    pub kind: u16,
+    pub flags: u16,
+    pub length: DataLength,
+}
+
+// What an image is to hold, but for the data; places past the count are ignored.
+#[repr(C)]
+pub struct Plan {
+    pub version: u16,
+    pub flags: u16,
+    pub memory: u64,
+    pub cpus: u64,
+    pub count: u16,
+    pub places: [Place; PLACES],
+}
+
+// What a writer of an image or of a roll answers: the length of what it wrote.
+pub struct Written {
+    pub verdict: Verdict,
+    pub length: u64,
+}
+
+// ---- the measured streams
+
+pub enum Stream {
+    Whole,
+    Boot,
+    App,
+}
+
+// What copying from a stream answers: the number of bytes copied.
+pub struct Copied {
+    pub verdict: Verdict,
+    pub count: u64,
+}
+
+// How long a stream is.
+pub struct StreamLength {
+    pub verdict: Verdict,
+    pub length: u64,
+}
+
+// ---- reading a boot roll
+
+// What a roll's reading says of a record. `kind` is its type; the position is that of its data.
+#[repr(C)]
+pub struct RollRecord {
+    pub kind: u16,
+    pub position: RollPosition,
+    pub length: DataLength,
+}
+
+pub struct RollReading {
+    pub verdict: Verdict,
+    pub count: u64,
+    pub records: [RollRecord; PLACES],
+}

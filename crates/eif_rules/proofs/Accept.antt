@@ -1,0 +1,90 @@
+-- What the verdict on a view that is accepted says of each rule, and back; and what an accepted image's sections are.
+-- Assumes nothing.
+use Prim.Native.Nat.{ℕ, _+_, _<_, _≤_}
+use mathlib.Core.Path.{_≡_, refl, sym, ap}
+use mathlib.Core.Bool.{Bool, true, false, not}
+use mathlib.Core.List.{List}
+use native.Mathlib.Omega.{arith}
+use borrow.Author.Tests.{eq-eqb, eqb-true, not-false}
+use lib.Dec.{eqb}
+use lib.ListN.{length}
+use Rattle.eif.specs.Numbers.{placeCount}
+use Rattle.eif.specs.Answers.{andThen, wholeVerdict}
+use Rattle.eif.specs.Rules.{orderFault, missing}
+use Rattle.eif.specs.Layout.{View, viewOf, version, count, checksum, versionOf, countOf, kindAt}
+use Rattle.eif.specs.Reading.{sectionRule, missingRule, checksumRule, judged, verdictIn, checksumOf, verdictOf, sectionAt, blankSection, sectionsOf}
+use Rattle.eif.specs.declared.Section.{Section}
+use Rattle.eif.specs.declared.Verdict.{Verdict}
+use Rattle.eif.specs.declared.Verdict.the-variants.{Accepted, Refused}
+use Rattle.eif_rules.proofs.Logic.{choose-zero}
+use Rattle.eif_rules.proofs.Verdicts.{then-accepted, whole-zero, all-accepted, walk-accepted, walk-all}
+use Rattle.eif_rules.proofs.Table.{All, all-filled}
+use Rattle.eif_rules.proofs.View.{Header, header, header0, sound-of, order-of}
+
+pub record Passes (v : View) (computed : ℕ) : Type 0 where
+  pub head : Header v
+  pub sections : (i : ℕ) → i < count v → sectionRule v i ≡ 0
+  pub complete : missing (v .kind) (version v) (count v) ≡ false
+  pub sum : checksum v ≡ computed
+
+module _ (v : View) where
+  missing-zero : missingRule v ≡ 0 → missing (v .kind) (version v) (count v) ≡ false
+  unfolding missingRule
+  missing-zero e = choose-zero (missing (v .kind) (version v) (count v)) 11 0 e .0
+
+  zero-missing : missing (v .kind) (version v) (count v) ≡ false → missingRule v ≡ 0
+  unfolding missingRule
+  zero-missing e = rw e
+
+  sum-zero : (computed : ℕ) → checksumRule v computed ≡ 0 → checksum v ≡ computed
+  unfolding checksumRule
+  sum-zero computed e = eqb-true _ _ (not-false _ (choose-zero (not (eqb (checksum v) computed)) 12 0 e .0))
+
+  zero-sum : (computed : ℕ) → checksum v ≡ computed → checksumRule v computed ≡ 0
+  unfolding checksumRule
+  zero-sum computed e = simp (eq-eqb _ _ e)
+
+  pub accepted→ : (computed : ℕ) → verdictIn v computed ≡ Accepted → Passes v computed
+  unfolding verdictIn judged
+  accepted→ computed e =
+      let j = then-accepted _ _ e in
+      let a = then-accepted _ _ (j .0) in
+      let b = then-accepted _ _ (a .1) in
+      record {
+        head = header v (whole-zero _ (a .0));
+        sections = λ i h. walk-accepted (sectionRule v) (count v) 0 (b .0) i (omega arith) (omega arith);
+        complete = missing-zero (whole-zero _ (b .1));
+        sum = sum-zero computed (whole-zero _ (j .1));
+      }
+
+  pub →accepted : (computed : ℕ) → Passes v computed → verdictIn v computed ≡ Accepted
+  unfolding verdictIn judged
+  →accepted computed p =
+      let h = p .head in
+      let z = header0 v (h .small) (h .whole) (h .magic) (h .low) (h .high) (h .some) (h .few) in
+      let w = walk-all (sectionRule v) (count v) 0 (λ j a b. p .sections j (omega arith)) in
+      let e = all-accepted _ _ _ (sym z) w (zero-missing (p .complete)) in
+      rw (e, zero-sum computed (p .sum))
+
+-- ---- of an accepted image
+
+abbrev pub Inside : List ℕ → Section → Type 0
+Inside s x = x .position .0 + x .length .0 ≤ length s
+
+module _ (s : List ℕ) (e : verdictOf s ≡ Accepted) where
+  pub passes : Passes (viewOf s) (checksumOf s)
+  passes = accepted→ (viewOf s) (checksumOf s) e
+
+  pub sections-inside : All (Inside s) (sectionsOf s)
+  sections-inside =
+      all-filled (Inside s) (sectionAt s) blankSection placeCount (countOf s) (omega arith)
+      (λ i h. sound-of (viewOf s) i (passes .sections i h) .ends)
+
+  pub none-missing-of : missing (kindAt s) (versionOf s) (countOf s) ≡ false
+  none-missing-of = passes .complete
+
+  pub sum-of : checksum (viewOf s) ≡ checksumOf s
+  sum-of = passes .sum
+
+  pub order-at : (i : ℕ) → i < countOf s → orderFault (kindAt s) (kindAt s i) i ≡ 0
+  order-at i h = order-of (viewOf s) i (passes .sections i h)

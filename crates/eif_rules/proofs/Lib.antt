@@ -1,0 +1,9 @@
+pub mod Logic
+pub mod Verdicts
+pub mod Types
+pub mod Table
+pub mod View
+pub mod Reading
+pub mod Accept
+pub mod Agree
+pub mod Mark

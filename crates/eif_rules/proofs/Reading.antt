@@ -1,0 +1,84 @@
+-- The steps of reading: the rules 1 to 12 from what each step before answered, then 13; and what a reading's verdict is.
+-- Assumes nothing.
+use Prim.Native.Nat.{ℕ}
+use mathlib.Core.Path.{_≡_, refl, sym, ap, _∙_}
+use mathlib.Core.Bool.{Bool, true, false, not}
+use mathlib.Core.List.{List}
+use borrow.Author.Tests.{eq-eqb, ne-eqb}
+use lib.Dec.{eqb}
+use Rattle.eif.specs.Numbers.{checksumDiffers}
+use Rattle.eif.specs.Logic.{choose}
+use Rattle.eif.specs.Answers.{refuse, andThen, wholeVerdict}
+use Rattle.eif.specs.Rules.{firstFault}
+use Rattle.eif.specs.Layout.{View, viewOf, count, checksum}
+use Rattle.eif.specs.Reading.{headerRule, sectionRule, missingRule, checksumRule, judged, verdictIn, checksumOf, verdictOf, blankReading, readingOf, readEarly, sealed, sealedFor, readView, readImage}
+use Rattle.eif.specs.declared.Refusal.{Refusal}
+use Rattle.eif.specs.declared.Reading.{Reading}
+use Rattle.eif.specs.declared.Verdict.{Verdict}
+use Rattle.eif.specs.declared.Verdict.the-variants.{Accepted, Refused}
+
+module _ (v : View) where
+  pub read-header : (headerRule v ≡ 0 → ⊥) → blankReading (refuse (headerRule v) 0) ≡ readEarly v
+  unfolding readEarly judged
+  read-header h = simp (ne-eqb _ _ h)
+
+  module _ (clean : headerRule v ≡ 0) where
+    pub read-walk : (r : Refusal) → firstFault (sectionRule v) (count v) 0 ≡ Refused r → blankReading (Refused r) ≡ readEarly v
+    unfolding readEarly judged
+    read-walk r e = simp (clean, e)
+
+    module _ (walked : firstFault (sectionRule v) (count v) 0 ≡ Accepted) where
+      pub read-missing : (missingRule v ≡ 0 → ⊥) → blankReading (refuse (missingRule v) 0) ≡ readEarly v
+      unfolding readEarly judged
+      read-missing h = simp (clean, walked, ne-eqb _ _ h)
+
+      pub read-complete : missingRule v ≡ 0 → readingOf v Accepted ≡ readEarly v
+      unfolding readEarly judged
+      read-complete h = simp (clean, walked, h)
+
+-- ---- the rule 13
+
+verdict-kept : (v : View) (x : Verdict) → readingOf v x .verdict ≡ x
+verdict-kept v Accepted = refl
+verdict-kept v (Refused r) = refl
+
+by-sum : (v : View) (stored computed : ℕ) (x : Verdict)
+    → sealedFor x (readingOf v x) stored computed ≡ readingOf v (andThen x (wholeVerdict (choose (not (eqb stored computed)) checksumDiffers 0)))
+by-sum v stored computed (Refused r) = refl
+by-sum v stored computed Accepted = one (eqb stored computed)
+  where
+    one : (b : Bool) → choose b (readingOf v Accepted) (blankReading (refuse checksumDiffers 0)) ≡ readingOf v (wholeVerdict (choose (not b) checksumDiffers 0))
+    one true = refl
+    one false = refl
+
+-- judged and then sealed is read
+pub seal-early : (v : View) (computed : ℕ) → sealed (readEarly v) (checksum v) computed ≡ readView v computed
+unfolding sealed readEarly readView verdictIn checksumRule
+seal-early v computed =
+    ap (λ (x : Verdict). sealedFor x (readingOf v (judged v)) (checksum v) computed) (verdict-kept v (judged v))
+    ∙ by-sum v (checksum v) computed (judged v)
+
+module _ (reading : Reading) (stored computed : ℕ) where
+  pub sealed-refused : (r : Refusal) → reading .verdict ≡ Refused r → reading ≡ sealed reading stored computed
+  unfolding sealed
+  sealed-refused r e = sym (ap (λ (x : Verdict). sealedFor x reading stored computed) e)
+
+  pub sealed-off : reading .verdict ≡ Accepted → (stored ≡ computed → ⊥) → blankReading (refuse checksumDiffers 0) ≡ sealed reading stored computed
+  unfolding sealed
+  sealed-off e h =
+      sym (ap (λ (x : Verdict). sealedFor x reading stored computed) e ∙ ap (λ (b : Bool). choose b reading (blankReading (refuse checksumDiffers 0))) (ne-eqb stored computed h))
+
+  pub sealed-on : reading .verdict ≡ Accepted → stored ≡ computed → reading ≡ sealed reading stored computed
+  unfolding sealed
+  sealed-on e h =
+      sym (ap (λ (x : Verdict). sealedFor x reading stored computed) e ∙ ap (λ (b : Bool). choose b reading (blankReading (refuse checksumDiffers 0))) (eq-eqb stored computed h))
+
+-- ---- what callers need of a reading
+
+pub reading-verdict : (s : List ℕ) → readImage s .verdict ≡ verdictOf s
+unfolding readView
+reading-verdict s = verdict-kept (viewOf s) (verdictOf s)
+
+pub reading-accepted : (s : List ℕ) → verdictOf s ≡ Accepted → readImage s ≡ readingOf (viewOf s) Accepted
+unfolding readView
+reading-accepted s e = ap (readingOf (viewOf s)) e

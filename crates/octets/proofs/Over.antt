@@ -1,0 +1,79 @@
+-- Laws of writing over a part of a list: one store at a time, one piece at a time, and past the end.
+-- Assumes nothing.
+use Prim.Native.Nat.{ℕ, zero, suc, _+_, _-_, _≤_, _<_, min}
+use mathlib.Core.Path.{_≡_, refl, sym, ap, _∙_}
+use mathlib.Core.List.{List, [], _∷_, _++_}
+use mathlib.Core.Logic.{_⊎_, inl, inr, ⊎-elim}
+use native.Mathlib.Omega.{arith}
+use native.Mathlib.Decide.{decLe}
+use native.Mathlib.Nat.{add-zero, suc-add, zero-add}
+use lib.ListN.{length, take, drop, set, length-set}
+use lib.Seq.{set-out, take-nil}
+use Rattle.octets.specs.Over.{over}
+
+pub length-over : (d : List ℕ) (at : ℕ) (bs : List ℕ) → length (over d at bs) ≡ length d
+unfolding over
+length-over d at [] = refl
+length-over d at (b ∷ bs) = length-over (set d at b) (at + 1) bs ∙ length-set d at b
+
+-- two pieces one after the other
+pub over-append : (d : List ℕ) (at : ℕ) (x y : List ℕ) → over d at (x ++ y) ≡ over (over d at x) (at + length x) y
+unfolding over
+over-append d at [] y = ap (λ (n : ℕ). over d n y) (sym (add-zero at))
+over-append d at (b ∷ bs) y =
+    let e : at + 1 + length bs ≡ at + suc (length bs) = omega arith in
+    over-append (set d at b) (at + 1) bs y ∙ ap (λ (n : ℕ). over (over (set d at b) (at + 1) bs) n y) e
+
+pub over-head : (x : ℕ) (d : List ℕ) (at : ℕ) (bs : List ℕ) → over (x ∷ d) (suc at) bs ≡ x ∷ over d at bs
+unfolding over
+over-head x d at [] = refl
+over-head x d at (b ∷ bs) = ap (λ (n : ℕ). over (x ∷ set d at b) n bs) (suc-add at 1) ∙ over-head x (set d at b) (at + 1) bs
+
+-- where all fits: the part before, the bytes, and the part after
+pub over-parts : (d : List ℕ) (at : ℕ) (bs : List ℕ) → at + length bs ≤ length d → over d at bs ≡ take at d ++ (bs ++ drop (at + length bs) d)
+unfolding over
+over-parts d zero [] h = refl
+over-parts [] zero (b ∷ bs) h = absurd (omega arith)
+over-parts (x ∷ d) zero (b ∷ bs) h =
+    over-head b d 0 bs ∙ ap (λ (l : List ℕ). b ∷ l) (over-parts d 0 bs (omega arith) ∙ ap (λ (n : ℕ). bs ++ drop n d) (zero-add (length bs)))
+    ∙ ap (λ (n : ℕ). b ∷ (bs ++ drop n (x ∷ d))) (sym (zero-add (suc (length bs))))
+over-parts [] (suc at) bs h = absurd (omega arith)
+over-parts (x ∷ d) (suc at) bs h =
+    over-head x d at bs ∙ ap (λ (l : List ℕ). x ∷ l) (over-parts d at bs (omega arith)) ∙ ap (λ (n : ℕ). x ∷ (take at d ++ (bs ++ drop n (x ∷ d)))) (sym (suc-add at (length bs)))
+
+-- ---- past the end: nothing is written there, so a write may be cut to the room first
+
+pub over-out : (d : List ℕ) (at : ℕ) (bs : List ℕ) → length d ≤ at → over d at bs ≡ d
+unfolding over
+over-out d at [] h = refl
+over-out d at (b ∷ bs) h = ap (λ (l : List ℕ). over l (at + 1) bs) (set-out d at b h) ∙ over-out d (at + 1) bs (omega arith)
+
+le-or-lt : (m n : ℕ) → (m ≤ n) ⊎ (n < m)
+le-or-lt m n = elim (decLe m n) [ yes h ↦ inl h | no h ↦ inr (omega arith) ]
+
+pub over-clip : (d : List ℕ) (at : ℕ) (bs : List ℕ) → over d at bs ≡ over d at (take (length d - at) bs)
+unfolding over
+over-clip d at [] = ap (over d at) (sym (take-nil (length d - at)))
+over-clip d at (b ∷ bs) =
+    ⊎-elim
+    (λ h.
+    let z : length d - at ≡ 0 = omega arith in
+    over-out d at (b ∷ bs) h ∙ sym (rw z refl))
+    (λ h.
+    let n : length d - at ≡ suc (length d - (at + 1)) = omega arith in
+    over-clip (set d at b) (at + 1) bs
+    ∙ ap (λ (m : ℕ). over (set d at b) (at + 1) (take (m - (at + 1)) bs)) (length-set d at b)
+    ∙ sym (rw n refl))
+    (le-or-lt (length d) at)
+
+-- where no byte is left, or no room, nothing changes
+pub over-end : (d : List ℕ) (at : ℕ) (bs : List ℕ) → min (length bs) (length d - at) ≡ 0 → over d at bs ≡ d
+unfolding over
+over-end d at [] h = refl
+over-end d at (b ∷ bs) h = over-out d at (b ∷ bs) (omega arith)
+
+-- ---- a loop that stores one byte in each turn: what is left to write, after one more store
+
+pub over-next : (d : List ℕ) (at k b : ℕ) (bs : List ℕ) → over (set d (at + k) b) (at + (k + 1)) bs ≡ over d (at + k) (b ∷ bs)
+unfolding over
+over-next d at k b bs = ap (λ (n : ℕ). over (set d (at + k) b) n bs) (let e : at + (k + 1) ≡ at + k + 1 = omega arith in e)
