@@ -8,10 +8,10 @@ use lib.Dec.{ltb, eqb}
 use lib.ListN.{length, take, drop, getD}
 use Rattle.octets.specs.Bytes.{beBytes}
 use Rattle.crc32.specs.Crc.{crc32}
-use Rattle.eif.specs.Numbers.{sizeLimit, placeCount, imageTooLong, wrongVersion, wrongCount, typeNotAllowed, sectionMissing, outputTooShort, dataLengthDiffers}
+use Rattle.eif.specs.Numbers.{sizeLimit, placeCount, imageTooLong, wrongVersion, wrongCount, sectionMissing, outputTooShort, dataLengthDiffers}
 use Rattle.eif.specs.Logic.{choose}
 use Rattle.eif.specs.Answers.{refuse, andThen, wholeVerdict, beside}
-use Rattle.eif.specs.Rules.{versionKnown, countKnown, allowedIn, orderFault, missing, firstFault}
+use Rattle.eif.specs.Rules.{versionKnown, countKnown, typeFault, missing, firstFault}
 use Rattle.eif.specs.Table.{filled}
 use Rattle.eif.specs.Layout.{magicNumber, headerSize, sectionHeaderSize, viewOf, reserved, reservedAfter, countOf, offsetAt, sizeAt, startAt}
 use Rattle.eif.specs.Reading.{verdictOf, blankSection, dataOf}
@@ -61,25 +61,23 @@ fieldFault p =
     (choose (not (countKnown (p .count))) wrongCount
     0)
 
--- 9, 10 and 11 at section i of places, in a version
-unfoldable pub placeFault : ℕ → List Place → ℕ → ℕ
-placeFault version l i =
-    choose (not (allowedIn version (plannedKind l i))) typeNotAllowed
-    (orderFault (plannedKind l) (plannedKind l i) i)
+-- 1 and 15, for so many bytes of data
+unfoldable pub sizeFault : Plan → ℕ → ℕ
+sizeFault p given =
+    choose (ltb sizeLimit (plainSize p)) imageTooLong
+    (choose (not (eqb given (dataBefore (p .places) (p .count)))) dataLengthDiffers
+    0)
 
--- 12, 1 and 15, for so many bytes of data
+-- 12, 1 and 15
 unfoldable pub planFault : Plan → ℕ → ℕ
 planFault p given =
-    choose (missing (plannedKind (p .places)) (p .version) (p .count)) sectionMissing
-    (choose (ltb sizeLimit (plainSize p)) imageTooLong
-    (choose (not (eqb given (dataBefore (p .places) (p .count)))) dataLengthDiffers
-    0))
+    choose (missing (plannedKind (p .places)) (p .version) (p .count)) sectionMissing (sizeFault p given)
 
--- the rules but 14, which the output adds
+-- the rules but 14, which the output adds; 9, 10 and 11 section by section
 unfoldable pub planVerdict : Plan → ℕ → Verdict
 planVerdict p given =
     andThen (wholeVerdict (fieldFault p))
-    (andThen (firstFault (placeFault (p .version) (p .places)) (p .count) 0)
+    (andThen (firstFault (typeFault (p .version) (plannedKind (p .places))) (p .count) 0)
     (wholeVerdict (planFault p given)))
 
 -- all, for so many bytes of data and of room

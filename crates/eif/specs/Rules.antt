@@ -3,7 +3,7 @@
 use Prim.Native.Nat.{ℕ, zero, suc}
 use mathlib.Core.Bool.{Bool, true, false, not}
 use lib.Dec.{leb, eqb}
-use Rattle.eif.specs.Numbers.{signatureVersion, metadataVersion, oldestVersion, newestVersion, fewestSections, placeCount, kernel, commandLine, ramdisk, signature, metadata, ramdiskBeforeKernel, typeRepeated}
+use Rattle.eif.specs.Numbers.{signatureVersion, metadataVersion, oldestVersion, newestVersion, fewestSections, placeCount, kernel, commandLine, ramdisk, signature, metadata, typeNotAllowed, ramdiskBeforeKernel, typeRepeated}
 use Rattle.eif.specs.Logic.{both, either, choose}
 use Rattle.eif.specs.Answers.{refuse}
 use Rattle.eif.specs.declared.Verdict.{Verdict}
@@ -35,6 +35,11 @@ orderFault kinds kind i =
     choose (eqb kind ramdisk)
     (choose (seen kinds kernel i) 0 ramdiskBeforeKernel)
     (choose (seen kinds kind i) typeRepeated 0)
+
+-- the rules 9, 10 and 11 at section i, in a version; 0: none applies
+unfoldable pub typeFault : ℕ → (ℕ → ℕ) → ℕ → ℕ
+typeFault version kinds i =
+    choose (not (allowedIn version (kinds i))) typeNotAllowed (orderFault kinds (kinds i) i)
 
 -- the test of rule 12: of the first n sections, one that must be there is missing
 unfoldable pub missing : (ℕ → ℕ) → ℕ → ℕ → Bool

@@ -69,7 +69,7 @@ impl SectionHeader {
     pub const SIZE_AT: usize = 4;
 }
 
-// A record's head in a boot roll.
+// A record's head in a boot roll: its size, where its fields stand, and the type of the end record.
 pub struct RecordHead;
 
 impl RecordHead {
@@ -78,6 +78,8 @@ impl RecordHead {
     pub const LENGTH_AT: usize = 0;
 
     pub const TYPE_AT: usize = 8;
+
+    pub const END_TYPE: u16 = 0;
 }
 
 // ---- numbers that must not be mixed up

@@ -204,15 +204,15 @@ module _ (s : List ℕ) where
       →accepted (viewOf s) (checksumOf s)
       (record {
         head =
-          record {
-            small = m .not-too-long;
-            whole = m .not-too-short;
-            magic = m .right-magic;
-            low = m .known-version .0;
-            high = m .known-version .1;
-            some = m .known-count .0;
-            few = m .known-count .1;
-          };
+            record {
+              small = m .not-too-long;
+              whole = m .not-too-short;
+              magic = m .right-magic;
+              low = m .known-version .0;
+              high = m .known-version .1;
+              some = m .known-count .0;
+              few = m .known-count .1;
+            };
         sections = section;
         complete = →complete (kindAt s) (versionOf s) (countOf s) complete;
         sum = m .right-checksum;

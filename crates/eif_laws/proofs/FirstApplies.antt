@@ -32,7 +32,7 @@ first-append (r ∷ rs) b =
 
 five : (a b c d e : Bool)
     → choose a (refuse 1 0) (choose b (refuse 2 0) (choose c (refuse 3 0) (choose d (refuse 4 0) (choose e (refuse 5 0) Accepted))))
-      ≡ wholeVerdict (choose a 1 (choose b 2 (choose c 3 (choose d 4 (choose e 5 0)))))
+    ≡ wholeVerdict (choose a 1 (choose b 2 (choose c 3 (choose d 4 (choose e 5 0)))))
 five true b c d e = refl
 five false true c d e = refl
 five false false true d e = refl
@@ -61,7 +61,7 @@ order-first false k false i = refl
 
 entry-first : (a b c d : Bool) (order i : ℕ)
     → choose a (refuse 6 i) (choose b (refuse 7 i) (choose c (refuse 8 i) (choose d (refuse 9 i) (at order i))))
-      ≡ at (choose (eqb (choose a 6 (choose b 7 (choose c 8 (choose d 9 0)))) 0) order (choose a 6 (choose b 7 (choose c 8 (choose d 9 0))))) i
+    ≡ at (choose (eqb (choose a 6 (choose b 7 (choose c 8 (choose d 9 0)))) 0) order (choose a 6 (choose b 7 (choose c 8 (choose d 9 0))))) i
 entry-first true b c d order i = refl
 entry-first false true c d order i = refl
 entry-first false false true d order i = refl

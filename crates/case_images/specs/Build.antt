@@ -1,0 +1,27 @@
+-- What the building functions leave in a buffer, as bytes written over what stood there.
+-- Assumes nothing.
+use Prim.Native.Nat.{ℕ, _+_, _*_}
+use mathlib.Core.List.{List, _++_}
+use lib.ListN.{length, take, drop}
+use Rattle.octets.specs.Bytes.{beBytes}
+use Rattle.octets.specs.Over.{over}
+use Rattle.eif.specs.Layout.{magicNumber, sectionHeaderSize, checksumAt}
+use Rattle.eif.specs.Reading.{checksumOf}
+
+abbrev pub withHeader : List ℕ → ℕ → ℕ → ℕ → List ℕ
+withHeader s version flags count =
+    over (over (over (over s 0 (beBytes 4 magicNumber)) 4 (beBytes 2 version)) 6 (beBytes 2 flags)) 26 (beBytes 2 count)
+
+abbrev pub withEntry : List ℕ → ℕ → ℕ → ℕ → List ℕ
+withEntry s i offset size = over (over s (28 + 8 * i) (beBytes 8 offset)) (284 + 8 * i) (beBytes 8 size)
+
+abbrev pub withOwnHeader : List ℕ → ℕ → ℕ → ℕ → ℕ → List ℕ
+withOwnHeader s at kind flags size = over (over (over s at (beBytes 2 kind)) (at + 2) (beBytes 2 flags)) (at + 4) (beBytes 8 size)
+
+abbrev pub withSection : List ℕ → ℕ → ℕ → ℕ → ℕ → List ℕ → List ℕ
+withSection s i at kind flags bytes =
+    over (withOwnHeader (withEntry s i at (length bytes)) at kind flags (length bytes)) (at + sectionHeaderSize) bytes
+
+-- with the right checksum of the whole buffer
+abbrev pub resealed : List ℕ → List ℕ
+resealed s = over s checksumAt (beBytes 4 (checksumOf s))

@@ -1,0 +1,22 @@
+-- `front` meets its contract: a shorter slice is its own beginning.
+-- Assumes nothing.
+use mathlib.Core.Path.{sym}
+use native.Mathlib.Omega.{arith}
+use denote.Ref.{now}
+use lib.ListN.{length-take}
+use lib.Seq.{take-all}
+use borrow.Author.Needs.{needs}
+use Rattle.eif_checksum.proofs.front.Statement.{statement}
+use Rattle.eif_checksum.proofs.front.Tie as tie
+
+returns : tie.Need-returns
+returns c = sym (take-all 544 (now (c .before .args .image)) (omega arith))
+
+slice-aggregate-result : tie.Need-slice-aggregate-result
+slice-aggregate-result c = simp length-take (omega arith)
+
+returns-2 : tie.Need-returns-2
+returns-2 c = search needs
+
+pub front-spec : {M : Type 1} → statement M
+front-spec = tie.close (tie.spec returns slice-aggregate-result returns-2)

@@ -1,0 +1,39 @@
+-- The ramdisk mark of a reading, accepted or refused: its ones are as many as the ramdisks of the section list, and its
+-- lowest one is the first of them (32 where there is none). Assumes nothing.
+use Prim.Native.Nat.{ℕ}
+use mathlib.Core.Path.{_≡_, refl, sym, ap, ap₂, _∙_}
+use mathlib.Core.List.{List}
+use lib.ListN.{length}
+use lib.Count.{ones, trailingZeros}
+use Rattle.eif.specs.Numbers.{placeCount}
+use Rattle.eif.specs.Layout.{View, viewOf, count}
+use Rattle.eif.specs.Reading.{section, blankSection, markOf, ramdiskCount, firstRamdisk, verdictOf, readingOf, readView, readImage}
+use Rattle.eif.specs.declared.Verdict.{Verdict}
+use Rattle.eif.specs.declared.Verdict.the-variants.{Accepted, Refused}
+use Rattle.eif_rules.proofs.Table.{length-filled}
+use Rattle.eif_rules.proofs.Mark.{ones-mark, trailing-mark}
+
+module _ (v : View) where
+  marked : (x : Verdict) → readingOf v x .ramdisks ≡ markOf (readingOf v x .sections)
+  unfolding markOf
+  marked Accepted = refl
+  marked (Refused r) = refl
+
+  places : (x : Verdict) → length (readingOf v x .sections) ≡ placeCount
+  places Accepted = length-filled (section v) blankSection placeCount (count v)
+  places (Refused r) = refl
+
+  pub count-in : (x : Verdict) → ones (readingOf v x .ramdisks) ≡ ramdiskCount (readingOf v x .sections)
+  count-in x = ap ones (marked x) ∙ ones-mark (readingOf v x .sections)
+
+  pub first-in : (x : Verdict) → trailingZeros placeCount (readingOf v x .ramdisks) ≡ firstRamdisk (readingOf v x .sections)
+  first-in x = ap₂ trailingZeros (sym (places x)) (marked x) ∙ trailing-mark (readingOf v x .sections)
+
+module _ (s : List ℕ) where
+  pub image-ramdisk-count : ones (readImage s .ramdisks) ≡ ramdiskCount (readImage s .sections)
+  unfolding readView
+  image-ramdisk-count = count-in (viewOf s) (verdictOf s)
+
+  pub image-first-ramdisk : trailingZeros placeCount (readImage s .ramdisks) ≡ firstRamdisk (readImage s .sections)
+  unfolding readView
+  image-first-ramdisk = first-in (viewOf s) (verdictOf s)

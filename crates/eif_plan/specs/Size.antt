@@ -1,0 +1,16 @@
+-- The size of a plan's image, as the code gives it: 0 where there is none within the limit.
+-- Assumes nothing.
+use Prim.Native.Nat.{ℕ}
+use lib.Dec.{ltb}
+use Rattle.eif.specs.Numbers.{sizeLimit, placeCount}
+use Rattle.eif.specs.Logic.{choose}
+use Rattle.eif.specs.Plan.{plainSize}
+use Rattle.eif.specs.declared.Plan.{Plan}
+
+-- a size, or 0 where it is over the limit
+unfoldable pub limited : ℕ → ℕ
+limited n = choose (ltb sizeLimit n) 0 n
+
+-- how long the plain image of a plan is; 0 where the plan has more sections than places, or the size is over the limit
+unfoldable pub imageSize : Plan → ℕ
+imageSize p = choose (ltb placeCount (p .count)) 0 (limited (plainSize p))

@@ -1,0 +1,4 @@
+pub mod Sections
+pub mod Data
+pub mod Reading
+pub mod Answers

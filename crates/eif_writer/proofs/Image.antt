@@ -1,0 +1,172 @@
+-- The header, the sections and the checksum, written one after the other, are the plain image; and the writer's answers.
+-- Assumes nothing.
+use Prim.Native.Nat.{ℕ, _+_, _<_, _≤_}
+use mathlib.Core.Path.{_≡_, refl, sym, ap, ap₂, _∙_}
+use mathlib.Core.List.{List, _++_, append-assoc}
+use native.Mathlib.Omega.{arith}
+use native.Mathlib.Nat.{zero-add}
+use borrow.Author.Tests.{lt-ltb, le-ltb}
+use lib.ListN.{length, take, drop, length-append, length-take, length-drop, take-append-drop}
+use lib.Seq.{take-at, drop-at, drop-drop}
+use Rattle.octets.specs.Bytes.{beBytes}
+use Rattle.octets.specs.Over.{over}
+use Rattle.octets.proofs.Over.{over-parts, length-over}
+use Rattle.crc32.specs.Crc.{crc32}
+use Rattle.eif.specs.Numbers.{outputTooShort}
+use Rattle.eif.specs.Layout.{headerSize, checksumAt}
+use Rattle.eif.specs.Answers.{refuse}
+use Rattle.eif.specs.Reading.{checksumOf}
+use Rattle.eif.specs.Plan.{dataBefore, plainSize, entries, fixedFields, offsetTable, sizeTable, headerBytes, bodyBytes, plainImage, planVerdict, writeVerdict, writeAnswer, writeOutput}
+use Rattle.eif.specs.declared.Plan.{Plan}
+use Rattle.eif.specs.declared.Refusal.{Refusal}
+use Rattle.eif.specs.declared.Written.{Written}
+use Rattle.eif.specs.declared.Verdict.the-variants.{Accepted, Refused}
+use Rattle.plain_laws.proofs.Shape.{packed-zero, length-offsets, length-sizes, length-header, length-sections}
+use Rattle.eif_writer.specs.Parts.{offsetsOf, sizesOf, firstFields, nextFields, sealed}
+use Rattle.eif_writer.proofs.Pieces.{joined}
+
+-- ---- the header
+
+module _ (p : Plan) where
+  abbrev offsets : List ℕ
+  offsets = entries (offsetsOf (p .places) (p .count))
+
+  abbrev sizes : List ℕ
+  sizes = entries (sizesOf (p .places) (p .count))
+
+  length-first : length (firstFields p) ≡ 8
+  unfolding firstFields
+  length-first = refl
+
+  length-next : length (nextFields p) ≡ 20
+  unfolding nextFields
+  length-next = refl
+
+  length-offset-entries : length offsets ≡ 256
+  unfolding offsetTable offsetsOf
+  length-offset-entries = length-offsets (p .places) (p .count)
+
+  length-size-entries : length sizes ≡ 256
+  unfolding sizeTable sizesOf
+  length-size-entries = length-sizes (p .places) (p .count)
+
+  header-parts : firstFields p ++ (nextFields p ++ (offsets ++ (sizes ++ beBytes 4 0))) ≡ headerBytes p
+  unfolding headerBytes fixedFields offsetTable sizeTable offsetsOf sizesOf firstFields nextFields
+  header-parts = simp append-assoc
+
+  pub header-over : (d d₁ d₂ d₃ d₄ d₅ : List ℕ) → d₁ ≡ over d 0 (firstFields p) → d₂ ≡ over d₁ 8 (nextFields p) → d₃ ≡ over d₂ 28 offsets
+      → d₄ ≡ over d₃ 284 sizes → d₅ ≡ over d₄ 540 (beBytes 4 0) → d₅ ≡ over d 0 (headerBytes p)
+  header-over d d₁ d₂ d₃ d₄ d₅ e₁ e₂ e₃ e₄ e₅ =
+      joined _ _ _ _ e₁
+      (joined _ _ _ _ e₂
+      (joined _ _ _ _ e₃ (joined _ _ _ _ e₄ e₅ (ap (λ (n : ℕ). 284 + n) length-size-entries)) (ap (λ (n : ℕ). 28 + n) length-offset-entries))
+      (ap (λ (n : ℕ). 8 + n) length-next))
+      (ap (λ (n : ℕ). 0 + n) length-first)
+      ∙ ap (over d 0) header-parts
+
+-- ---- the whole
+
+over-start : (d x : List ℕ) → length x ≤ length d → over d 0 x ≡ x ++ drop (length x) d
+over-start d x h = over-parts d 0 x (rw zero-add h) ∙ ap (λ (n : ℕ). x ++ drop n d) (zero-add (length x))
+
+-- writing what stands there changes nothing
+over-own : (d : List ℕ) (at n : ℕ) → at + n ≤ length d → over d at (take n (drop at d)) ≡ d
+over-own d at n h =
+    let e : length (take n (drop at d)) ≡ n = simp (length-take, length-drop) (omega arith) in
+    over-parts d at (take n (drop at d)) (omega arith)
+    ∙ ap (λ (m : ℕ). take at d ++ (take n (drop at d) ++ drop (at + m) d)) e
+    ∙ ap (λ (l : List ℕ). take at d ++ (take n (drop at d) ++ l)) (sym (drop-drop n at d))
+    ∙ ap (λ (l : List ℕ). take at d ++ l) (take-append-drop n (drop at d))
+    ∙ take-append-drop at d
+
+module _ (p : Plan) (given d a b : List ℕ) (sized : length given ≡ dataBefore (p .places) (p .count)) (room : plainSize p ≤ length d) where
+  abbrev head : List ℕ
+  head = headerBytes p
+
+  abbrev body : List ℕ
+  body = bodyBytes p given
+
+  abbrev sum : List ℕ
+  sum = beBytes 4 (crc32 (head ++ body))
+
+  -- what stands in the checksum's place so far
+  abbrev gap : List ℕ
+  gap = take 4 (drop checksumAt a)
+
+  abbrev rest : List ℕ
+  rest = drop (plainSize p) d
+
+  length-body : headerSize + length body ≡ plainSize p
+  length-body =
+      ap (λ (n : ℕ). n + length body) (sym (packed-zero (p .places)))
+      ∙ length-sections (p .places) given (p .count) sized (p .count) 0 (zero-add (p .count))
+
+  module _ (e : a ≡ over d 0 head) (f : b ≡ over a headerSize body) where
+    length-a : length a ≡ length d
+    length-a = ap length e ∙ length-over d 0 head
+
+    length-gap : length gap ≡ 4
+    length-gap = let l = length-body in let m = length-a in simp (length-take, length-drop) (omega arith)
+
+    length-front : length (head ++ gap) ≡ headerSize
+    length-front = length-append head gap ∙ ap₂ (λ (m n : ℕ). m + n) (length-header p) length-gap
+
+    whole : length ((head ++ gap) ++ body) ≡ plainSize p
+    whole = length-append (head ++ gap) body ∙ ap (λ (n : ℕ). n + length body) length-front ∙ length-body
+
+    written : b ≡ ((head ++ gap) ++ body) ++ rest
+    written =
+        let l = length-body in
+        let m = length-a in
+        let w = whole in
+        let own : a ≡ over a checksumAt gap = sym (over-own a checksumAt 4 (omega arith)) in
+        joined _ _ _ _ (joined _ _ _ _ e own (zero-add (length head) ∙ length-header p)) f (zero-add (length (head ++ gap)) ∙ length-front)
+        ∙ over-start d ((head ++ gap) ++ body) (omega arith)
+        ∙ ap (λ (n : ℕ). ((head ++ gap) ++ body) ++ drop n d) w
+
+    summed : checksumOf (take (plainSize p) b) ≡ crc32 (head ++ body)
+    unfolding checksumOf
+    summed =
+        ap (λ (l : List ℕ). checksumOf (take (plainSize p) l)) written
+        ∙ ap checksumOf (take-at ((head ++ gap) ++ body) rest (plainSize p) whole)
+        ∙ ap₂ (λ (x y : List ℕ). crc32 (x ++ y))
+        (ap (take checksumAt) (append-assoc head gap body) ∙ take-at head (gap ++ body) checksumAt (length-header p))
+        (drop-at (head ++ gap) body headerSize length-front)
+
+    pub sealed-plain : sealed b (plainSize p) ≡ over d 0 (plainImage p given)
+    unfolding sealed plainImage
+    sealed-plain =
+        let l = length-body in
+        let w : length (head ++ (sum ++ body)) ≡ plainSize p =
+        length-append head (sum ++ body) ∙ ap₂ (λ (m n : ℕ). m + n) (length-header p) (length-append sum body) ∙ (omega arith) in
+        let v : b ≡ head ++ (gap ++ (body ++ rest)) = written ∙ simp append-assoc in
+        let m : length b ≡ length d = ap length f ∙ length-over a headerSize body ∙ length-a in
+        ap (λ (n : ℕ). over b checksumAt (beBytes 4 n)) summed
+        ∙ over-parts b checksumAt sum (omega arith)
+        ∙ ap₂ (λ (x y : List ℕ). x ++ (sum ++ y))
+        (ap (take checksumAt) v ∙ take-at head (gap ++ (body ++ rest)) checksumAt (length-header p))
+        (ap (drop headerSize) written ∙ ap (drop headerSize) (append-assoc (head ++ gap) body rest) ∙ drop-at (head ++ gap) (body ++ rest) headerSize length-front)
+        ∙ sym
+        (over-start d (head ++ (sum ++ body)) (omega arith)
+        ∙ ap (λ (n : ℕ). (head ++ (sum ++ body)) ++ drop n d) w
+        ∙ simp append-assoc)
+
+-- ---- the answers
+
+module _ (p : Plan) (given d : List ℕ) where
+  -- the answer is w, and the output is o
+  abbrev pub Answers : Written → List ℕ → Type 0
+  Answers w o = (w ≡ writeAnswer p (length given) (length d)) × (o ≡ writeOutput p given d)
+
+  pub refused : (r : Refusal) → planVerdict p (length given) ≡ Refused r → Answers (record { verdict = Refused r; length = 0 }) d
+  unfolding writeAnswer writeOutput writeVerdict
+  refused r e = (simp e, simp e)
+
+  module _ (ok : planVerdict p (length given) ≡ Accepted) where
+    pub short : length d < plainSize p → Answers (record { verdict = refuse outputTooShort 0; length = 0 }) d
+    unfolding writeAnswer writeOutput writeVerdict
+    short h = (simp (ok, lt-ltb _ _ h), simp (ok, lt-ltb _ _ h))
+
+    pub fine : plainSize p ≤ length d → Answers (record { verdict = Accepted; length = plainSize p }) (over d 0 (plainImage p given))
+    unfolding writeAnswer writeOutput writeVerdict
+    fine h = (simp (ok, le-ltb _ _ h), simp (ok, le-ltb _ _ h))

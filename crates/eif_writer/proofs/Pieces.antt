@@ -1,0 +1,59 @@
+-- Pieces written one after the other are one piece; and what is left to write of a table and of the sections.
+-- Assumes nothing.
+use Prim.Native.Nat.{ℕ, suc, _+_, _-_, _<_, _≤_}
+use mathlib.Core.Path.{_≡_, refl, sym, ap, ap₂, _∙_}
+use mathlib.Core.List.{List, _++_}
+use native.Mathlib.Omega.{arith}
+use lib.ListN.{length, drop, getD, drop-of-length-le}
+use lib.Seq.{drop-cons}
+use Rattle.octets.specs.Bytes.{beBytes}
+use Rattle.octets.specs.Over.{over}
+use Rattle.octets.proofs.Over.{over-append}
+use Rattle.eif.specs.Numbers.{sizeLimit}
+use Rattle.eif.specs.Layout.{sectionHeaderSize}
+use Rattle.eif.specs.Plan.{entries, placeAt, plannedSize, packedAt, dataBefore, pieceAt, sectionHeader, sectionBytes}
+use Rattle.eif.specs.declared.Place.{Place}
+use Rattle.plain_laws.proofs.Shape.{packed-le, packed-suc, before-le, before-suc, length-sectionHeader, length-piece, section-suc}
+
+-- a piece from `at` on, and the next from where it ends
+pub joined : (d : List ℕ) (at : ℕ) (x y : List ℕ) {b c : List ℕ} {m : ℕ} → b ≡ over d at x → c ≡ over b m y → at + length x ≡ m → c ≡ over d at (x ++ y)
+joined d at x y e f h =
+    f ∙ ap₂ (λ (l : List ℕ) (n : ℕ). over l n y) e (sym h) ∙ sym (over-append d at x y)
+
+-- ---- a table
+
+module _ (l : List ℕ) (i : ℕ) where
+  pub table-over : i < length l → (d : List ℕ) (at : ℕ) → over (over d at (beBytes 8 (getD l i 0))) (at + 8) (entries (drop (suc i) l)) ≡ over d at (entries (drop i l))
+  table-over h d at = sym (over-append d at (beBytes 8 (getD l i 0)) (entries (drop (suc i) l))) ∙ ap (λ (t : List ℕ). over d at (entries t)) (sym (drop-cons l i 0 h))
+
+  pub table-done : length l ≤ i → (d : List ℕ) (at : ℕ) → over d at (entries (drop i l)) ≡ d
+  unfolding over
+  table-done h d at = ap (λ (t : List ℕ). over d at (entries t)) (drop-of-length-le l h)
+
+-- ---- the sections
+
+module _ (l : List Place) (count i : ℕ) (h : i < count) where
+  -- a section within the count ends within the limit
+  pub ends-inside : packedAt l count ≤ sizeLimit → packedAt l i + sectionHeaderSize + plannedSize l i ≤ sizeLimit
+  ends-inside small = let a = packed-le l (suc i) count h in let b = packed-suc l i in omega arith
+
+  -- and takes data that there is
+  pub data-inside : (d : List ℕ) → length d ≡ dataBefore l count → dataBefore l i + plannedSize l i ≤ length d
+  data-inside d sized = let a = before-le l (suc i) count h in let b = before-suc l i in omega arith
+
+  -- the section's own header, its data, and what follows
+  pub section-over : (d : List ℕ) → length d ≡ dataBefore l count → (o x y : List ℕ) (at : ℕ) → x ≡ over o at (sectionHeader (placeAt l i))
+      → y ≡ over x (at + sectionHeaderSize) (pieceAt l d i)
+      → over y (at + sectionHeaderSize + plannedSize l i) (sectionBytes l d (count - suc i) (suc i)) ≡ over o at (sectionBytes l d (count - i) i)
+  section-over d sized o x y at e f =
+      let p = pieceAt l d i in
+      let r = sectionBytes l d (count - suc i) (suc i) in
+      let n : suc (count - suc i) ≡ count - i = omega arith in
+      let a : at + sectionHeaderSize + length p ≡ at + sectionHeaderSize + plannedSize l i = ap (λ (m : ℕ). at + sectionHeaderSize + m) (length-piece l d count sized i h) in
+      let b : at + length (sectionHeader (placeAt l i)) ≡ at + sectionHeaderSize = ap (λ (m : ℕ). at + m) (length-sectionHeader (placeAt l i)) in
+      joined o at (sectionHeader (placeAt l i)) (p ++ r) e (joined x (at + sectionHeaderSize) p r f refl a) b
+      ∙ ap (over o at) (sym (section-suc l d (count - suc i) i) ∙ ap (λ (m : ℕ). sectionBytes l d m i) n)
+
+pub sections-done : (l : List Place) (d : List ℕ) (i n : ℕ) → n ≡ 0 → (o : List ℕ) (at : ℕ) → over o at (sectionBytes l d n i) ≡ o
+unfolding over sectionBytes
+sections-done l d i n e o at = ap (λ (m : ℕ). over o at (sectionBytes l d m i)) e

@@ -1,0 +1,171 @@
+// Writing the plain image of a plan: header, sections with the lent data in plan order, and the checksum.
+//
+// The plan is judged first, and a refusal leaves every byte of the output as it was.
+ghost use mathlib.Core.Path.{_≡_};
+ghost use Prim.Native.Nat.{_≤_};
+ghost use lib.ListN.{length};
+ghost use Rattle.octets.specs.Over.{over};
+ghost use Rattle.eif.specs.Numbers.{placeCount, sizeLimit};
+ghost use Rattle.eif.specs.Layout.{headerSize};
+ghost use Rattle.eif.specs.Plan.{packedAt, dataBefore, plainSize, entries, headerBytes, sectionHeader, sectionBytes, writeAnswer, writeOutput};
+ghost use Rattle.eif_writer.specs.Parts.{offsetsOf, sizesOf, firstFields, nextFields, sealed};
+use eif::Header;
+use eif::PLACES;
+use eif::Place;
+use eif::Plan;
+use eif::Refusal;
+use eif::SectionHeader;
+use eif::Verdict;
+use eif::Written;
+
+// ---- the header
+
+// The table of offsets: sections are packed from the end of the header.
+fn offsets(places: [Place; PLACES], count: usize) -> [u64; PLACES]
+    requires { ⌜ (count ≤ placeCount) × (packedAt places count ≤ sizeLimit) ⌝ }
+    ensures { λ r. ⌜ r ≡ offsetsOf places count ⌝ }
+{
+    let mut table = [0u64; PLACES];
+    let mut at = Header::SIZE as u64;
+    let mut i: usize = 0;
+    while i < count {
+        table[i] = at;
+        at = at + SectionHeader::SIZE as u64 + places[i].length.0;
+        i += 1;
+    }
+    table
+}
+
+// The table of sizes.
+fn sizes(places: [Place; PLACES], count: usize) -> [u64; PLACES]
+    requires { ⌜ count ≤ placeCount ⌝ }
+    ensures { λ r. ⌜ r ≡ sizesOf places count ⌝ }
+{
+    let mut table = [0u64; PLACES];
+    let mut i: usize = 0;
+    while i < count {
+        table[i] = places[i].length.0;
+        i += 1;
+    }
+    table
+}
+
+// A table, 8 bytes for each entry.
+fn put_table(out: &mut [u8], at: usize, table: [u64; PLACES])
+    requires { ⌜ at ≤ headerSize ⌝ }
+    ensures { λ _. ⌜ now (out .exit) ≡ over (now (out .entry)) at (entries table) ⌝ }
+{
+    let mut i: usize = 0;
+    while i < PLACES {
+        octets::put_be64(out, at + 8 * i, table[i]);
+        i += 1;
+    }
+}
+
+// The header's first fields: magic number, version and flags.
+fn put_first(out: &mut [u8], plan: Plan)
+    ensures { λ _. ⌜ now (out .exit) ≡ over (now (out .entry)) 0 (firstFields plan) ⌝ }
+{
+    octets::put_be32(out, Header::MAGIC_AT, Header::MAGIC);
+    octets::put_be16(out, Header::VERSION_AT, plan.version);
+    octets::put_be16(out, Header::FLAGS_AT, plan.flags);
+}
+
+// The fields between those and the tables: default_mem, default_cpus, reserved and num_sections.
+fn put_next(out: &mut [u8], plan: Plan)
+    ensures { λ _. ⌜ now (out .exit) ≡ over (now (out .entry)) 8 (nextFields plan) ⌝ }
+{
+    octets::put_be64(out, Header::MEMORY_AT, plan.memory);
+    octets::put_be64(out, Header::CPUS_AT, plan.cpus);
+    octets::put_be16(out, Header::RESERVED_AT, 0);
+    octets::put_be16(out, Header::COUNT_AT, plan.count);
+}
+
+// The header up to the checksum, which needs the sections first.
+fn put_header(out: &mut [u8], plan: Plan)
+    requires { ⌜ (plan .count ≤ placeCount) × (plainSize plan ≤ sizeLimit) ⌝ }
+    ensures { λ _. ⌜ now (out .exit) ≡ over (now (out .entry)) 0 (headerBytes plan) ⌝ }
+{
+    let places = plan.places;
+    let count = plan.count as usize;
+    let at = offsets(places, count);
+    let long = sizes(places, count);
+    put_first(out, plan);
+    put_next(out, plan);
+    put_table(out, Header::OFFSETS_AT, at);
+    put_table(out, Header::SIZES_AT, long);
+    octets::put_be32(out, Header::RESERVED_AFTER_AT, 0);
+}
+
+// ---- the sections
+
+// A section's own header.
+fn put_section_header(out: &mut [u8], at: usize, place: Place)
+    requires { ⌜ at ≤ sizeLimit ⌝ }
+    ensures { λ _. ⌜ now (out .exit) ≡ over (now (out .entry)) at (sectionHeader place) ⌝ }
+{
+    octets::put_be16(out, at + SectionHeader::TYPE_AT, place.kind);
+    octets::put_be16(out, at + SectionHeader::FLAGS_AT, place.flags);
+    octets::put_be64(out, at + SectionHeader::SIZE_AT, place.length.0);
+}
+
+// The sections, in plan order, each with its part of the data.
+fn put_sections(out: &mut [u8], places: [Place; PLACES], count: usize, lent: &[u8])
+    requires { ⌜ (count ≤ placeCount) × (packedAt places count ≤ sizeLimit) ⌝ }
+    requires { ⌜ length (now lent) ≡ dataBefore places count ⌝ }
+    ensures { λ _. ⌜ now (out .exit) ≡ over (now (out .entry)) headerSize (sectionBytes places (now (lent .entry)) count 0) ⌝ }
+{
+    let mut at = Header::SIZE;
+    let mut from: usize = 0;
+    let mut i: usize = 0;
+    while i < count {
+        let place = places[i];
+        let size = place.length.0 as usize;
+        let next = from + size;
+        put_section_header(out, at, place);
+        octets::copy(out, at + SectionHeader::SIZE, &lent[from..next]);
+        at = at + SectionHeader::SIZE + size;
+        from = next;
+        i += 1;
+    }
+}
+
+// ---- the checksum
+
+// Of the first bytes, put into its place.
+fn seal(out: &mut [u8], total: usize)
+    requires { ⌜ total ≤ length (now out) ⌝ }
+    ensures { λ _. ⌜ now (out .exit) ≡ sealed (now (out .entry)) total ⌝ }
+{
+    let sum = eif_checksum::checksum(&out[..total]);
+    octets::put_be32(out, Header::CHECKSUM_AT, sum);
+}
+
+// ---- the image
+
+// Writes over the start of the output and answers the image's length; later bytes stay. `lent` is the sections' data, joined
+// in plan order.
+pub fn write(plan: Plan, lent: &[u8], out: &mut [u8]) -> Written
+    ensures { λ r. ⌜ r ≡ writeAnswer plan (length (now (lent .entry))) (length (now (out .entry))) ⌝ }
+    ensures { λ _. ⌜ now (out .exit) ≡ writeOutput plan (now (lent .entry)) (now (out .entry)) ⌝ }
+{
+    let verdict = eif_plan::judge(plan, lent.len() as u64);
+    let Verdict::Accepted = verdict else {
+        return Written { verdict, length: 0 };
+    };
+    let total = eif_plan::image_size(plan);
+    if (out.len() as u64) < total {
+        return Written {
+            verdict: Verdict::refuse(Refusal::OUTPUT_TOO_SHORT, 0),
+            length: 0,
+        };
+    }
+    let places = plan.places;
+    put_header(out, plan);
+    put_sections(out, places, plan.count as usize, lent);
+    seal(out, total as usize);
+    Written {
+        verdict,
+        length: total,
+    }
+}

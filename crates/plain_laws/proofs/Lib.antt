@@ -1,0 +1,11 @@
+pub mod Fields
+pub mod PlanRules
+pub mod Shape
+pub mod Written
+pub mod ReadBack
+pub mod Joined
+pub mod Split
+pub mod WriteBack
+pub mod Plainness
+pub mod SamePlan
+pub mod RoundTrip

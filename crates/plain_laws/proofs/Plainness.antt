@@ -1,0 +1,106 @@
+-- What is written is plain; and the plan of an accepted image is never refused, and its numbers fit.
+-- Assumes nothing.
+use Prim.Native.Nat.{ℕ, zero, suc, _+_, _≤_}
+use mathlib.Core.Path.{_≡_, refl, sym, ap, _∙_}
+use mathlib.Core.List.{List}
+use native.Mathlib.Omega.{arith}
+use lib.ListN.{length, drop}
+use Rattle.octets.specs.Bytes.{AreBytes}
+use Rattle.octets.proofs.Value.{field-lt, bytes-take, bytes-drop}
+use Rattle.eif.specs.Numbers.{placeCount}
+use Rattle.eif.specs.Rules.{allowedIn, orderFault}
+use Rattle.eif.specs.Layout.{sectionHeaderSize, versionOf, countOf, offsetAt, sizeAt, startAt, kindAt}
+use Rattle.eif.specs.Reading.{verdictOf}
+use Rattle.eif.specs.Plan.{plannedKind, plannedSize, packedAt, planVerdict, plainImage, Plain}
+use Rattle.eif.specs.declared.Place.{Place}
+use Rattle.eif.specs.declared.Plan.{Plan}
+use Rattle.eif.specs.declared.Verdict.the-variants.{Accepted}
+use Rattle.eif_rules.proofs.Types.{order-same, missing-same}
+use Rattle.eif_rules.proofs.Table.{filled-past}
+use Rattle.eif_rules.proofs.Accept.{none-missing-of, order-at}
+use Rattle.plain_laws.proofs.Shape.{packed-suc, packed-zero}
+use Rattle.plain_laws.proofs.PlanRules.{Planned, →planned}
+use Rattle.plain_laws.proofs.Written.{Fits, read-count, offset-entry, size-entry, read-offset, read-start, read-end, read-reserved, read-reserved-after}
+use Rattle.plain_laws.proofs.ReadBack.{plain-accepted, long}
+use Rattle.plain_laws.proofs.Joined.{bytes-joined, length-joined}
+use Rattle.plain_laws.proofs.WriteBack.{plan, piece, given, head, entry, place-is, kind-is, size-is, length-piece-is}
+
+-- ---- what is written is plain
+
+module _ (p : Plan) (d : List ℕ) (a : Planned p (length d)) where
+  abbrev l : List Place
+  l = p .places
+
+  ends-at : (n : ℕ) → p .count ≡ n → length (plainImage p d) ≡ startAt (plainImage p d) n
+  ends-at zero e = let h = a .some in absurd (omega arith)
+  ends-at (suc n) e = long p d a ∙ ap (packedAt l) e ∙ sym (read-end p d a n (omega arith))
+
+  pub is-plain : AreBytes d → Plain (plainImage p d)
+  is-plain w =
+      let n = read-count p d a in
+      record {
+        accepted = plain-accepted p d a w;
+        reserved-zero = read-reserved p d a;
+        reserved-after-zero = read-reserved-after p d a;
+        unused-offset = λ i k h. offset-entry p d a i h ∙ filled-past (packedAt l) 0 placeCount (p .count) i (omega arith);
+        unused-size = λ i k h. size-entry p d a i h ∙ filled-past (plannedSize l) 0 placeCount (p .count) i (omega arith);
+        packed = λ i h. read-offset p d a i (omega arith) ∙ sym (read-start p d a i (omega arith));
+        ends = ends-at (p .count) refl ∙ ap (startAt (plainImage p d)) (sym n);
+      }
+
+-- ---- the plan of an accepted image is accepted
+
+module _ (s : List ℕ) (ok : verdictOf s ≡ Accepted) where
+  abbrev places : List Place
+  places = plan s .places
+
+  -- packed, a section starts no later than in the image
+  start-le : (i : ℕ) → i ≤ countOf s → packedAt places i ≤ startAt s i
+  start-le zero h = let z = packed-zero places in omega arith
+  start-le (suc i) h =
+      let r = start-le i (omega arith) in
+      let b = entry s ok i h .starts in
+      let z = size-is s ok i h in
+      let q = packed-suc places i in
+      omega arith
+
+  pub start-inside : (n : ℕ) → countOf s ≡ n → startAt s n ≤ length s
+  start-inside zero e = head s ok .whole
+  start-inside (suc n) e = entry s ok n (omega arith) .ends
+
+  pub plan-planned : Planned (plan s) (length (given s))
+  plan-planned =
+      let h = head s ok in
+      let b = start-le (countOf s) (omega arith) in
+      let e = start-inside (countOf s) refl in
+      record {
+        low = h .low;
+        high = h .high;
+        some = h .some;
+        few = h .few;
+        allowed = λ i q. ap (allowedIn (versionOf s)) (kind-is s ok i q) ∙ entry s ok i q .known;
+        order = λ i q.
+            ap (λ (k : ℕ). orderFault (plannedKind places) k i) (kind-is s ok i q)
+            ∙ order-same (plannedKind places) (kindAt s) (kindAt s i) i (λ j g. kind-is s ok j (omega arith)) ∙ order-at s ok i q;
+        none-missing = missing-same (plannedKind places) (kindAt s) (versionOf s) (countOf s) (kind-is s ok) ∙ none-missing-of s ok;
+        small = omega arith;
+        sized = length-joined places (countOf s) (piece s) (length-piece-is s ok);
+      }
+
+  pub plan-accepted : planVerdict (plan s) (length (given s)) ≡ Accepted
+  plan-accepted = →planned (plan s) (length (given s)) plan-planned
+
+  module _ (w : AreBytes s) where
+    pub plan-fits : Fits (plan s)
+    plan-fits =
+        record {
+          flags = field-lt 2 6 s w;
+          memory = field-lt 8 8 s w;
+          cpus = field-lt 8 16 s w;
+          section-flags = λ i h. rw (place-is s ok i h) (field-lt 2 (offsetAt s i + 2) s w);
+        }
+
+    pub bytes-given : AreBytes (given s)
+    bytes-given =
+        bytes-joined (piece s) (countOf s) 0
+        (λ j. bytes-take (sizeAt s j) (drop (offsetAt s j + sectionHeaderSize) s) (bytes-drop (offsetAt s j + sectionHeaderSize) s w))

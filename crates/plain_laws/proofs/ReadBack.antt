@@ -1,0 +1,141 @@
+-- Reading the plain image of a plan gives the plan back.
+-- Assumes nothing.
+use Prim.Native.Nat.{ℕ, suc, _+_, _<_}
+use mathlib.Core.Path.{_≡_, sym, ap, ap₂, _∙_}
+use mathlib.Core.Bool.{false}
+use mathlib.Core.List.{List}
+use native.Mathlib.Omega.{arith}
+use lib.ListN.{length}
+use Rattle.octets.specs.Bytes.{AreBytes}
+use Rattle.eif.specs.Numbers.{placeCount}
+use Rattle.eif.specs.Rules.{allowedIn, orderFault, missing}
+use Rattle.eif.specs.Table.{filled}
+use Rattle.eif.specs.Layout.{sectionHeaderSize, viewOf, memory, cpus, versionOf, countOf, kindAt}
+use Rattle.eif.specs.Reading.{entryRule, checksumOf, verdictOf, sectionAt, blankSection, sectionsOf, markOf, readImage}
+use Rattle.eif.specs.Plan.{placeAt, plannedKind, plannedSize, packedAt, plainSize, plainImage}
+use Rattle.eif.specs.declared.Place.{Place}
+use Rattle.eif.specs.declared.Plan.{Plan}
+use Rattle.eif.specs.declared.Section.{Section}
+use Rattle.eif.specs.declared.Reading.{Reading}
+use Rattle.eif.specs.declared.Verdict.the-variants.{Accepted}
+use Rattle.eif_rules.proofs.Types.{order-same, missing-same}
+use Rattle.eif_rules.proofs.Table.{filled-same}
+use Rattle.eif_rules.proofs.View.{no-fault, fault-order}
+use Rattle.eif_rules.proofs.Accept.{→accepted}
+use Rattle.eif_rules.proofs.Reading.{reading-accepted}
+use Rattle.plain_laws.proofs.PlanRules.{Planned}
+use Rattle.plain_laws.proofs.Shape.{packed-le, packed-zero, length-plain}
+use Rattle.plain_laws.proofs.Written.{Fits, read-magic, read-version, read-flags, read-memory, read-cpus, read-count, read-offset, read-size, read-kind, read-section-flags, read-own-size, read-start, read-end, read-sum}
+
+-- ---- what is to be read
+
+-- section i of places, packed
+abbrev pub packedSection : List Place → ℕ → Section
+packedSection l i =
+    record {
+      kind = plannedKind l i;
+      flags = placeAt l i .flags;
+      position = record { 0 = packedAt l i + sectionHeaderSize };
+      length = record { 0 = plannedSize l i };
+    }
+
+abbrev pub packedSections : Plan → List Section
+packedSections p = filled (packedSection (p .places)) blankSection placeCount (p .count)
+
+-- the plan's fields, its used places with their packed positions, unused places blank
+abbrev pub packedReading : Plan → Reading
+packedReading p =
+    record {
+      verdict = Accepted;
+      version = p .version;
+      flags = p .flags;
+      memory = p .memory;
+      cpus = p .cpus;
+      count = p .count;
+      sections = packedSections p;
+      ramdisks = markOf (packedSections p);
+    }
+
+-- ---- it is accepted
+
+module _ (p : Plan) (d : List ℕ) (a : Planned p (length d)) where
+  abbrev s : List ℕ
+  s = plainImage p d
+
+  abbrev l : List Place
+  l = p .places
+
+  pub long : length s ≡ plainSize p
+  long = length-plain p d (a .sized)
+
+  entry-fine : (i : ℕ) → i < p .count → entryRule (viewOf s) i ≡ 0
+  entry-fine i h =
+      let o = read-offset p d a i h in
+      let b = read-start p d a i h in
+      let e = read-end p d a i h in
+      let n = packed-le l (suc i) (p .count) h in
+      let g = long in
+      no-fault (viewOf s) i (omega arith) (omega arith) (read-own-size p d a i h ∙ sym (read-size p d a i h))
+      (ap₂ allowedIn (read-version p d a) (read-kind p d a i h) ∙ a .allowed i h)
+
+  order-fine : (i : ℕ) → i < p .count → orderFault (kindAt s) (kindAt s i) i ≡ 0
+  order-fine i h =
+      ap (λ (k : ℕ). orderFault (kindAt s) k i) (read-kind p d a i h)
+      ∙ order-same (kindAt s) (plannedKind l) (plannedKind l i) i (λ j q. read-kind p d a j (omega arith)) ∙ a .order i h
+
+  none-missing : missing (kindAt s) (versionOf s) (countOf s) ≡ false
+  none-missing =
+      ap₂ (λ (x y : ℕ). missing (kindAt s) x y) (read-version p d a) (read-count p d a)
+      ∙ missing-same (kindAt s) (plannedKind l) (p .version) (p .count) (λ j q. read-kind p d a j q) ∙ a .none-missing
+
+  module _ (w : AreBytes d) where
+    pub plain-accepted : verdictOf s ≡ Accepted
+    plain-accepted =
+        let g = long in
+        let v = read-version p d a in
+        let n = read-count p d a in
+        let z = packed-zero l in
+        let m = packed-le l 0 (p .count) (omega arith) in
+        let lo = a .low in let hi = a .high in let so = a .some in let fe = a .few in let sm = a .small in
+        →accepted (viewOf s) (checksumOf s)
+        (record {
+          head = record {
+            small = omega arith;
+            whole = omega arith;
+            magic = read-magic p d a;
+            low = omega arith;
+            high = omega arith;
+            some = omega arith;
+            few = omega arith;
+          };
+          sections = λ i h. fault-order (viewOf s) i (entry-fine i (omega arith)) ∙ order-fine i (omega arith);
+          complete = none-missing;
+          sum = read-sum p d a w;
+        })
+
+    -- ---- and gives the plan's fields and places
+
+    module _ (c : Fits p) where
+      section-back : (i : ℕ) → i < p .count → sectionAt s i ≡ packedSection l i
+      section-back i h =
+          let k = read-kind p d a i h in
+          let f = read-section-flags p d a i h (c .section-flags i h) in
+          let o = ap (λ (x : ℕ). x + 12) (read-offset p d a i h) in
+          let z = read-size p d a i h in
+          λ t. record { kind = k t; flags = f t; position = record { 0 = o t }; length = record { 0 = z t } }
+
+      pub sections-back : sectionsOf s ≡ packedSections p
+      sections-back =
+          ap (filled (sectionAt s) blankSection placeCount) (read-count p d a)
+          ∙ filled-same (sectionAt s) (packedSection l) blankSection placeCount (p .count) section-back
+
+      pub reads-back : readImage s ≡ packedReading p
+      reads-back =
+          let v = read-version p d a in
+          let n = read-count p d a in
+          let f = read-flags p d a (c .flags) in
+          let m = read-memory p d a (c .memory) in
+          let u = read-cpus p d a (c .cpus) in
+          let q = sections-back in
+          reading-accepted s plain-accepted
+          ∙ (λ t. record { verdict = Accepted; version = v t; flags = f t; memory = m t; cpus = u t; count = n t; sections = q t; ramdisks = markOf (q t) })

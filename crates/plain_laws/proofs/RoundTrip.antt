@@ -1,0 +1,145 @@
+-- Demand 2 of the writer and the reader together. Of plans it is assumed only that the numbers that no rule judges fit their
+-- fields, and of data and images that they are bytes. Assumes nothing.
+use Prim.Native.Nat.{ℕ, _<_, _≤_}
+use mathlib.Core.Path.{_≡_, refl, sym, ap, ap₂, _∙_}
+use mathlib.Core.List.{List}
+use native.Mathlib.Omega.{arith}
+use borrow.Author.Tests.{le-ltb}
+use lib.Dec.{ltb}
+use lib.ListN.{length, getD, List·getD-map}
+use Rattle.octets.specs.Bytes.{AreBytes}
+use Rattle.octets.specs.Over.{over}
+use Rattle.eif.specs.Numbers.{placeCount, outputTooShort}
+use Rattle.eif.specs.Logic.{choose}
+use Rattle.eif.specs.Answers.{refuse, andThen}
+use Rattle.eif.specs.Output.{outputFor}
+use Rattle.eif.specs.Reading.{verdictOf, blankSection, readImage, dataOf}
+use Rattle.eif.specs.Plan.{placeAt, plainSize, pieceAt, planVerdict, writeVerdict, plainImage, writtenFor, writeAnswer, writeOutput, Plain, placeOf, planOf, joinFrom, dataJoined}
+use Rattle.eif.specs.declared.Plan.{Plan}
+use Rattle.eif.specs.declared.Verdict.{Verdict}
+use Rattle.eif.specs.declared.Verdict.the-variants.{Accepted}
+use Rattle.eif_rules.proofs.Table.{filled-at}
+use Rattle.eif_rules.proofs.Reading.{reading-accepted}
+use Rattle.plain_laws.proofs.PlanRules.{Planned, planned→}
+use Rattle.plain_laws.proofs.Written.{Fits, read-data}
+use Rattle.plain_laws.proofs.ReadBack.{packedSection, packedReading, plain-accepted, reads-back, long}
+use Rattle.plain_laws.proofs.Joined.{join-same, pieces-joined}
+use Rattle.plain_laws.proofs.WriteBack.{plan, given, joined-is, plain-again, length-plan}
+use Rattle.plain_laws.proofs.Plainness.{is-plain, plan-accepted, plan-fits, bytes-given}
+use Rattle.plain_laws.proofs.SamePlan.{SamePlan, size-of-same, verdict-of-same, image-of-same}
+
+-- ---- what is written is read back
+
+pub record ReadsBack (p : Plan) (d : List ℕ) : Type 0 where
+  -- the plain image is accepted, and its reading has the plan's version, flags, memory, cpus and count, of each used place
+  -- the type, flags, length and packed position, and unused places blank
+  pub accepted : verdictOf (plainImage p d) ≡ Accepted
+  pub reading : readImage (plainImage p d) ≡ packedReading p
+  -- as a plan, that reading is the plan in every field and used place
+  pub plan-back : SamePlan (planOf (readImage (plainImage p d))) p
+  -- the data at those positions is the lent data's pieces in order, and joined it is the lent data
+  pub pieces : (i : ℕ) → i < p .count → dataOf (plainImage p d) (packedSection (p .places) i) ≡ pieceAt (p .places) d i
+  pub pieces-whole : joinFrom (pieceAt (p .places) d) (p .count) 0 ≡ d
+  pub data-back : dataJoined (plainImage p d) (readImage (plainImage p d)) ≡ d
+  -- the image is as long as reported
+  pub size : length (plainImage p d) ≡ plainSize p
+
+module _ (p : Plan) (d : List ℕ) (a : Planned p (length d)) where
+  abbrev image : List ℕ
+  image = plainImage p d
+
+  data-at : (i : ℕ) → i < p .count → dataOf image (getD (packedReading p .sections) i blankSection) ≡ pieceAt (p .places) d i
+  data-at i h =
+      ap (dataOf image) (filled-at (packedSection (p .places)) blankSection blankSection placeCount (p .count) i h (a .few))
+      ∙ read-data p d a i h
+
+  joined : dataJoined image (packedReading p) ≡ d
+  joined =
+      join-same (λ i. dataOf image (getD (packedReading p .sections) i blankSection)) (pieceAt (p .places) d) (p .count) 0 (λ i h. data-at i (omega arith))
+      ∙ pieces-joined (p .places) (p .count) d (a .sized)
+
+  place-back : (i : ℕ) → i < p .count → placeAt (planOf (packedReading p) .places) i ≡ placeAt (p .places) i
+  place-back i h =
+      List·getD-map placeOf (packedReading p .sections) i blankSection
+      ∙ ap placeOf (filled-at (packedSection (p .places)) blankSection blankSection placeCount (p .count) i h (a .few))
+
+  same-back : SamePlan (planOf (packedReading p)) p
+  same-back = record { version = refl; flags = refl; memory = refl; cpus = refl; count = refl; used = place-back }
+
+-- Reading the plain image of a plan that is not refused gives the plan's fields, used places and data back.
+pub read-plain : (p : Plan) (d : List ℕ) → planVerdict p (length d) ≡ Accepted → Fits p → AreBytes d → ReadsBack p d
+read-plain p d e c w =
+    let a = planned→ p (length d) e in
+    let r = reads-back p d a w c in
+    record {
+      accepted = plain-accepted p d a w;
+      reading = r;
+      plan-back = rw r (same-back p d a);
+      pieces = read-data p d a;
+      pieces-whole = pieces-joined (p .places) (p .count) d (a .sized);
+      data-back = ap (dataJoined (plainImage p d)) r ∙ joined p d a;
+      size = long p d a;
+    }
+
+-- The plain image of a plan that is not refused is a plain image.
+pub plain-is-plain : (p : Plan) (d : List ℕ) → planVerdict p (length d) ≡ Accepted → AreBytes d → Plain (plainImage p d)
+plain-is-plain p d e w = is-plain p d (planned→ p (length d) e) w
+
+-- ---- what is read is written again
+
+module _ (p : Plan) (given room : ℕ) (ok : planVerdict p given ≡ Accepted) (fits : plainSize p ≤ room) where
+  -- a plan that is not refused is written wherever there is room
+  pub write-accepted : writeVerdict p given room ≡ Accepted
+  unfolding writeVerdict
+  write-accepted =
+      ap (λ (v : Verdict). andThen v (choose (ltb room (plainSize p)) (refuse outputTooShort 0) Accepted)) ok
+      ∙ simp (le-ltb _ _ fits)
+
+-- a plan and data for which the writer gives the image s
+pub record Writes (p : Plan) (given s : List ℕ) : Type 0 where
+  -- the plan is not refused, and its plain image is s
+  pub not-refused : planVerdict p (length given) ≡ Accepted
+  pub image : plainImage p given ≡ s
+  -- in an output at least as long the writer reports the length of s and writes s over the start
+  pub answer : (room : ℕ) → length s ≤ room → writeAnswer p (length given) room ≡ record { verdict = Accepted; length = length s }
+  pub output : (d : List ℕ) → length s ≤ length d → writeOutput p given d ≡ over d 0 s
+
+module _ (s : List ℕ) (w : AreBytes s) (pl : Plain s) where
+  abbrev ok : verdictOf s ≡ Accepted
+  ok = pl .accepted
+
+  room-for : (room : ℕ) → length s ≤ room → writeVerdict (plan s) (length (given s)) room ≡ Accepted
+  room-for room h = write-accepted (plan s) (length (given s)) room (plan-accepted s ok) (let e = length-plan s w pl in omega arith)
+
+  answered : (room : ℕ) → length s ≤ room → writeAnswer (plan s) (length (given s)) room ≡ record { verdict = Accepted; length = length s }
+  unfolding writeAnswer
+  answered room h =
+      ap₂ (λ (v : Verdict) (n : ℕ). writtenFor v n) (room-for room h) (sym (length-plan s w pl))
+
+  put-out : (d : List ℕ) → length s ≤ length d → writeOutput (plan s) (given s) d ≡ over d 0 s
+  unfolding writeOutput
+  put-out d h = ap₂ (λ (v : Verdict) (b : List ℕ). outputFor v b d) (room-for (length d) h) (plain-again s w pl)
+
+-- Writing the reading of any plain image, with its sections' data joined in file order, gives that image.
+pub write-read : (s : List ℕ) → AreBytes s → Plain s → Writes (planOf (readImage s)) (dataJoined s (readImage s)) s
+write-read s w pl =
+    let r = reading-accepted s (pl .accepted) in
+    let j = joined-is s (pl .accepted) in
+    rw (r, j) (record { not-refused = plan-accepted s (pl .accepted); image = plain-again s w pl; answer = answered s w pl; output = put-out s w pl })
+
+-- ---- the one plain image
+
+-- Plans that agree in version, flags, memory, cpus, count and used places have the same verdict, length and plain image.
+pub record SameWriting (p q : Plan) : Type 0 where
+  pub verdict : (given : ℕ) → planVerdict p given ≡ planVerdict q given
+  pub size : plainSize p ≡ plainSize q
+  pub image : (d : List ℕ) → plainImage p d ≡ plainImage q d
+
+pub one-plain-image : (p q : Plan) → SamePlan p q → SameWriting p q
+one-plain-image p q e = record { verdict = verdict-of-same p q e; size = size-of-same p q e; image = image-of-same p q e }
+
+-- ---- any accepted image
+
+-- The plan of any accepted image is not refused, and its plain image is read back with the same fields, its sections packed.
+pub read-again : (s : List ℕ) → AreBytes s → verdictOf s ≡ Accepted → ReadsBack (plan s) (given s)
+read-again s w ok = read-plain (plan s) (given s) (plan-accepted s ok) (plan-fits s ok w) (bytes-given s ok w)

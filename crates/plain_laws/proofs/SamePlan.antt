@@ -1,0 +1,145 @@
+-- Places past the count are ignored: what is judged and written depends on a plan's fields and used places alone.
+-- Assumes nothing.
+use Prim.Native.Nat.{ℕ, zero, suc, _+_, _<_, _≤_}
+use mathlib.Core.Path.{_≡_, refl, ap, ap₂, _∙_}
+use mathlib.Core.Bool.{not}
+use mathlib.Core.List.{List, _++_}
+use native.Mathlib.Omega.{arith}
+use lib.Dec.{ltb, eqb}
+use lib.ListN.{take, drop}
+use Rattle.octets.specs.Bytes.{beBytes}
+use Rattle.crc32.specs.Crc.{crc32}
+use Rattle.eif.specs.Numbers.{sizeLimit, placeCount, imageTooLong, wrongVersion, wrongCount, typeNotAllowed, sectionMissing, dataLengthDiffers}
+use Rattle.eif.specs.Logic.{choose}
+use Rattle.eif.specs.Answers.{wholeVerdict}
+use Rattle.eif.specs.Rules.{typeFault, versionKnown, countKnown, allowedIn, orderFault, missing, firstFault}
+use Rattle.eif.specs.Layout.{magicNumber, sectionHeaderSize}
+use Rattle.eif.specs.Plan.{entries, placeAt, plannedKind, plannedSize, packedAt, dataBefore, plainSize, fieldFault, sizeFault, planFault, planVerdict, fixedFields, offsetTable, sizeTable, headerBytes, pieceAt, sectionHeader, sectionBytes, bodyBytes, plainImage}
+use Rattle.eif.specs.declared.Place.{Place}
+use Rattle.eif.specs.declared.Plan.{Plan}
+use Rattle.eif_rules.proofs.Types.{order-same, missing-same}
+use Rattle.eif_rules.proofs.Table.{filled-same}
+use Rattle.eif_rules.proofs.Verdicts.{then-same, walk-same}
+
+-- two plans agree in every field and in their used places
+pub record SamePlan (p q : Plan) : Type 0 where
+  pub version : p .version ≡ q .version
+  pub flags : p .flags ≡ q .flags
+  pub memory : p .memory ≡ q .memory
+  pub cpus : p .cpus ≡ q .cpus
+  pub count : p .count ≡ q .count
+  pub used : (i : ℕ) → i < p .count → placeAt (p .places) i ≡ placeAt (q .places) i
+
+-- ---- lists of places with the same first ones
+
+module _ (l m : List Place) (count : ℕ) (same : (i : ℕ) → i < count → placeAt l i ≡ placeAt m i) where
+  kind-same : (i : ℕ) → i < count → plannedKind l i ≡ plannedKind m i
+  kind-same i h = ap (λ (x : Place). x .kind) (same i h)
+
+  size-same : (i : ℕ) → i < count → plannedSize l i ≡ plannedSize m i
+  size-same i h = ap (λ (x : Place). x .length .0) (same i h)
+
+  packed-same : (i : ℕ) → i ≤ count → packedAt l i ≡ packedAt m i
+  unfolding packedAt
+  packed-same zero h = refl
+  packed-same (suc i) h = ap₂ (λ (x y : ℕ). x + sectionHeaderSize + y) (packed-same i (omega arith)) (size-same i h)
+
+  before-same : (i : ℕ) → i ≤ count → dataBefore l i ≡ dataBefore m i
+  unfolding dataBefore
+  before-same zero h = refl
+  before-same (suc i) h = ap₂ (λ (x y : ℕ). x + y) (before-same i (omega arith)) (size-same i h)
+
+  offsets-same : offsetTable l count ≡ offsetTable m count
+  unfolding offsetTable
+  offsets-same = ap entries (filled-same (packedAt l) (packedAt m) 0 placeCount count (λ i h. packed-same i (omega arith)))
+
+  sizes-same : sizeTable l count ≡ sizeTable m count
+  unfolding sizeTable
+  sizes-same = ap entries (filled-same (plannedSize l) (plannedSize m) 0 placeCount count size-same)
+
+  piece-same : (d : List ℕ) (i : ℕ) → i < count → pieceAt l d i ≡ pieceAt m d i
+  piece-same d i h = ap₂ (λ (n b : ℕ). take n (drop b d)) (size-same i h) (before-same i (omega arith))
+
+  sections-same : (d : List ℕ) (n i : ℕ) → i + n ≤ count → sectionBytes l d n i ≡ sectionBytes m d n i
+  unfolding sectionBytes
+  sections-same d zero i h = refl
+  sections-same d (suc n) i h =
+      ap₂ (λ (x : Place) (r : List ℕ). sectionHeader x ++ r) (same i (omega arith))
+      (ap₂ (λ (x r : List ℕ). x ++ r) (piece-same d i (omega arith)) (sections-same d n (suc i) (omega arith)))
+
+  place-fault-same : (version i : ℕ) → i < count → typeFault version (plannedKind l) i ≡ typeFault version (plannedKind m) i
+  unfolding typeFault
+  place-fault-same version i h =
+      ap₂ (λ (k o : ℕ). choose (not (allowedIn version k)) typeNotAllowed o) (kind-same i h)
+      (ap (λ (k : ℕ). orderFault (plannedKind l) k i) (kind-same i h)
+      ∙ order-same (plannedKind l) (plannedKind m) (plannedKind m i) i (λ j q. kind-same j (omega arith)))
+
+-- ---- two such plans
+
+module _ (p q : Plan) (e : SamePlan p q) where
+  abbrev l : List Place
+  l = p .places
+
+  abbrev m : List Place
+  m = q .places
+
+  pub size-of-same : plainSize p ≡ plainSize q
+  size-of-same = packed-same l m (p .count) (e .used) (p .count) (omega arith) ∙ ap (packedAt m) (e .count)
+
+  sum-same : dataBefore l (p .count) ≡ dataBefore m (q .count)
+  sum-same = before-same l m (p .count) (e .used) (p .count) (omega arith) ∙ ap (dataBefore m) (e .count)
+
+  missing-of-same : missing (plannedKind l) (p .version) (p .count) ≡ missing (plannedKind m) (q .version) (q .count)
+  missing-of-same =
+      missing-same (plannedKind l) (plannedKind m) (p .version) (p .count) (kind-same l m (p .count) (e .used))
+      ∙ ap₂ (λ (v n : ℕ). missing (plannedKind m) v n) (e .version) (e .count)
+
+  -- ---- the same verdict
+
+  fields-fault-same : fieldFault p ≡ fieldFault q
+  unfolding fieldFault
+  fields-fault-same =
+      ap₂ (λ (v n : ℕ). choose (not (versionKnown v)) wrongVersion (choose (not (countKnown n)) wrongCount 0)) (e .version) (e .count)
+
+  walk : firstFault (typeFault (p .version) (plannedKind l)) (p .count) 0 ≡ firstFault (typeFault (q .version) (plannedKind m)) (q .count) 0
+  walk =
+      walk-same (typeFault (p .version) (plannedKind l)) (typeFault (q .version) (plannedKind m)) (p .count) 0 (λ k h. absurd (omega arith))
+      (λ j h good. place-fault-same l m (p .count) (e .used) (p .version) j (omega arith) ∙ ap (λ (v : ℕ). typeFault v (plannedKind m) j) (e .version))
+      ∙ ap (λ (n : ℕ). firstFault (typeFault (q .version) (plannedKind m)) n 0) (e .count)
+
+  plan-fault-same : (given : ℕ) → planFault p given ≡ planFault q given
+  unfolding planFault sizeFault
+  plan-fault-same given =
+      let a = missing-of-same in
+      let b = size-of-same in
+      let c = sum-same in
+      λ t. choose (a t) sectionMissing (choose (ltb sizeLimit (b t)) imageTooLong (choose (not (eqb given (c t))) dataLengthDiffers 0))
+
+  pub verdict-of-same : (given : ℕ) → planVerdict p given ≡ planVerdict q given
+  unfolding planVerdict
+  verdict-of-same given =
+      then-same _ _ _ _ (ap wholeVerdict fields-fault-same) (λ a. then-same _ _ _ _ walk (λ b. ap wholeVerdict (plan-fault-same given)))
+
+  -- ---- the same image
+
+  fixed-same : fixedFields p ≡ fixedFields q
+  unfolding fixedFields
+  fixed-same =
+      λ t.
+      beBytes 4 magicNumber ++ (beBytes 2 (e .version t) ++ (beBytes 2 (e .flags t) ++ (beBytes 8 (e .memory t)
+      ++ (beBytes 8 (e .cpus t) ++ (beBytes 2 0 ++ beBytes 2 (e .count t))))))
+
+  header-same : headerBytes p ≡ headerBytes q
+  unfolding headerBytes
+  header-same =
+      let a = fixed-same in
+      let b = offsets-same l m (p .count) (e .used) ∙ ap (offsetTable m) (e .count) in
+      let c = sizes-same l m (p .count) (e .used) ∙ ap (sizeTable m) (e .count) in
+      λ t. a t ++ (b t ++ (c t ++ beBytes 4 0))
+
+  body-same : (d : List ℕ) → bodyBytes p d ≡ bodyBytes q d
+  body-same d = sections-same l m (p .count) (e .used) d (p .count) 0 (omega arith) ∙ ap (λ (n : ℕ). sectionBytes m d n 0) (e .count)
+
+  pub image-of-same : (d : List ℕ) → plainImage p d ≡ plainImage q d
+  unfolding plainImage
+  image-of-same d = ap₂ (λ (h b : List ℕ). h ++ (beBytes 4 (crc32 (h ++ b)) ++ b)) header-same (body-same d)

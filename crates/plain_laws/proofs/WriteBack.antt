@@ -1,0 +1,203 @@
+-- Writing what was read of a plain image gives the image again.
+-- Assumes nothing.
+use Prim.Native.Nat.{ℕ, zero, suc, _+_, _<_, _≤_}
+use mathlib.Core.Path.{_≡_, refl, sym, ap, ap₂, _∙_}
+use mathlib.Core.List.{List, _++_, append-assoc}
+use native.Mathlib.Omega.{arith}
+use lib.ListN.{length, take, drop, getD, take-append-drop, length-take, length-drop, List·getD-map}
+use lib.Seq.{take-at, drop-drop, drop-length}
+use Rattle.octets.specs.Bytes.{AreBytes, beBytes, field}
+use Rattle.crc32.specs.Crc.{crc32}
+use Rattle.eif.specs.Numbers.{placeCount}
+use Rattle.eif.specs.Layout.{magicNumber, headerSize, sectionHeaderSize, checksumAt, viewOf, headerFlags, memory, cpus, checksum, versionOf, countOf, offsetAt, sizeAt, startAt, kindAt, flagsAt}
+use Rattle.eif.specs.Reading.{checksumOf, verdictOf, sectionAt, blankSection, sectionsOf, readingOf, dataOf}
+use Rattle.eif.specs.Plan.{entries, placeAt, plannedKind, plannedSize, packedAt, pieceAt, fixedFields, offsetTable, sizeTable, headerBytes, sectionHeader, sectionBytes, bodyBytes, plainImage, Plain, placeOf, planOf, joinFrom, dataJoined}
+use Rattle.eif.specs.declared.Place.{Place}
+use Rattle.eif.specs.declared.Plan.{Plan}
+use Rattle.eif.specs.declared.Verdict.the-variants.{Accepted}
+use Rattle.eif_rules.proofs.Table.{filled-at}
+use Rattle.eif_rules.proofs.View.{Header, Sound, sound-of}
+use Rattle.eif_rules.proofs.Accept.{passes, sum-of}
+use Rattle.plain_laws.proofs.Shape.{packed-suc, packed-zero, length-header}
+use Rattle.plain_laws.proofs.Split.{split, table-split, filled-full}
+use Rattle.plain_laws.proofs.Joined.{piece-is, join-same}
+
+regroup3 : (a b c r : List ℕ) → a ++ (b ++ (c ++ r)) ≡ (a ++ (b ++ c)) ++ r
+regroup3 a b c r = simp append-assoc
+
+regroup4 : (a b c d r : List ℕ) → a ++ (b ++ (c ++ (d ++ r))) ≡ (a ++ (b ++ (c ++ d))) ++ r
+regroup4 a b c d r = simp append-assoc
+
+regroup7 : (a b c d e f g r : List ℕ) → a ++ (b ++ (c ++ (d ++ (e ++ (f ++ (g ++ r)))))) ≡ (a ++ (b ++ (c ++ (d ++ (e ++ (f ++ g)))))) ++ r
+regroup7 a b c d e f g r = simp append-assoc
+
+-- ---- the plan of an accepted image
+
+module _ (s : List ℕ) where
+  abbrev pub plan : Plan
+  plan = planOf (readingOf (viewOf s) Accepted)
+
+  -- the data of section i
+  abbrev pub piece : ℕ → List ℕ
+  piece i = take (sizeAt s i) (drop (offsetAt s i + sectionHeaderSize) s)
+
+  abbrev pub given : List ℕ
+  given = joinFrom piece (countOf s) 0
+
+  module _ (ok : verdictOf s ≡ Accepted) where
+    abbrev pub head : Header (viewOf s)
+    head = passes s ok .head
+
+    pub entry : (i : ℕ) → i < countOf s → Sound (viewOf s) i
+    entry i h = sound-of (viewOf s) i (passes s ok .sections i h)
+
+    pub place-is : (i : ℕ) → i < countOf s → placeAt (plan .places) i ≡ placeOf (sectionAt s i)
+    place-is i h =
+        List·getD-map placeOf (sectionsOf s) i blankSection ∙ ap placeOf (filled-at (sectionAt s) blankSection blankSection placeCount (countOf s) i h (head .few))
+
+    pub kind-is : (i : ℕ) → i < countOf s → plannedKind (plan .places) i ≡ kindAt s i
+    kind-is i h = ap (λ (x : Place). x .kind) (place-is i h)
+
+    pub size-is : (i : ℕ) → i < countOf s → plannedSize (plan .places) i ≡ sizeAt s i
+    size-is i h = ap (λ (x : Place). x .length .0) (place-is i h)
+
+    pub length-piece-is : (i : ℕ) → i < countOf s → length (piece i) ≡ plannedSize (plan .places) i
+    length-piece-is i h = let e = entry i h .ends in simp (length-take, length-drop) (omega arith) ∙ sym (size-is i h)
+
+    pub piece-given : (i : ℕ) → i < countOf s → pieceAt (plan .places) given i ≡ piece i
+    piece-given = piece-is (plan .places) (countOf s) piece length-piece-is
+
+    -- the sections' data joined is that
+    pub joined-is : dataJoined s (readingOf (viewOf s) Accepted) ≡ given
+    joined-is =
+        join-same (λ i. dataOf s (getD (sectionsOf s) i blankSection)) piece (countOf s) 0
+        (λ i h. ap (dataOf s) (filled-at (sectionAt s) blankSection blankSection placeCount (countOf s) i (omega arith) (head .few)))
+
+-- ---- a plain image, taken apart from its start
+
+module _ (s : List ℕ) (w : AreBytes s) (pl : Plain s) where
+  abbrev ok : verdictOf s ≡ Accepted
+  ok = pl .accepted
+
+  abbrev p : Plan
+  p = plan s
+
+  abbrev l : List Place
+  l = plan s .places
+
+  abbrev d : List ℕ
+  d = given s
+
+  whole : headerSize ≤ length s
+  whole = head s ok .whole
+
+  few : countOf s ≤ placeCount
+  few = head s ok .few
+
+  packed-is : (i : ℕ) → i ≤ countOf s → packedAt l i ≡ startAt s i
+  packed-is zero h = packed-zero l
+  packed-is (suc i) h =
+      packed-suc l i ∙ ap₂ (λ (x y : ℕ). x + 12 + y) (packed-is i (omega arith) ∙ sym (pl .packed i h)) (size-is s ok i h)
+
+  abbrev b1 : List ℕ
+  b1 = beBytes 4 magicNumber
+
+  abbrev b2 : List ℕ
+  b2 = beBytes 2 (versionOf s)
+
+  abbrev b3 : List ℕ
+  b3 = beBytes 2 (headerFlags (viewOf s))
+
+  abbrev b4 : List ℕ
+  b4 = beBytes 8 (memory (viewOf s))
+
+  abbrev b5 : List ℕ
+  b5 = beBytes 8 (cpus (viewOf s))
+
+  abbrev b6 : List ℕ
+  b6 = beBytes 2 0
+
+  abbrev b7 : List ℕ
+  b7 = beBytes 2 (countOf s)
+
+  fixed-split : s ≡ fixedFields p ++ drop 28 s
+  unfolding fixedFields
+  fixed-split =
+      let q = whole in
+      split s w 4 magicNumber 0 (head s ok .magic) (omega arith)
+      ∙ ap (λ (r : List ℕ). b1 ++ r) (split s w 2 (versionOf s) 4 refl (omega arith)
+      ∙ ap (λ (r : List ℕ). b2 ++ r) (split s w 2 (headerFlags (viewOf s)) 6 refl (omega arith)
+      ∙ ap (λ (r : List ℕ). b3 ++ r) (split s w 8 (memory (viewOf s)) 8 refl (omega arith)
+      ∙ ap (λ (r : List ℕ). b4 ++ r) (split s w 8 (cpus (viewOf s)) 16 refl (omega arith)
+      ∙ ap (λ (r : List ℕ). b5 ++ r) (split s w 2 0 24 (pl .reserved-zero) (omega arith)
+      ∙ ap (λ (r : List ℕ). b6 ++ r) (split s w 2 (countOf s) 26 refl (omega arith)))))))
+      ∙ regroup7 b1 b2 b3 b4 b5 b6 b7 (drop 28 s)
+
+  offsets-split : drop 28 s ≡ offsetTable l (countOf s) ++ drop 284 s
+  unfolding offsetTable
+  offsets-split =
+      let q = whole in
+      table-split s w placeCount 28 (offsetAt s) (λ i h. refl) (omega arith)
+      ∙ ap (λ (t : List ℕ). entries t ++ drop 284 s)
+      (filled-full (packedAt l) (offsetAt s) placeCount (countOf s) few (λ i h. pl .packed i h ∙ sym (packed-is i (omega arith))) (pl .unused-offset))
+
+  sizes-split : drop 284 s ≡ sizeTable l (countOf s) ++ drop 540 s
+  unfolding sizeTable
+  sizes-split =
+      let q = whole in
+      table-split s w placeCount 284 (sizeAt s) (λ i h. refl) (omega arith)
+      ∙ ap (λ (t : List ℕ). entries t ++ drop 540 s)
+      (filled-full (plannedSize l) (sizeAt s) placeCount (countOf s) few (λ i h. sym (size-is s ok i h)) (pl .unused-size))
+
+  header-split : s ≡ headerBytes p ++ drop 544 s
+  unfolding headerBytes
+  header-split =
+      let q = whole in
+      fixed-split
+      ∙ ap (λ (r : List ℕ). fixedFields p ++ r) (offsets-split
+      ∙ ap (λ (r : List ℕ). offsetTable l (countOf s) ++ r) (sizes-split
+      ∙ ap (λ (r : List ℕ). sizeTable l (countOf s) ++ r) (split s w 4 0 540 (pl .reserved-after-zero) (omega arith))))
+      ∙ regroup4 (fixedFields p) (offsetTable l (countOf s)) (sizeTable l (countOf s)) (beBytes 4 0) (drop 544 s)
+
+  section-split : (i : ℕ) → i < countOf s → drop (startAt s i) s ≡ sectionHeader (placeAt l i) ++ (pieceAt l d i ++ drop (startAt s (suc i)) s)
+  unfolding sectionHeader
+  section-split i h =
+      let o : ℕ = offsetAt s i in
+      let q = entry s ok i h in
+      let e = q .ends in
+      let x = place-is s ok i h in
+      let z12 : o + 2 + 2 + 8 ≡ o + 12 = omega arith in
+      let z4 : o + 2 + 2 ≡ o + 4 = omega arith in
+      ap (λ (n : ℕ). drop n s) (sym (pl .packed i h))
+      ∙ split s w 2 (kindAt s i) o refl (omega arith)
+      ∙ ap (λ (r : List ℕ). beBytes 2 (kindAt s i) ++ r) (split s w 2 (flagsAt s i) (o + 2) refl (omega arith)
+      ∙ ap (λ (r : List ℕ). beBytes 2 (flagsAt s i) ++ r)
+      (split s w 8 (sizeAt s i) (o + 2 + 2) (ap (λ (n : ℕ). field 8 n s) z4 ∙ q .same) (omega arith)
+      ∙ ap (λ (n : ℕ). beBytes 8 (sizeAt s i) ++ drop n s) z12
+      ∙ ap (λ (r : List ℕ). beBytes 8 (sizeAt s i) ++ r) (sym (take-append-drop (sizeAt s i) (drop (o + 12) s)))))
+      ∙ regroup3 (beBytes 2 (kindAt s i)) (beBytes 2 (flagsAt s i)) (beBytes 8 (sizeAt s i)) (piece s i ++ drop (sizeAt s i) (drop (o + 12) s))
+      ∙ ap₂ (λ (y : Place) (r : List ℕ). (beBytes 2 (y .kind) ++ (beBytes 2 (y .flags) ++ beBytes 8 (y .length .0))) ++ r) (sym x)
+      (ap₂ (λ (y r : List ℕ). y ++ r) (sym (piece-given s ok i h)) (drop-drop (sizeAt s i) (o + 12) s))
+
+  sections-split : (n i : ℕ) → i + n ≡ countOf s → drop (startAt s i) s ≡ sectionBytes l d n i
+  unfolding sectionBytes
+  sections-split zero i e =
+      let z : i ≡ countOf s = omega arith in
+      ap (λ (n : ℕ). drop (startAt s n) s) z ∙ ap (λ (n : ℕ). drop n s) (sym (pl .ends)) ∙ drop-length s
+  sections-split (suc n) i e =
+      section-split i (omega arith)
+      ∙ ap (λ (r : List ℕ). sectionHeader (placeAt l i) ++ (pieceAt l d i ++ r)) (sections-split n (suc i) (omega arith))
+
+  pub plain-again : plainImage p d ≡ s
+  unfolding plainImage checksumOf
+  plain-again =
+      let q = whole in
+      let b : drop headerSize s ≡ bodyBytes p d = sections-split (countOf s) 0 (omega arith) in
+      let h : take checksumAt s ≡ headerBytes p = ap (take checksumAt) header-split ∙ take-at (headerBytes p) (drop checksumAt s) checksumAt (length-header p) in
+      let c : checksum (viewOf s) ≡ crc32 (headerBytes p ++ bodyBytes p d) = sum-of s ok ∙ ap₂ (λ (x y : List ℕ). crc32 (x ++ y)) h b in
+      sym (header-split
+      ∙ ap (λ (r : List ℕ). headerBytes p ++ r)
+      (split s w 4 (crc32 (headerBytes p ++ bodyBytes p d)) checksumAt c (omega arith) ∙ ap (λ (r : List ℕ). beBytes 4 (crc32 (headerBytes p ++ bodyBytes p d)) ++ r) b))
+
+  pub length-plan : length s ≡ packedAt l (countOf s)
+  length-plan = pl .ends ∙ sym (packed-is (countOf s) (omega arith))

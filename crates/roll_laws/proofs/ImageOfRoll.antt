@@ -1,0 +1,245 @@
+-- Every accepted roll is the roll of an accepted image: the plain image of version 2 with the roll's records as sections.
+-- Assumes nothing.
+use Prim.Native.Nat.{ℕ, zero, suc, _+_, _<_, _≤_}
+use mathlib.Core.Path.{_≡_, refl, sym, ap, ap₂, subst, _∙_}
+use mathlib.Core.Bool.{Bool, true, false}
+use mathlib.Core.List.{List, [], _∷_, _++_, append-assoc, append-nil}
+use native.Mathlib.Omega.{arith}
+use borrow.Author.Tests.{ne-eqb, le-leb, eqb-true, not-false}
+use lib.Dec.{eqb}
+use lib.ListN.{length, take, drop, replicate, take-append-drop, length-take, length-drop}
+use lib.Seq.{drop-drop, drop-length}
+use Rattle.octets.specs.Bytes.{AreBytes, leBytes}
+use Rattle.octets.proofs.Value.{bytes-take, bytes-drop}
+use Rattle.eif.specs.Numbers.{placeCount, kernel, commandLine}
+use Rattle.eif.specs.Logic.{choose, either}
+use Rattle.eif.specs.Rules.{allowedIn, seen, orderFault, missing}
+use Rattle.eif.specs.Table.{filled}
+use Rattle.eif.specs.Reading.{verdictOf, blankSection, dataOf}
+use Rattle.eif.specs.Plan.{blankPlace, placeAt, plannedKind, plannedSize, packedAt, plainImage, joinFrom}
+use Rattle.eif.specs.Roll.{Record, recordHeadSize, headOf, rollOf, inRoll, recordFor, recordsIn, rollBytes, recordAt, recordSize, recordKind, imageSize, readRoll}
+use Rattle.eif.specs.declared.Plan.{Plan}
+use Rattle.eif.specs.declared.Place.{Place}
+use Rattle.eif.specs.declared.Section.{Section}
+use Rattle.eif.specs.declared.Verdict.the-variants.{Accepted}
+use Rattle.eif_rules.proofs.Logic.{not-both}
+use Rattle.eif_rules.proofs.Types.{order-same, missing-same}
+use Rattle.eif_rules.proofs.Table.{filled-at, filled-none}
+use Rattle.plain_laws.proofs.Split.{le-split}
+use Rattle.plain_laws.proofs.Shape.{packed-suc, packed-zero, bytes-plain}
+use Rattle.plain_laws.proofs.PlanRules.{Planned}
+use Rattle.plain_laws.proofs.Written.{Fits, read-data}
+use Rattle.plain_laws.proofs.Joined.{bytes-joined, piece-is, length-joined}
+use Rattle.plain_laws.proofs.ReadBack.{packedSection, plain-accepted, sections-back}
+use Rattle.roll_laws.proofs.RollRules.{Whole, roll→}
+use Rattle.roll_laws.proofs.Positions.{first-record, next-record, first-size, next-size}
+
+-- ---- the types of a roll
+
+known-allowed : (kind : ℕ) → 1 ≤ kind → kind ≤ 3 → allowedIn 2 kind ≡ true
+unfolding allowedIn
+known-allowed kind a b =
+    let four : kind ≡ 4 → ⊥ = λ z. omega arith in
+    let five : kind ≡ 5 → ⊥ = λ z. omega arith in
+    simp (ne-eqb _ _ four, ne-eqb _ _ five, le-leb _ _ a, le-leb _ _ b)
+
+pub known-in-roll : (kind : ℕ) → 1 ≤ kind → kind ≤ 3 → inRoll kind ≡ true
+known-in-roll kind a b = simp (le-leb _ _ a, le-leb _ _ b)
+
+either-false : (a b : Bool) → either a b ≡ false → (a ≡ false) × (b ≡ false)
+either-false true b e = not-both (sym e)
+either-false false b e = (refl, e)
+
+-- kernel and command line are there
+pub missing-parts : (kinds : ℕ → ℕ) (version n : ℕ) → missing kinds version n ≡ false → (seen kinds kernel n ≡ true) × (seen kinds commandLine n ≡ true)
+unfolding missing
+missing-parts kinds version n e =
+    let a = either-false _ _ e in
+    let b = either-false _ _ (a .1) in
+    (not-false _ (a .0), not-false _ (b .0))
+
+-- so there are two
+two : (kinds : ℕ → ℕ) (n : ℕ) → seen kinds kernel n ≡ true → seen kinds commandLine n ≡ true → 2 ≤ n
+unfolding seen
+two kinds zero a b = not-both a
+two kinds (suc zero) a b =
+    let x = eqb-true (kinds 0) kernel (last (eqb (kinds 0) kernel) a) in
+    let y = eqb-true (kinds 0) commandLine (last (eqb (kinds 0) commandLine) b) in
+    absurd (omega arith)
+  where
+    last : (t : Bool) → either t false ≡ true → t ≡ true
+    last true e = refl
+    last false e = e
+two kinds (suc (suc n)) a b = omega arith
+
+-- no record for an unused place
+pub none-in : (s : List ℕ) (m : ℕ) → recordsIn s (replicate m blankSection) ≡ []
+unfolding recordsIn
+none-in s zero = refl
+none-in s (suc m) = none-in s m
+
+-- ---- the image of a roll
+
+module _ (s : List ℕ) where
+  abbrev rollPlace : ℕ → Place
+  rollPlace i = record { kind = recordKind s i; flags = 0; length = record { 0 = recordSize s i } }
+
+  -- the data of record i
+  abbrev rollPiece : ℕ → List ℕ
+  rollPiece i = take (recordSize s i) (drop (recordAt s i + recordHeadSize) s)
+
+  module _ (n : ℕ) where
+    abbrev rollPlan : Plan
+    rollPlan = record { version = 2; flags = 0; memory = 0; cpus = 0; count = n; places = filled rollPlace blankPlace placeCount n }
+
+    abbrev rollData : List ℕ
+    rollData = joinFrom rollPiece n 0
+
+    abbrev pub rollImage : List ℕ
+    rollImage = plainImage rollPlan rollData
+
+module _ (s : List ℕ) (w : AreBytes s) (n : ℕ) (a : Whole s n) where
+  abbrev p : Plan
+  p = rollPlan s n
+
+  abbrev l : List Place
+  l = filled (rollPlace s) blankPlace placeCount n
+
+  abbrev d : List ℕ
+  d = rollData s n
+
+  abbrev image : List ℕ
+  image = rollImage s n
+
+  place-is : (i : ℕ) → i < n → placeAt l i ≡ rollPlace s i
+  place-is i h = filled-at (rollPlace s) blankPlace blankPlace placeCount n i h (a .few)
+
+  kind-is : (i : ℕ) → i < n → plannedKind l i ≡ recordKind s i
+  kind-is i h = ap (λ (x : Place). x .kind) (place-is i h)
+
+  size-is : (i : ℕ) → i < n → plannedSize l i ≡ recordSize s i
+  size-is i h = ap (λ (x : Place). x .length .0) (place-is i h)
+
+  pub packed-is : (i : ℕ) → i ≤ n → packedAt l i ≡ imageSize s i
+  packed-is zero h = packed-zero l ∙ sym (first-size s)
+  packed-is (suc i) h = packed-suc l i ∙ ap₂ (λ (x y : ℕ). x + 12 + y) (packed-is i (omega arith)) (size-is i h) ∙ sym (next-size s i)
+
+  length-piece-is : (i : ℕ) → i < n → length (rollPiece s i) ≡ plannedSize l i
+  length-piece-is i h =
+      let e = next-record s i in
+      let q = a .inside i h in
+      simp (length-take, length-drop) (omega arith) ∙ sym (size-is i h)
+
+  pub roll-planned : Planned p (length d)
+  roll-planned =
+      let m = missing-parts (recordKind s) 2 n (a .none-missing) in
+      let z = packed-is n (omega arith) in
+      let q = a .small in
+      record {
+        low = omega arith;
+        high = omega arith;
+        some = two (recordKind s) n (m .0) (m .1);
+        few = a .few;
+        allowed = λ i h. ap (allowedIn 2) (kind-is i h) ∙ known-allowed (recordKind s i) (a .known i h .0) (a .known i h .1);
+        order = λ i h.
+            ap (λ (k : ℕ). orderFault (plannedKind l) k i) (kind-is i h)
+            ∙ order-same (plannedKind l) (recordKind s) (recordKind s i) i (λ j g. kind-is j (omega arith)) ∙ a .order i h;
+        none-missing = missing-same (plannedKind l) (recordKind s) 2 n kind-is ∙ a .none-missing;
+        small = omega arith;
+        sized = length-joined l n (rollPiece s) length-piece-is;
+      }
+
+  roll-fits : Fits p
+  roll-fits = record { flags = omega arith; memory = omega arith; cpus = omega arith; section-flags = λ i h. rw (place-is i h) (omega arith) }
+
+  bytes-d : AreBytes d
+  bytes-d = bytes-joined (rollPiece s) n 0 (λ j. bytes-take (recordSize s j) (drop (recordAt s j + 10) s) (bytes-drop (recordAt s j + 10) s w))
+
+  pub image-bytes : AreBytes image
+  image-bytes = bytes-plain p d bytes-d
+
+  pub image-accepted : verdictOf image ≡ Accepted
+  image-accepted = plain-accepted p d roll-planned bytes-d
+
+  -- the data of section i is the data of record i
+  data-is : (i : ℕ) → i < n → dataOf image (packedSection l i) ≡ rollPiece s i
+  data-is i h = read-data p d roll-planned i h ∙ piece-is l n (rollPiece s) length-piece-is i h
+
+  -- ---- the bytes of the roll, taken apart
+
+  head-split : (i : ℕ) → i ≤ n → drop (recordAt s i) s ≡ headOf (recordSize s i) (recordKind s i) ++ drop (recordAt s i + 10) s
+  unfolding headOf
+  head-split i h =
+      let q = a .heads i h in
+      let o : ℕ = recordAt s i in
+      let e : o + 8 + 2 ≡ o + 10 = omega arith in
+      le-split s w 8 o (omega arith)
+      ∙ ap (λ (r : List ℕ). leBytes 8 (recordSize s i) ++ r) (le-split s w 2 (o + 8) (omega arith) ∙ ap (λ (m : ℕ). leBytes 2 (recordKind s i) ++ drop m s) e)
+      ∙ sym (append-assoc (leBytes 8 (recordSize s i)) (leBytes 2 (recordKind s i)) (drop (o + 10) s))
+
+  record-split : (i : ℕ) → i < n → drop (recordAt s i) s ≡ headOf (recordSize s i) (recordKind s i) ++ (rollPiece s i ++ drop (recordAt s (suc i)) s)
+  record-split i h =
+      head-split i (omega arith)
+      ∙ ap (λ (r : List ℕ). headOf (recordSize s i) (recordKind s i) ++ r)
+      (sym (take-append-drop (recordSize s i) (drop (recordAt s i + 10) s))
+      ∙ ap (λ (r : List ℕ). rollPiece s i ++ r) (drop-drop (recordSize s i) (recordAt s i + 10) s ∙ ap (λ (m : ℕ). drop m s) (sym (next-record s i))))
+
+  end-split : drop (recordAt s n) s ≡ headOf 0 0
+  end-split =
+      head-split n (omega arith)
+      ∙ ap₂ (λ (x : List ℕ) (y : List ℕ). x ++ y) (ap₂ headOf (a .end-size) (a .end-kind)) (ap (λ (m : ℕ). drop m s) (a .ends) ∙ drop-length s)
+      ∙ append-nil (headOf 0 0)
+
+  -- ---- and put together again
+
+  record Matches (x : Section) (i : ℕ) : Type 0 where
+    kind : x .kind ≡ recordKind s i
+    bytes : dataOf image x ≡ rollPiece s i
+
+  step : (x : Section) (rest : List Record) (i : ℕ) → i < n → Matches x i → rollOf rest ≡ drop (recordAt s (suc i)) s
+      → rollOf (choose (inRoll (x .kind)) (recordFor image x ∷ rest) rest) ≡ drop (recordAt s i) s
+  unfolding rollOf
+  step x rest i h m e =
+      let k = a .known i h in
+      let t : inRoll (x .kind) ≡ true = ap inRoll (m .kind) ∙ known-in-roll (recordKind s i) (k .0) (k .1) in
+      ap (λ (b : Bool). rollOf (choose b (recordFor image x ∷ rest) rest)) t
+      ∙ ap₂ (λ (b : List ℕ) (r : List ℕ). headOf (length b) (x .kind) ++ (b ++ r)) (m .bytes) e
+      ∙ ap₂ (λ (z q : ℕ). headOf z q ++ (rollPiece s i ++ drop (recordAt s (suc i)) s)) (length-piece-is i h ∙ size-is i h) (m .kind)
+      ∙ sym (record-split i h)
+
+  rolled : (m k i : ℕ) (f : ℕ → Section) → k ≤ m → i + k ≡ n → ((j : ℕ) → j < k → Matches (f j) (i + j))
+      → rollOf (recordsIn image (filled f blankSection m k)) ≡ drop (recordAt s i) s
+  unfolding recordsIn rollOf
+  rolled m zero i f h e g =
+      let z : i ≡ n = omega arith in
+      ap (λ (x : List Section). rollOf (recordsIn image x)) (filled-none f blankSection m) ∙ ap rollOf (none-in image m)
+      ∙ sym (ap (λ (q : ℕ). drop (recordAt s q) s) z ∙ end-split)
+  rolled zero (suc k) i f h e g = absurd (omega arith)
+  rolled (suc m) (suc k) i f h e g =
+      let z : i + 0 ≡ i = omega arith in
+      step (f 0) (recordsIn image (filled (λ j. f (suc j)) blankSection m k)) i (omega arith) (subst (Matches (f 0)) z (g 0 (omega arith)))
+      (rolled m k (suc i) (λ j. f (suc j)) (omega arith) (omega arith)
+      (λ j q. let y : i + suc j ≡ suc i + j = omega arith in subst (Matches (f (suc j))) y (g (suc j) (omega arith))))
+
+  pub roll-again : rollBytes image ≡ s
+  unfolding rollBytes
+  roll-again =
+      ap (λ (x : List Section). rollOf (recordsIn image x)) (sections-back p d roll-planned bytes-d roll-fits)
+      ∙ rolled placeCount n 0 (packedSection l) (a .few) (omega arith)
+      (λ j q. let z : j ≡ 0 + j = omega arith in subst (Matches (packedSection l j)) z (record { kind = kind-is j q; bytes = data-is j q }))
+      ∙ ap (λ (m : ℕ). drop m s) (first-record s)
+
+-- ---- the law
+
+-- an accepted image whose roll is t
+pub record ImageOf (t : List ℕ) : Type 0 where
+  pub image : List ℕ
+  pub bytes : AreBytes image
+  pub accepted : verdictOf image ≡ Accepted
+  pub roll : rollBytes image ≡ t
+
+pub image-of-roll : (t : List ℕ) → AreBytes t → readRoll t .verdict ≡ Accepted → ImageOf t
+image-of-roll t w e =
+    let n : ℕ = readRoll t .count in
+    let a = roll→ t e in
+    record { image = rollImage t n; bytes = image-bytes t w n a; accepted = image-accepted t w n a; roll = roll-again t w n a }

@@ -1,0 +1,90 @@
+-- The list of an image's roll, said from the records alone; reading the roll gives it, and the bytes it points at are the data.
+-- Assumes nothing.
+use Prim.Native.Nat.{ℕ, zero, suc, _+_, _-_, _<_, _≤_}
+use mathlib.Core.Path.{_≡_, refl, sym, ap, ap₂, _∙_}
+use mathlib.Core.List.{List, [], _∷_, _++_, map}
+use native.Mathlib.Omega.{arith}
+use native.Mathlib.Nat.{sub-zero}
+use lib.ListN.{length, take, drop, getD, replicate}
+use lib.Seq.{take-at, drop-at, drop-drop}
+use Rattle.eif.specs.Numbers.{placeCount}
+use Rattle.eif.specs.Table.{filled}
+use Rattle.eif.specs.Roll.{Record, recordHeadSize, rollOf, recordAt, recordSize, recordKind, listedAt, blankRecord, acceptedRoll}
+use Rattle.eif.specs.declared.RollRecord.{RollRecord}
+use Rattle.eif.specs.declared.RollReading.{RollReading}
+use Rattle.eif_rules.proofs.Table.{filled-none}
+use Rattle.roll_laws.proofs.Positions.{first-record, next-record, blank, head-past}
+use Rattle.roll_laws.proofs.RollRules.{listed}
+
+-- ---- the list
+
+-- the records of a roll from a position on: the type, the position of the data, right after the head, and its length
+abbrev pub listFrom : ℕ → List Record → List RollRecord
+listFrom at [] = []
+listFrom at (r ∷ rs) =
+    record { kind = r .kind; position = record { 0 = at + recordHeadSize }; length = record { 0 = length (r .bytes) } }
+    ∷ listFrom (at + recordHeadSize + length (r .bytes)) rs
+
+-- the answer: the number of records, and their list from the roll's start, unused places blank
+abbrev pub listingOf : List Record → RollReading
+listingOf rs = acceptedRoll (length rs) (listFrom 0 rs ++ replicate (placeCount - length rs) blankRecord)
+
+-- the type that a list gives, and the bytes of a roll that it points at
+abbrev pub foundIn : List ℕ → RollRecord → Record
+foundIn t x = record { kind = x .kind; bytes = take (x .length .0) (drop (x .position .0) t) }
+
+-- ---- what it points at
+
+pub found-from : (t : List ℕ) (rs : List Record) (at : ℕ) → drop at t ≡ rollOf rs → map (foundIn t) (listFrom at rs) ≡ rs
+unfolding rollOf
+found-from t [] at e = refl
+found-from t (r ∷ rs) at e =
+    let p : drop (at + 10) t ≡ r .bytes ++ rollOf rs =
+    sym (drop-drop 10 at t) ∙ ap (drop 10) e ∙ head-past (length (r .bytes)) (r .kind) (r .bytes ++ rollOf rs) in
+    let b : take (length (r .bytes)) (drop (at + 10) t) ≡ r .bytes = ap (take (length (r .bytes))) p ∙ take-at (r .bytes) (rollOf rs) (length (r .bytes)) refl in
+    let q : drop (at + 10 + length (r .bytes)) t ≡ rollOf rs =
+    sym (drop-drop (length (r .bytes)) (at + 10) t) ∙ ap (drop (length (r .bytes))) p ∙ drop-at (r .bytes) (rollOf rs) (length (r .bytes)) refl in
+    ap₂ (λ (x : List ℕ) (xs : List Record). record { kind = r .kind; bytes = x } ∷ xs) b (found-from t rs (at + 10 + length (r .bytes)) q)
+
+-- ---- what reading gives
+
+-- the records of a roll from record i on are as in a list
+pub record AreAt (t : List ℕ) (i : ℕ) (rs : List Record) : Type 0 where
+  pub kind : (j : ℕ) → j < length rs → recordKind t (i + j) ≡ getD rs j blank .kind
+  pub size : (j : ℕ) → j < length rs → recordSize t (i + j) ≡ length (getD rs j blank .bytes)
+
+module _ (t : List ℕ) where
+  later : (i : ℕ) (r : Record) (rs : List Record) → AreAt t i (r ∷ rs) → AreAt t (suc i) rs
+  later i r rs a =
+      record {
+        kind = λ j h. let z : suc i + j ≡ i + suc j = omega arith in ap (recordKind t) z ∙ a .kind (suc j) (omega arith);
+        size = λ j h. let z : suc i + j ≡ i + suc j = omega arith in ap (recordSize t) z ∙ a .size (suc j) (omega arith);
+      }
+
+  first : (i at : ℕ) (r : Record) (rs : List Record) → AreAt t i (r ∷ rs) → recordAt t i ≡ at
+      → listedAt t i ≡ record { kind = r .kind; position = record { 0 = at + recordHeadSize }; length = record { 0 = length (r .bytes) } }
+  first i at r rs a e =
+      let z : i ≡ i + 0 = omega arith in
+      let k = ap (recordKind t) z ∙ a .kind 0 (omega arith) in
+      let q = ap (λ (x : ℕ). x + recordHeadSize) e in
+      let n = ap (recordSize t) z ∙ a .size 0 (omega arith) in
+      λ u. record { kind = k u; position = record { 0 = q u }; length = record { 0 = n u } }
+
+  filled-from : (rs : List Record) (m i at : ℕ) (f : ℕ → RollRecord) → length rs ≤ m → ((j : ℕ) → f j ≡ listedAt t (i + j)) → recordAt t i ≡ at → AreAt t i rs
+      → filled f blankRecord m (length rs) ≡ listFrom at rs ++ replicate (m - length rs) blankRecord
+  filled-from [] m i at f h g e a = filled-none f blankRecord m ∙ ap (λ (k : ℕ). replicate k blankRecord) (sym (sub-zero m))
+  filled-from (r ∷ rs) zero i at f h g e a = absurd (omega arith)
+  filled-from (r ∷ rs) (suc m) i at f h g e a =
+      let z : i + 0 ≡ i = omega arith in
+      let n : suc m - suc (length rs) ≡ m - length rs = omega arith in
+      let s : recordSize t i ≡ length (r .bytes) = ap (recordSize t) (sym z) ∙ a .size 0 (omega arith) in
+      ap₂ (λ (x : RollRecord) (xs : List RollRecord). x ∷ xs) (g 0 ∙ ap (listedAt t) z ∙ first i at r rs a e)
+      (filled-from rs m (suc i) (at + recordHeadSize + length (r .bytes)) (λ j. f (suc j)) (omega arith)
+      (λ j. let y : i + suc j ≡ suc i + j = omega arith in g (suc j) ∙ ap (listedAt t) y)
+      (next-record t i ∙ ap₂ (λ (x y : ℕ). x + recordHeadSize + y) e s) (later i r rs a)
+      ∙ ap (λ (k : ℕ). listFrom (at + recordHeadSize + length (r .bytes)) rs ++ replicate k blankRecord) (sym n))
+
+  pub listing-is : (rs : List Record) → length rs ≤ placeCount → AreAt t 0 rs → listed t (length rs) ≡ listingOf rs
+  listing-is rs h a =
+      ap (acceptedRoll (length rs))
+      (filled-from rs placeCount 0 0 (listedAt t) h (λ j. let z : j ≡ 0 + j = omega arith in ap (listedAt t) z) (first-record t) a)

@@ -1,0 +1,272 @@
+-- The roll of every accepted image is accepted, and is shorter than the image.
+-- Assumes nothing.
+use Prim.Native.Nat.{ℕ, zero, suc, _+_, _-_, _<_, _≤_}
+use mathlib.Core.Path.{_≡_, refl, sym, ap, subst, _∙_}
+use mathlib.Core.Bool.{Bool, true, false}
+use mathlib.Core.List.{List, [], _∷_}
+use native.Mathlib.Omega.{arith}
+use native.Mathlib.Nat.{le-trans}
+use borrow.Author.Tests.{leb-true}
+use lib.Dec.{leb}
+use lib.ListN.{length, drop, getD, length-append, length-take, length-drop}
+use lib.Seq.{drop-cons, drop-length}
+use Rattle.octets.specs.Bytes.{leField}
+use Rattle.octets.proofs.Value.{leField-drop, leField-drop0}
+use Rattle.eif.specs.Numbers.{sizeLimit, placeCount, kernel, commandLine}
+use Rattle.eif.specs.Logic.{choose}
+use Rattle.eif.specs.Rules.{seen, orderFault, missing}
+use Rattle.eif.specs.Table.{filled}
+use Rattle.eif.specs.Layout.{headerSize, sectionHeaderSize, versionOf, countOf, offsetAt, sizeAt, startAt, kindAt}
+use Rattle.eif.specs.Reading.{verdictOf, sectionAt, blankSection, sectionsOf, dataOf}
+use Rattle.eif.specs.Roll.{Record, headOf, rollOf, inRoll, recordFor, recordsIn, recordsOf, rollBytes, recordAt, recordSize, recordKind, imageSize}
+use Rattle.eif.specs.declared.Section.{Section}
+use Rattle.eif.specs.declared.Verdict.the-variants.{Accepted}
+use Rattle.eif_rules.proofs.Logic.{both-true}
+use Rattle.eif_rules.proofs.Table.{filled-none, length-filled}
+use Rattle.eif_rules.proofs.Accept.{none-missing-of, order-at}
+use Rattle.plain_laws.proofs.WriteBack.{head, entry}
+use Rattle.plain_laws.proofs.Plainness.{start-inside}
+use Rattle.roll_laws.proofs.RollRules.{Whole}
+use Rattle.roll_laws.proofs.Prefix.{Fit}
+use Rattle.roll_laws.proofs.Positions.{first-size, next-size, blank, suffix, sizes, kinds}
+use Rattle.roll_laws.proofs.ImageOfRoll.{missing-parts, none-in, known-in-roll}
+use Rattle.roll_laws.proofs.Order.{AllInRoll, Types, Follows, knows-none, knows-both, knows-after, order-of-sections, order-of-records}
+
+-- ---- records that an image can hold
+
+pub record Held (r : Record) : Type 0 where
+  pub low : 1 ≤ r .kind
+  pub high : r .kind ≤ 3
+  pub small : length (r .bytes) ≤ sizeLimit
+
+abbrev pub AllHeld : List Record → Type 0
+AllHeld [] = Unit
+AllHeld (r ∷ rs) = Held r × AllHeld rs
+
+held-fit : (rs : List Record) → AllHeld rs → Fit rs
+held-fit [] a = tt
+held-fit (r ∷ rs) a =
+    let h = a .0 in
+    let l = h .low in let k = h .high in let z = h .small in
+    ((omega arith, omega arith, omega arith), held-fit rs (a .1))
+
+held-in-roll : (rs : List Record) → AllHeld rs → AllInRoll rs
+held-in-roll [] a = tt
+held-in-roll (r ∷ rs) a = (known-in-roll (r .kind) (a .0 .low) (a .0 .high), held-in-roll rs (a .1))
+
+held-at : (rs : List Record) (i : ℕ) → i < length rs → AllHeld rs → Held (getD rs i blank)
+held-at [] i h a = absurd (omega arith)
+held-at (r ∷ rs) zero h a = a .0
+held-at (r ∷ rs) (suc i) h a = held-at rs i (omega arith) (a .1)
+
+module _ (s : List ℕ) (small : length s ≤ sizeLimit) where
+  data-small : (x : Section) → length (dataOf s x) ≤ sizeLimit
+  data-small x = simp (length-take, length-drop) (omega arith)
+
+  held-one : (x : Section) → inRoll (x .kind) ≡ true → Held (recordFor s x)
+  held-one x t = let b = both-true (leb 1 (x .kind)) (leb (x .kind) 3) t in record { low = leb-true _ _ (b .0); high = leb-true _ _ (b .1); small = data-small x }
+
+  all-held : (l : List Section) → AllHeld (recordsIn s l)
+  unfolding recordsIn
+  all-held [] = tt
+  all-held (x ∷ xs) = one (all-held xs) (inRoll (x .kind)) refl
+    where
+      one : AllHeld (recordsIn s xs) → (b : Bool) → inRoll (x .kind) ≡ b → AllHeld (choose b (recordFor s x ∷ recordsIn s xs) (recordsIn s xs))
+      one a true t = (held-one x t, a)
+      one a false t = a
+
+-- there are at most as many records as sections
+records-few : (s : List ℕ) (l : List Section) → length (recordsIn s l) ≤ length l
+unfolding recordsIn
+records-few s [] = omega arith
+records-few s (x ∷ xs) = one (records-few s xs) (inRoll (x .kind))
+  where
+    one : length (recordsIn s xs) ≤ length xs → (b : Bool) → length (choose b (recordFor s x ∷ recordsIn s xs) (recordsIn s xs)) ≤ suc (length xs)
+    one h true = omega arith
+    one h false = omega arith
+
+-- ---- sizes
+
+-- what records would take in an image
+unfoldable sumOf : List Record → ℕ
+sumOf [] = 0
+sumOf (r ∷ rs) = sectionHeaderSize + length (r .bytes) + sumOf rs
+
+sum-cons : (r : Record) (rs : List Record) → sumOf (r ∷ rs) ≡ sectionHeaderSize + length (r .bytes) + sumOf rs
+unfolding sumOf
+sum-cons r rs = refl
+
+module _ (s : List ℕ) (ok : verdictOf s ≡ Accepted) where
+  -- the records of the later of m places
+  abbrev later : (ℕ → Section) → ℕ → ℕ → List Record
+  later f m n = recordsIn s (filled (λ j. f (suc j)) blankSection m n)
+
+  sum-one : (x : Section) (rest : List Record) (i top : ℕ) → length (dataOf s x) ≤ sizeAt s i → startAt s i ≤ offsetAt s i
+      → startAt s (suc i) + sumOf rest ≤ top → (b : Bool) → startAt s i + sumOf (choose b (recordFor s x ∷ rest) rest) ≤ top
+  unfolding sumOf
+  sum-one x rest i top e b r true = le-trans (omega arith) r
+  sum-one x rest i top e b r false = le-trans (omega arith) r
+
+  sum-le : (m n i : ℕ) (f : ℕ → Section) → n ≤ m → i + n ≤ countOf s → ((j : ℕ) → j < n → f j ≡ sectionAt s (i + j))
+      → startAt s i + sumOf (recordsIn s (filled f blankSection m n)) ≤ startAt s (i + n)
+  unfolding recordsIn sumOf
+  sum-le m zero i f h g q =
+      let z : i + 0 ≡ i = omega arith in
+      let e : recordsIn s (filled f blankSection m 0) ≡ [] = ap (recordsIn s) (filled-none f blankSection m) ∙ none-in s m in
+      rw (z, e) (omega arith)
+  sum-le zero (suc n) i f h g q = absurd (omega arith)
+  sum-le (suc m) (suc n) i f h g q =
+      let z : i + 0 ≡ i = omega arith in
+      let y : suc i + n ≡ i + suc n = omega arith in
+      let r = sum-le m n (suc i) (λ j. f (suc j)) (omega arith) (omega arith) (λ j l. let t : i + suc j ≡ suc i + j = omega arith in q (suc j) (omega arith) ∙ ap (sectionAt s) t) in
+      let e : length (dataOf s (f 0)) ≤ sizeAt s i = rw (q 0 (omega arith) ∙ ap (sectionAt s) z) (simp length-take (omega arith)) in
+      subst (λ (a : ℕ). startAt s i + sumOf (choose (inRoll (f 0 .kind)) (recordFor s (f 0) ∷ later f m n) (later f m n)) ≤ startAt s a) y
+      (sum-one (f 0) (later f m n) i (startAt s (suc i + n)) e (entry s ok i (omega arith) .starts) r (inRoll (f 0 .kind)))
+
+  -- the records fit in the image, after its header
+  sum-small : headerSize + sumOf (recordsOf s) ≤ length s
+  sum-small =
+      let a = sum-le placeCount (countOf s) 0 (sectionAt s) (head s ok .few) (omega arith) (λ j l. let z : j ≡ 0 + j = omega arith in ap (sectionAt s) z) in
+      let b = start-inside s ok (countOf s) refl in
+      let z : 0 + countOf s ≡ countOf s = omega arith in
+      let c = subst (λ (x : ℕ). headerSize + sumOf (recordsOf s) ≤ startAt s x) z a in
+      le-trans c b
+
+-- ---- the roll of records
+
+length-roll : (rs : List Record) → 10 ≤ length (rollOf rs)
+unfolding rollOf headOf
+length-roll [] = omega arith
+length-roll (r ∷ rs) = omega arith
+
+roll-le : (rs : List Record) → length (rollOf rs) ≤ 10 + sumOf rs
+unfolding rollOf sumOf headOf
+roll-le [] = omega arith
+roll-le (r ∷ rs) = let e = roll-le rs in simp length-append (omega arith)
+
+end-length : length (headOf 0 0) ≡ 10
+unfolding headOf
+end-length = refl
+
+end-size : leField 8 0 (headOf 0 0) ≡ 0
+unfolding headOf leField
+end-size = refl
+
+end-kind : leField 2 8 (headOf 0 0) ≡ 0
+unfolding headOf leField
+end-kind = refl
+
+none-missing-from : (kinds : ℕ → ℕ) (n : ℕ) → seen kinds kernel n ≡ true → seen kinds commandLine n ≡ true → missing kinds 2 n ≡ false
+unfolding missing
+none-missing-from kinds n a b = simp (a, b)
+
+module _ (rs : List Record) (held : AllHeld rs) where
+  abbrev t : List ℕ
+  t = rollOf rs
+
+  abbrev n : ℕ
+  n = length rs
+
+  fit : Fit rs
+  fit = held-fit rs held
+
+  head-inside : (i : ℕ) → i ≤ n → recordAt t i + 10 ≤ length t
+  head-inside i h =
+      let e = sym (length-drop (recordAt t i) t) ∙ ap length (suffix rs fit i h) in
+      let l = length-roll (drop i rs) in
+      omega arith
+
+  at-end : drop (recordAt t n) t ≡ headOf 0 0
+  unfolding rollOf
+  at-end = suffix rs fit n (omega arith) ∙ ap rollOf (drop-length rs)
+
+  ends-there : recordAt t n + 10 ≡ length t
+  ends-there =
+      let e : length t - recordAt t n ≡ 10 = sym (length-drop (recordAt t n) t) ∙ ap length at-end ∙ end-length in
+      let l = head-inside n (omega arith) in
+      omega arith
+
+  end-size-is : recordSize t n ≡ 0
+  end-size-is = leField-drop0 8 (recordAt t n) t ∙ ap (leField 8 0) at-end ∙ end-size
+
+  end-kind-is : recordKind t n ≡ 0
+  end-kind-is = leField-drop 2 8 (recordAt t n) t ∙ ap (leField 2 8) at-end ∙ end-kind
+
+  sizes-sum : (i : ℕ) → i ≤ n → imageSize t i + sumOf (drop i rs) ≡ headerSize + sumOf rs
+  sizes-sum zero h = ap (λ (x : ℕ). x + sumOf rs) (first-size t)
+  sizes-sum (suc i) h =
+      let r = sizes-sum i (omega arith) in
+      let e = ap sumOf (drop-cons rs i blank h) ∙ sum-cons (getD rs i blank) (drop (suc i) rs) in
+      let z = sizes rs fit i h in
+      let q = next-size t i in
+      omega arith
+
+-- ---- of an accepted image
+
+module _ (s : List ℕ) (ok : verdictOf s ≡ Accepted) where
+  abbrev rs : List Record
+  rs = recordsOf s
+
+  abbrev roll : List ℕ
+  roll = rollOf (recordsOf s)
+
+  held : AllHeld (recordsOf s)
+  held = all-held s (head s ok .small) (sectionsOf s)
+
+  pub image-fit : Fit (recordsOf s)
+  image-fit = held-fit (recordsOf s) held
+
+  pub image-few : length (recordsOf s) ≤ placeCount
+  image-few =
+      let few = records-few s (sectionsOf s) in
+      let many = length-filled (sectionAt s) blankSection placeCount (countOf s) in
+      omega arith
+
+  ordered : Follows (kindAt s) (0 + countOf s) [] (recordsOf s)
+  ordered =
+      order-of-sections s (kindAt s) placeCount (countOf s) 0 (sectionAt s) [] (head s ok .few)
+      (λ j l. let z : j ≡ 0 + j = omega arith in ap (kindAt s) z)
+      (λ j l. let z : j ≡ 0 + j = omega arith in subst (λ (x : ℕ). orderFault (kindAt s) (kindAt s x) x ≡ 0) z (order-at s ok j l))
+      (knows-none (kindAt s))
+
+  types : Types (recordKind roll) 0 rs
+  types j h = let z : 0 + j ≡ j = omega arith in ap (recordKind roll) z ∙ kinds rs image-fit j h
+
+  -- a type that a roll holds is in the roll where it is in the image
+  seen-both : (k : ℕ) → inRoll k ≡ true → seen (kindAt s) k (countOf s) ≡ true → seen (recordKind roll) k (length rs) ≡ true
+  seen-both k m e =
+      let y : 0 + countOf s ≡ countOf s = omega arith in
+      let z : 0 + length rs ≡ length rs = omega arith in
+      sym (ap (seen (recordKind roll) k) z)
+      ∙ knows-both (kindAt s) (recordKind roll) (0 + countOf s) (0 + length rs) _ (ordered .knows)
+      (knows-after (recordKind roll) rs 0 [] types (knows-none (recordKind roll))) k m
+      ∙ ap (seen (kindAt s) k) y ∙ e
+
+  order-there : (i : ℕ) → i < length rs → orderFault (recordKind roll) (recordKind roll i) i ≡ 0
+  order-there i h =
+      let y : 0 + i ≡ i = omega arith in
+      subst (λ (x : ℕ). orderFault (recordKind roll) (recordKind roll x) x ≡ 0) y
+      (order-of-records (recordKind roll) rs 0 [] (held-in-roll rs held) types (knows-none (recordKind roll)) (ordered .ordered) i h)
+
+  pub roll-whole : Whole roll (length rs)
+  roll-whole =
+      let m = missing-parts (kindAt s) (versionOf s) (countOf s) (none-missing-of s ok) in
+      let z = sizes-sum rs held (length rs) (omega arith) in
+      let u = sum-small s ok in
+      let v = head s ok .small in
+      record {
+        few = image-few;
+        heads = head-inside rs held;
+        known = λ i h. let x = held-at rs i h held in let k = kinds rs image-fit i h in let lo = x .low in let hi = x .high in (omega arith, omega arith);
+        inside = λ i h. let x = head-inside rs held (suc i) h in omega arith;
+        order = order-there;
+        end-kind = end-kind-is rs held;
+        end-size = end-size-is rs held;
+        ends = ends-there rs held;
+        none-missing = none-missing-from (recordKind roll) (length rs) (seen-both kernel refl (m .0)) (seen-both commandLine refl (m .1));
+        small = omega arith;
+      }
+
+  pub shorter : length (rollBytes s) < length s
+  unfolding rollBytes
+  shorter = let a = roll-le (recordsOf s) in let b = sum-small s ok in omega arith

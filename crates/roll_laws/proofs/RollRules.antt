@@ -1,0 +1,218 @@
+-- A roll is accepted exactly when it meets every rule, said without an order of tests.
+-- Assumes nothing.
+use Prim.Native.Nat.{ℕ, zero, suc, _+_, _<_, _≤_}
+use mathlib.Core.Path.{_≡_, refl, sym, ap, subst, _∙_}
+use mathlib.Core.Bool.{Bool, true, false, not}
+use mathlib.Core.List.{List}
+use mathlib.Core.Logic.{⊎-elim}
+use native.Mathlib.Omega.{arith}
+use native.Mathlib.Nat.{eq-or-lt-of-le}
+use borrow.Author.Tests.{eq-eqb, ne-eqb, le-ltb, lt-leb, eqb-true, eqb-false, ltb-false, leb-false, not-false}
+use lib.Dec.{eqb, ltb, leb}
+use lib.ListN.{length}
+use Rattle.eif.specs.Numbers.{sizeLimit, placeCount}
+use Rattle.eif.specs.Logic.{both, choose}
+use Rattle.eif.specs.Answers.{refuse}
+use Rattle.eif.specs.Rules.{orderFault, missing}
+use Rattle.eif.specs.Table.{filled}
+use Rattle.eif.specs.Roll.{recordAt, recordSize, recordKind, isEnd, headFault, bodyFault, Ending, ended, stopped, stop, endFrom, imageSize, rollFault, listedAt, blankRecord, acceptedRoll, refusedRoll, rollAnswerFor, readRoll}
+use Rattle.eif.specs.declared.RollReading.{RollReading}
+use Rattle.eif.specs.declared.Verdict.the-variants.{Accepted}
+use Rattle.eif_rules.proofs.Logic.{choose-zero}
+use Rattle.eif_rules.proofs.Verdicts.{never}
+
+-- what an accepted roll of n records has
+pub record Whole (s : List ℕ) (n : ℕ) : Type 0 where
+  pub few : n ≤ placeCount
+  pub heads : (i : ℕ) → i ≤ n → recordAt s i + 10 ≤ length s
+  pub known : (i : ℕ) → i < n → (1 ≤ recordKind s i) × (recordKind s i ≤ 3)
+  pub inside : (i : ℕ) → i < n → recordAt s (suc i) ≤ length s
+  pub order : (i : ℕ) → i < n → orderFault (recordKind s) (recordKind s i) i ≡ 0
+  pub end-kind : recordKind s n ≡ 0
+  pub end-size : recordSize s n ≡ 0
+  pub ends : recordAt s n + 10 ≡ length s
+  pub none-missing : missing (recordKind s) 2 n ≡ false
+  pub small : imageSize s n ≤ sizeLimit
+
+-- what reading it answers
+abbrev pub listed : List ℕ → ℕ → RollReading
+listed s n = acceptedRoll n (filled (listedAt s) blankRecord placeCount n)
+
+-- ---- one record
+
+module _ (s : List ℕ) (i : ℕ) where
+  head-zero : headFault s i ≡ 0 → (recordAt s i + 10 ≤ length s) × (recordKind s i ≤ 3) × (both (isEnd s i) (not (eqb (recordSize s i) 0)) ≡ false)
+  unfolding headFault
+  head-zero e =
+      let a = choose-zero (ltb (length s) (recordAt s i + 10)) 15 _ e in
+      let b = choose-zero (ltb 3 (recordKind s i)) 16 _ (a .1) in
+      let c = choose-zero (both (isEnd s i) (not (eqb (recordSize s i) 0))) 16 _ (b .1) in
+      (ltb-false _ _ (a .0), ltb-false _ _ (b .0), c .0)
+
+  zero-head : recordAt s i + 10 ≤ length s → recordKind s i ≤ 3 → both (isEnd s i) (not (eqb (recordSize s i) 0)) ≡ false → headFault s i ≡ 0
+  unfolding headFault
+  zero-head a b c = simp (le-ltb _ _ a, le-ltb _ _ b, c)
+
+  body-zero : bodyFault s i ≡ 0 → (i < placeCount) × (recordAt s (suc i) ≤ length s) × (orderFault (recordKind s) (recordKind s i) i ≡ 0)
+  unfolding bodyFault
+  body-zero e =
+      let a = choose-zero (leb placeCount i) 4 _ e in
+      let b = choose-zero (ltb (length s) (recordAt s (suc i))) 15 _ (a .1) in
+      (leb-false _ _ (a .0), ltb-false _ _ (b .0), b .1)
+
+  zero-body : i < placeCount → recordAt s (suc i) ≤ length s → orderFault (recordKind s) (recordKind s i) i ≡ 0 → bodyFault s i ≡ 0
+  unfolding bodyFault
+  zero-body a b c = simp (lt-leb _ _ a, le-ltb _ _ b, c)
+
+-- ---- the records up to the end record
+
+choose-ended : (b : Bool) (x : Ending) (k l n : ℕ) → choose b x (stopped k l) ≡ ended n → (b ≡ true) × (x ≡ ended n)
+choose-ended true x k l n e = (refl, e)
+choose-ended false x k l n e = let z : _≡_ {A = ℕ} 0 1 = cc in absurd (omega arith)
+
+same-ended : (i n : ℕ) → ended i ≡ ended n → i ≡ n
+same-ended i n e = cc
+
+-- a record that is not the end record and has no fault
+record Clean (s : List ℕ) (i : ℕ) : Type 0 where
+  head : headFault s i ≡ 0
+  goes-on : isEnd s i ≡ false
+  body : bodyFault s i ≡ 0
+
+-- from record i on, in at most m records, the end record is record n
+record Ended (s : List ℕ) (i m n : ℕ) : Type 0 where
+  from : i ≤ n
+  before : n < i + m
+  clean : (j : ℕ) → i ≤ j → j < n → Clean s j
+  head : headFault s n ≡ 0
+  stops : isEnd s n ≡ true
+
+module _ (s : List ℕ) where
+  -- what follows a head without a fault
+  abbrev afterHead : ℕ → ℕ → Bool → Ending
+  afterHead m i b = choose b (ended i) (choose (eqb (bodyFault s i) 0) (endFrom s m (suc i)) (stop (bodyFault s i) i))
+
+  ended→ : (m i n : ℕ) → endFrom s m i ≡ ended n → Ended s i m n
+  unfolding endFrom
+  ended→ zero i n e = let z : _≡_ {A = ℕ} 0 1 = cc in absurd (omega arith)
+  ended→ (suc m) i n e = go (λ q. ended→ m (suc i) n q) (isEnd s i) refl (a .1)
+    where
+      a : (eqb (headFault s i) 0 ≡ true) × (afterHead m i (isEnd s i) ≡ ended n)
+      a = choose-ended (eqb (headFault s i) 0) _ _ _ n e
+
+      go : (endFrom s m (suc i) ≡ ended n → Ended s (suc i) m n) → (b : Bool) → isEnd s i ≡ b → afterHead m i b ≡ ended n → Ended s i (suc m) n
+      go again true q r =
+          let z = same-ended i n r in
+          record {
+            from = omega arith;
+            before = omega arith;
+            clean = λ j k l. absurd (omega arith);
+            head = sym (ap (headFault s) z) ∙ eqb-true _ _ (a .0);
+            stops = sym (ap (isEnd s) z) ∙ q;
+          }
+      go again false q r =
+          let b = choose-ended (eqb (bodyFault s i) 0) _ _ _ n r in
+          let t = again (b .1) in
+          let f = t .from in
+          let u = t .before in
+          let here : Clean s i = record { head = eqb-true _ _ (a .0); goes-on = q; body = eqb-true _ _ (b .0) } in
+          record {
+            from = omega arith;
+            before = omega arith;
+            clean = λ j k l.
+                ⊎-elim
+                (λ (z : i ≡ j). subst (Clean s) z here)
+                (λ (z : i < j). t .clean j z l)
+                (eq-or-lt-of-le k);
+            head = t .head;
+            stops = t .stops;
+          }
+
+  →ended : (m i n : ℕ) → Ended s i m n → endFrom s m i ≡ ended n
+  unfolding endFrom
+  →ended zero i n t = let f = t .from in let u = t .before in absurd (omega arith)
+  →ended (suc m) i n t =
+      ⊎-elim
+      (λ (z : i ≡ n). let h : headFault s i ≡ 0 = rw z (t .head) in let q : isEnd s i ≡ true = rw z (t .stops) in simp (h, q) (ap ended z))
+      (λ (z : i < n).
+      let c = t .clean i (omega arith) z in
+      let u = t .before in
+      simp (c .head, c .goes-on, c .body) (→ended m (suc i) n (record { from = z; before = omega arith; clean = λ j k l. t .clean j (omega arith) l; head = t .head; stops = t .stops })))
+      (eq-or-lt-of-le (t .from))
+
+-- ---- the whole roll
+
+positive : (k : ℕ) → (k ≡ 0 → ⊥) → 1 ≤ k
+positive zero z = absurd (z refl)
+positive (suc k) z = omega arith
+
+module _ (s : List ℕ) (n : ℕ) where
+  fault-zero : rollFault s n ≡ 0 → (length s ≤ recordAt s n + 10) × (missing (recordKind s) 2 n ≡ false) × (imageSize s n ≤ sizeLimit)
+  unfolding rollFault
+  fault-zero e =
+      let a = choose-zero (ltb (recordAt s n + 10) (length s)) 17 _ e in
+      let b = choose-zero (missing (recordKind s) 2 n) 11 _ (a .1) in
+      let c = choose-zero (ltb sizeLimit (imageSize s n)) 0 _ (b .1) in
+      (ltb-false _ _ (a .0), b .0, ltb-false _ _ (c .0))
+
+  zero-fault : recordAt s n + 10 ≡ length s → missing (recordKind s) 2 n ≡ false → imageSize s n ≤ sizeLimit → rollFault s n ≡ 0
+  unfolding rollFault
+  zero-fault a b c = simp (le-ltb (recordAt s n + 10) (length s) (omega arith), b, le-ltb _ _ c)
+
+  end-size-zero : isEnd s n ≡ true → both (isEnd s n) (not (eqb (recordSize s n) 0)) ≡ false → recordSize s n ≡ 0
+  end-size-zero q e = eqb-true _ _ (not-false _ (simp q at e))
+
+  whole-of : Ended s 0 (suc placeCount) n → rollFault s n ≡ 0 → Whole s n
+  whole-of t f =
+      let b = fault-zero f in
+      let u = t .before in
+      let h = head-zero s n (t .head) in
+      let k : (i : ℕ) → i < n → Clean s i = λ i l. t .clean i (omega arith) l in
+      record {
+        few = omega arith;
+        heads = λ i l. ⊎-elim (λ (z : i ≡ n). rw z (h .0)) (λ (z : i < n). head-zero s i (k i z .head) .0) (eq-or-lt-of-le l);
+        known = λ i l. (positive (recordKind s i) (eqb-false _ _ (k i l .goes-on)), head-zero s i (k i l .head) .1);
+        inside = λ i l. body-zero s i (k i l .body) .1;
+        order = λ i l. body-zero s i (k i l .body) .2;
+        end-kind = eqb-true _ _ (t .stops);
+        end-size = end-size-zero (t .stops) (h .2);
+        ends = let x = h .0 in let y = b .0 in omega arith;
+        none-missing = b .1;
+        small = b .2;
+      }
+
+  ended-of : Whole s n → Ended s 0 (suc placeCount) n
+  ended-of a =
+      let f = a .few in
+      record {
+        from = omega arith;
+        before = omega arith;
+        clean = λ j k l.
+            let y = a .known j l in
+            let no : recordKind s j ≡ 0 → ⊥ = λ z. let p = y .0 in omega arith in
+            record {
+              head = zero-head s j (a .heads j (omega arith)) (y .1) (simp (ne-eqb _ _ no));
+              goes-on = ne-eqb _ _ no;
+              body = zero-body s j (omega arith) (a .inside j l) (a .order j l);
+            };
+        head = let z = a .end-kind in zero-head s n (a .heads n (omega arith)) (omega arith) (simp (eq-eqb _ _ z, eq-eqb _ _ (a .end-size)));
+        stops = eq-eqb _ _ (a .end-kind);
+      }
+
+pub roll→ : (s : List ℕ) → readRoll s .verdict ≡ Accepted → Whole s (readRoll s .count)
+unfolding readRoll
+roll→ s e = go (endFrom s (suc placeCount) 0) refl e
+  where
+    fine : (n : ℕ) → endFrom s (suc placeCount) 0 ≡ ended n → (b : Bool) → eqb (rollFault s n) 0 ≡ b
+        → choose b (listed s n) (refusedRoll (refuse (rollFault s n) 0)) .verdict ≡ Accepted → Whole s (choose b (listed s n) (refusedRoll (refuse (rollFault s n) 0)) .count)
+    fine n q true z v = whole-of s n (ended→ s (suc placeCount) 0 n q) (eqb-true _ _ z)
+    fine n q false z v = never _ v
+
+    go : (x : Ending) → endFrom s (suc placeCount) 0 ≡ x → rollAnswerFor s x .verdict ≡ Accepted → Whole s (rollAnswerFor s x .count)
+    go (ended n) q v = fine n q (eqb (rollFault s n) 0) refl v
+    go (stopped k l) q v = never _ v
+
+pub →roll : (s : List ℕ) (n : ℕ) → Whole s n → readRoll s ≡ listed s n
+unfolding readRoll
+→roll s n a =
+    ap (rollAnswerFor s) (→ended s (suc placeCount) 0 n (ended-of s n a)) ∙ simp (zero-fault s n (a .ends) (a .none-missing) (a .small))

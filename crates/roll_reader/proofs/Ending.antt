@@ -1,0 +1,185 @@
+-- Where the records of a roll end: one record further, what the walk over them hands on, and the answer from it.
+-- Assumes nothing.
+use Prim.Native.Nat.{ℕ, zero, suc, _+_, _-_, _*_, _<_, _≤_}
+use mathlib.Core.Path.{_≡_, refl, sym, ap, _∙_}
+use mathlib.Core.Bool.{Bool, true, false}
+use mathlib.Core.Logic.{_⊎_, inl, inr, ⊎-elim}
+use mathlib.Core.List.{List}
+use native.Mathlib.Omega.{arith}
+use native.Mathlib.Numerals.{add-one}
+use borrow.Author.Tests.{lt-ltb, le-ltb, eq-eqb, ne-eqb, eqb-true}
+use lib.Dec.{eqb}
+use lib.ListN.{length}
+use Rattle.eif.specs.Numbers.{sizeLimit, placeCount, oldestVersion, imageTooLong, sectionMissing, bytesAfterEnd}
+use Rattle.eif.specs.Logic.{choose}
+use Rattle.eif.specs.Answers.{refuse}
+use Rattle.eif.specs.Rules.{missing}
+use Rattle.eif.specs.Table.{filled}
+use Rattle.eif.specs.Layout.{headerSize, sectionHeaderSize}
+use Rattle.eif.specs.Roll.{recordHeadSize, endType, Ending, ended, stopped, stop, recordAt, recordKind, isEnd, listedAt, blankRecord, headFault, bodyFault, endFrom, imageSize, rollFault, refusedRoll, acceptedRoll, rollAnswerFor, readRoll}
+use Rattle.eif.specs.declared.Refusal.{Refusal}
+use Rattle.eif.specs.declared.RollRecord.{RollRecord}
+use Rattle.eif.specs.declared.Verdict.the-variants.{Accepted, Refused}
+use Rattle.eif_rules.proofs.Logic.{zero-or}
+use Rattle.eif_rules.proofs.Verdicts.{never}
+use Rattle.roll_reader.specs.declared.Walked.{Walked}
+use Rattle.roll_reader.specs.Walk.{recordFault, stoppedWith, stoppedAt, endedAt, walkFor, walkOf}
+use Rattle.roll_reader.proofs.Records.{head-fits, by-head, by-end, by-body}
+
+-- ---- one record further; the walk so far is the whole from here on
+
+module _ (s : List ℕ) (i : ℕ) (few : i ≤ placeCount) (so-far : endFrom s (suc placeCount - i) i ≡ endFrom s (suc placeCount) 0) where
+  more : suc placeCount - i ≡ suc (suc placeCount - (i + 1))
+  more = omega arith
+
+  from-head : (k : ℕ) → k ≡ headFault s i → (k ≡ 0 → ⊥) → endFrom s (suc placeCount - i) i ≡ stop k i
+  unfolding endFrom
+  from-head k e h = rw (more, ← e) (simp (ne-eqb k 0 h))
+
+  pub walk-head : (k : ℕ) → k ≡ headFault s i → (k ≡ 0 → ⊥) → stoppedAt k i ≡ walkOf s
+  unfolding walkOf
+  walk-head k e h = ap (walkFor s) (sym (from-head k e h) ∙ so-far)
+
+  module _ (head : headFault s i ≡ 0) where
+    from-end : recordKind s i ≡ endType → endFrom s (suc placeCount - i) i ≡ ended i
+    unfolding endFrom
+    from-end e = rw (more, head) (simp (eq-eqb _ _ e))
+
+    module _ (at : ℕ) (kinds : List ℕ) (records : List RollRecord) where
+      pub walk-end : recordKind s i ≡ endType → at ≡ recordAt s i
+          → kinds ≡ filled (recordKind s) 0 placeCount i → records ≡ filled (listedAt s) blankRecord placeCount i
+          → record { verdict = Accepted; count = i; end = at; kinds = kinds; records = records } ≡ walkOf s
+      unfolding walkOf endedAt
+      walk-end e p q r = rw (p, q, r) (ap (walkFor s) (sym (from-end e) ∙ so-far))
+
+    module _ (other : recordKind s i ≡ endType → ⊥) where
+      from-body : (k : ℕ) → k ≡ bodyFault s i → (k ≡ 0 → ⊥) → endFrom s (suc placeCount - i) i ≡ stop k i
+      unfolding endFrom
+      from-body k e h = rw (more, head, ← e) (simp (ne-eqb _ _ other, ne-eqb k 0 h))
+
+      from-on : bodyFault s i ≡ 0 → endFrom s (suc placeCount - i) i ≡ endFrom s (suc placeCount - (i + 1)) (i + 1)
+      unfolding endFrom
+      from-on e = rw (more, head) (simp (ne-eqb _ _ other, e, add-one))
+
+      pub walk-on : bodyFault s i ≡ 0 → endFrom s (suc placeCount - (i + 1)) (i + 1) ≡ endFrom s (suc placeCount) 0
+      walk-on e = sym (from-on e) ∙ so-far
+
+  -- the refusal of a record by any rule
+  from-stop : (k : ℕ) → k ≡ recordFault s i → (k ≡ 0 → ⊥) → endFrom s (suc placeCount - i) i ≡ stop k i
+  from-stop k e h =
+      ⊎-elim
+      (λ z.
+      ⊎-elim
+      (λ p. absurd (h (e ∙ sym (by-end s i (sym z) p))))
+      (λ other. from-body z other k (e ∙ sym (by-body s i (sym z) other)) h)
+      (zero-or (recordKind s i)))
+      (λ z. from-head k (e ∙ sym (by-head s i (headFault s i) z refl)) h)
+      (zero-or (headFault s i))
+
+  pub walk-stop : (k : ℕ) → k ≡ recordFault s i → (k ≡ 0 → ⊥) → stoppedAt k i ≡ walkOf s
+  unfolding walkOf
+  walk-stop k e h = ap (walkFor s) (sym (from-stop k e h) ∙ so-far)
+
+-- ---- the end record lies in the roll
+
+-- the cases of a record at which the records do not stop
+on-the-way : (a b d : Bool) (i k : ℕ) (number index number₂ index₂ : ℕ) (rest : Ending)
+    → choose a (choose b (ended i) (choose d rest (stopped number index))) (stopped number₂ index₂) ≡ ended k
+    → (a ≡ true) × ((i ≡ k) ⊎ (rest ≡ ended k))
+on-the-way true true d i k n m n₂ m₂ rest e = (refl, inl (cc))
+on-the-way true false true i k n m n₂ m₂ rest e = (refl, inr e)
+on-the-way true false false i k n m n₂ m₂ rest e = let z : _≡_ {A = ℕ} 0 1 = cc in absurd (omega arith)
+on-the-way false b d i k n m n₂ m₂ rest e = let z : _≡_ {A = ℕ} 0 1 = cc in absurd (omega arith)
+
+end-in : (s : List ℕ) (n i k : ℕ) → endFrom s n i ≡ ended k → (k < i + n) × (headFault s k ≡ 0)
+unfolding endFrom
+end-in s zero i k e = let z : _≡_ {A = ℕ} 0 1 = cc in absurd (omega arith)
+end-in s (suc n) i k e =
+    let t = on-the-way (eqb (headFault s i) 0) (isEnd s i) (eqb (bodyFault s i) 0) i k _ _ _ _ (endFrom s n (suc i)) e in
+    ⊎-elim
+    (λ p. (omega arith, ap (headFault s) (sym p) ∙ eqb-true _ _ (t .0)))
+    (λ p. let q = end-in s n (suc i) k p in (omega arith, q .1))
+    (t .1)
+
+-- ---- the rules on the whole roll
+
+-- what the records before i take in an image: before each data it has a section header where the roll has a record's head
+pub image-size : (s : List ℕ) (i : ℕ) → imageSize s i ≡ headerSize + (sectionHeaderSize - recordHeadSize) * i + recordAt s i
+unfolding imageSize recordAt
+image-size s zero = refl
+image-size s (suc i) = omega (arith, image-size s i)
+
+module _ (s : List ℕ) (n : ℕ) where
+  pub roll-more : recordAt s n + recordHeadSize < length s → bytesAfterEnd ≡ rollFault s n
+  unfolding rollFault
+  roll-more h = simp (lt-ltb _ _ h)
+
+  module _ (last : length s ≤ recordAt s n + recordHeadSize) where
+    pub roll-missing : missing (recordKind s) oldestVersion n ≡ true → sectionMissing ≡ rollFault s n
+    unfolding rollFault
+    roll-missing e = simp (le-ltb _ _ last, e)
+
+    module _ (complete : missing (recordKind s) oldestVersion n ≡ false) where
+      pub roll-long : sizeLimit < imageSize s n → imageTooLong ≡ rollFault s n
+      unfolding rollFault
+      roll-long h = simp (le-ltb _ _ last, complete, lt-ltb _ _ h)
+
+      pub roll-good : imageSize s n ≤ sizeLimit → 0 ≡ rollFault s n
+      unfolding rollFault
+      roll-good h = simp (le-ltb _ _ last, complete, le-ltb _ _ h)
+
+-- ---- the answer
+
+-- what an accepting walk found
+pub record Ended (s : List ℕ) (w : Walked) : Type 0 where
+  pub ending : endFrom s (suc placeCount) 0 ≡ ended (w .count)
+  pub few : w .count ≤ placeCount
+  pub end-at : w .end ≡ recordAt s (w .count)
+  pub whole : w .end + recordHeadSize ≤ length s
+  pub kinds-are : w .kinds ≡ filled (recordKind s) 0 placeCount (w .count)
+  pub records-are : w .records ≡ filled (listedAt s) blankRecord placeCount (w .count)
+
+module _ (s : List ℕ) (w : Walked) where
+  by-ending : (x : Ending) → endFrom s (suc placeCount) 0 ≡ x → w ≡ walkFor s x → w .verdict ≡ Accepted → Ended s w
+  unfolding stoppedWith endedAt
+  by-ending (stopped number index) p e v = never _ (sym (ap (λ (x : Walked). x .verdict) e) ∙ v)
+  by-ending (ended n) p e v =
+      let c : w .count ≡ n = ap (λ (x : Walked). x .count) e in
+      let q = end-in s (suc placeCount) 0 n p in
+      let a = ap (λ (x : Walked). x .end) e in
+      let h = head-fits s n (q .1) in
+      record {
+        ending = p ∙ ap ended (sym c);
+        few = omega arith;
+        end-at = a ∙ ap (recordAt s) (sym c);
+        whole = omega arith;
+        kinds-are = ap (λ (x : Walked). x .kinds) e ∙ ap (filled (recordKind s) 0 placeCount) (sym c);
+        records-are = ap (λ (x : Walked). x .records) e ∙ ap (filled (listedAt s) blankRecord placeCount) (sym c);
+      }
+
+  refused-by : (r : Refusal) (x : Ending) → w ≡ walkFor s x → w .verdict ≡ Refused r → refusedRoll (Refused r) ≡ rollAnswerFor s x
+  unfolding stoppedWith endedAt
+  refused-by r (stopped number index) e v = ap refusedRoll (sym v ∙ ap (λ (x : Walked). x .verdict) e)
+  refused-by r (ended n) e v = never r (sym v ∙ ap (λ (x : Walked). x .verdict) e)
+
+  module _ (walked : w ≡ walkOf s) where
+    pub walk-ended : w .verdict ≡ Accepted → Ended s w
+    unfolding walkOf
+    walk-ended v = by-ending (endFrom s (suc placeCount) 0) refl walked v
+
+    pub read-stopped : (r : Refusal) → w .verdict ≡ Refused r → refusedRoll (Refused r) ≡ readRoll s
+    unfolding walkOf readRoll
+    read-stopped r v = refused-by r (endFrom s (suc placeCount) 0) walked v
+
+    module _ (accepted : w .verdict ≡ Accepted) (fault : ℕ) (fault-is : fault ≡ rollFault s (w .count)) where
+      pub read-refused : (fault ≡ 0 → ⊥) → refusedRoll (refuse fault 0) ≡ readRoll s
+      unfolding readRoll
+      read-refused h =
+          let x = walk-ended accepted in
+          rw (x .ending, ← fault-is) (simp (ne-eqb fault 0 h))
+
+      pub read-accepted : fault ≡ 0 → acceptedRoll (w .count) (w .records) ≡ readRoll s
+      unfolding readRoll
+      read-accepted h =
+          let x = walk-ended accepted in
+          rw (x .ending, ← fault-is, h, x .records-are) refl

@@ -1,0 +1,157 @@
+-- The roll of a list of sections: one section's record, the list one section further, and that it is the roll of the image.
+-- Assumes nothing.
+use Prim.Native.Nat.{ℕ, zero, suc, _+_, _*_, _<_, _≤_}
+use mathlib.Core.Path.{_≡_, refl, sym, ap, ap₂, _∙_}
+use mathlib.Core.List.{List, [], _∷_, _++_, append-assoc}
+use mathlib.Core.Bool.{Bool, true, false}
+use native.Mathlib.Omega.{arith}
+use lib.ListN.{length, drop, getD, length-append, length-take, length-drop, drop-of-length-le}
+use lib.Seq.{drop-cons}
+use Rattle.octets.specs.Over.{over}
+use Rattle.octets.proofs.Over.{over-append}
+use Rattle.eif.specs.Numbers.{sizeLimit, placeCount}
+use Rattle.eif.specs.Logic.{choose}
+use Rattle.eif.specs.Layout.{countOf}
+use Rattle.eif.specs.Reading.{verdictOf, blankSection, sectionAt, sectionsOf, dataOf}
+use Rattle.eif.specs.Roll.{recordHeadSize, headOf, endType, inRoll, rollOf, recordFor, recordsIn, rollBytes}
+use Rattle.eif.specs.declared.Section.{Section}
+use Rattle.eif.specs.declared.Verdict.the-variants.{Accepted}
+use Rattle.eif_rules.proofs.Table.{All, length-filled}
+use Rattle.eif_rules.proofs.Accept.{Inside, passes, sections-inside}
+use Rattle.roll_writer.specs.Write.{partOf, partSize, rollFor, sizeFor, sizeBound}
+
+-- what holds of every element holds of the one at i
+all-at : (P : Section → Type 0) (d : Section) (l : List Section) (i : ℕ) → i < length l → All P l → P (getD l i d)
+unfolding All
+all-at P d [] i h a = absurd (omega arith)
+all-at P d (x ∷ xs) zero h a = a .0
+all-at P d (x ∷ xs) (suc i) h a = all-at P d xs i (omega arith) (a .1)
+
+-- ---- one section
+
+pub length-head : (size kind : ℕ) → length (headOf size kind) ≡ recordHeadSize
+unfolding headOf
+length-head size kind = refl
+
+module _ (s : List ℕ) (x : Section) (inside : Inside s x) where
+  length-data : length (dataOf s x) ≡ x .length .0
+  length-data = simp (length-take, length-drop) (omega arith)
+
+  pub length-part : length (partOf s x) ≡ partSize x
+  unfolding partOf partSize
+  length-part = by (inRoll (x .kind))
+    where
+      by : (b : Bool) → length (choose b (headOf (x .length .0) (x .kind) ++ dataOf s x) []) ≡ choose b (recordHeadSize + x .length .0) 0
+      by true = simp (length-append, length-head, length-data)
+      by false = refl
+
+  part-small : length s ≤ sizeLimit → partSize x ≤ recordHeadSize + sizeLimit
+  unfolding partSize
+  part-small h = by (inRoll (x .kind))
+    where
+      by : (b : Bool) → choose b (recordHeadSize + x .length .0) 0 ≤ recordHeadSize + sizeLimit
+      by true = omega arith
+      by false = omega arith
+
+module _ (x : Section) where
+  module _ (e : inRoll (x .kind) ≡ true) where
+    pub size-in : partSize x ≡ recordHeadSize + x .length .0
+    unfolding partSize
+    size-in = rw e
+
+    -- its head and then its data
+    pub part-over : (s d : List ℕ) (at : ℕ)
+        → over (over d at (headOf (x .length .0) (x .kind))) (at + recordHeadSize) (dataOf s x) ≡ over d at (partOf s x)
+    unfolding partOf
+    part-over s d at =
+        let h = headOf (x .length .0) (x .kind) in
+        let n = length-head (x .length .0) (x .kind) in
+        rw e (ap (λ (m : ℕ). over (over d at h) (at + m) (dataOf s x)) (sym n) ∙ sym (over-append d at h (dataOf s x)))
+
+  module _ (e : inRoll (x .kind) ≡ false) where
+    pub size-out : partSize x ≡ 0
+    unfolding partSize
+    size-out = rw e
+
+    pub part-none : (s d : List ℕ) (at : ℕ) → d ≡ over d at (partOf s x)
+    unfolding partOf over
+    part-none s d at = rw e
+
+-- ---- the list from section i on
+
+module _ (l : List Section) (i : ℕ) (h : i < length l) where
+  pub size-step : sizeFor (drop i l) ≡ partSize (getD l i blankSection) + sizeFor (drop (suc i) l)
+  unfolding sizeFor
+  size-step = rw (drop-cons l i blankSection h)
+
+  module _ (s : List ℕ) where
+    roll-step : rollFor s (drop i l) ≡ partOf s (getD l i blankSection) ++ rollFor s (drop (suc i) l)
+    unfolding rollFor
+    roll-step = rw (drop-cons l i blankSection h)
+
+    module _ (a : All (Inside s) l) where
+      pub inside-at : Inside s (getD l i blankSection)
+      inside-at = all-at (Inside s) blankSection l i h a
+
+      -- the record of section i written, and then the rest
+      pub roll-over : (d : List ℕ) (at : ℕ)
+          → over (over d at (partOf s (getD l i blankSection))) (at + partSize (getD l i blankSection)) (rollFor s (drop (suc i) l))
+          ≡ over d at (rollFor s (drop i l))
+      roll-over d at =
+          let p = partOf s (getD l i blankSection) in
+          let r = rollFor s (drop (suc i) l) in
+          ap (λ (n : ℕ). over (over d at p) (at + n) r) (sym (length-part s (getD l i blankSection) inside-at))
+          ∙ sym (over-append d at p r) ∙ ap (over d at) (sym roll-step)
+
+-- past the last section: the end record
+module _ (l : List Section) (i : ℕ) (h : length l ≤ i) where
+  pub size-end : sizeFor (drop i l) ≡ recordHeadSize
+  unfolding sizeFor
+  size-end = rw (drop-of-length-le l h)
+
+  pub roll-end : (s : List ℕ) → rollFor s (drop i l) ≡ headOf 0 endType
+  unfolding rollFor
+  roll-end s = rw (drop-of-length-le l h)
+
+-- ---- the whole list
+
+module _ (s : List ℕ) where
+  length-roll : (l : List Section) → All (Inside s) l → length (rollFor s l) ≡ sizeFor l
+  unfolding rollFor sizeFor All
+  length-roll [] a = length-head 0 endType
+  length-roll (x ∷ xs) a =
+      length-append (partOf s x) (rollFor s xs) ∙ ap₂ (λ (m n : ℕ). m + n) (length-part s x (a .0)) (length-roll xs (a .1))
+
+  sizes-small : length s ≤ sizeLimit → (l : List Section) → All (Inside s) l
+      → sizeFor l ≤ length l * (recordHeadSize + sizeLimit) + recordHeadSize
+  unfolding sizeFor All
+  sizes-small h [] a = omega arith
+  sizes-small h (x ∷ xs) a = omega (arith, part-small s x (a .0) h, sizes-small h xs (a .1))
+
+  records-at : (x : Section) (xs : List Section) (b : Bool) → Inside s x → rollFor s xs ≡ rollOf (recordsIn s xs)
+      → choose b (headOf (x .length .0) (x .kind) ++ dataOf s x) [] ++ rollFor s xs ≡ rollOf (choose b (recordFor s x ∷ recordsIn s xs) (recordsIn s xs))
+  unfolding rollOf
+  records-at x xs false inside e = e
+  records-at x xs true inside e =
+      append-assoc (headOf (x .length .0) (x .kind)) (dataOf s x) (rollFor s xs)
+      ∙ ap₂ (λ (n : ℕ) (l : List ℕ). headOf n (x .kind) ++ (dataOf s x ++ l)) (sym (length-data s x inside)) e
+
+  -- it is the roll of the sections' records
+  roll-records : (l : List Section) → All (Inside s) l → rollFor s l ≡ rollOf (recordsIn s l)
+  unfolding rollFor recordsIn partOf All rollOf
+  roll-records [] a = refl
+  roll-records (x ∷ xs) a = records-at x xs (inRoll (x .kind)) (a .0) (roll-records xs (a .1))
+
+  -- of an accepted image it is the roll, and far from wrapping
+  module _ (e : verdictOf s ≡ Accepted) where
+    pub roll-is : rollFor s (sectionsOf s) ≡ rollBytes s
+    unfolding rollBytes
+    roll-is = roll-records (sectionsOf s) (sections-inside s e)
+
+    pub size-is : sizeFor (sectionsOf s) ≡ length (rollBytes s)
+    size-is = sym (length-roll (sectionsOf s) (sections-inside s e)) ∙ ap length roll-is
+
+    pub size-bounded : sizeFor (sectionsOf s) ≤ sizeBound
+    size-bounded =
+        let n = length-filled (sectionAt s) blankSection placeCount (countOf s) in
+        omega (arith, sizes-small (passes s e .head .small) (sectionsOf s) (sections-inside s e))

@@ -1,0 +1,27 @@
+-- What callers need: the rules over the lent types are those over any function that gives the same types.
+-- Assumes nothing.
+use Prim.Native.Nat.{ℕ, _<_, _≤_}
+use mathlib.Core.Path.{_≡_, ap, _∙_}
+use mathlib.Core.List.{List}
+use native.Mathlib.Omega.{arith}
+use lib.ListN.{length, take, getD, length-take}
+use lib.Seq.{getD-take}
+use Rattle.eif.specs.Rules.{seen, orderFault, missing}
+use Rattle.eif_rules.proofs.Types.{seen-same, order-same, missing-same}
+use Rattle.type_rules.specs.Kinds.{kindIn}
+
+module _ (l : List ℕ) (f : ℕ → ℕ) (n : ℕ) (fits : n ≤ length l) (same : (j : ℕ) → j < n → getD l j 0 ≡ f j) where
+  part-length : length (take n l) ≡ n
+  part-length = simp length-take (omega arith)
+
+  part-at : (j : ℕ) → j < n → kindIn (take n l) j ≡ f j
+  part-at j h = rw getD-take (same j h)
+
+  pub seen-part : (kind : ℕ) → seen (kindIn (take n l)) kind (length (take n l)) ≡ seen f kind n
+  seen-part kind = ap (seen (kindIn (take n l)) kind) part-length ∙ seen-same (kindIn (take n l)) f kind n part-at
+
+  pub order-part : (kind : ℕ) → orderFault (kindIn (take n l)) kind (length (take n l)) ≡ orderFault f kind n
+  order-part kind = ap (orderFault (kindIn (take n l)) kind) part-length ∙ order-same (kindIn (take n l)) f kind n part-at
+
+  pub missing-part : (version : ℕ) → missing (kindIn (take n l)) version (length (take n l)) ≡ missing f version n
+  missing-part version = ap (missing (kindIn (take n l)) version) part-length ∙ missing-same (kindIn (take n l)) f version n part-at

@@ -1,0 +1,136 @@
+//! Document 01's images, with their answers.
+
+use crate::layout::*;
+
+/// An image and what reading it answers.
+pub struct ImageCase {
+    /// What the image shows.
+    pub name: &'static str,
+    /// Its bytes.
+    pub image: Vec<u8>,
+    /// The answer number, 0 where the image is accepted.
+    pub number: u8,
+    /// The index beside it.
+    pub index: u64,
+}
+
+/// The plain version 2 image with kernel 4b, command line 61 and one empty ramdisk.
+pub fn worked_image() -> Vec<u8> {
+    worked_layout().image()
+}
+
+fn worked_layout() -> Layout {
+    Layout::new(
+        2,
+        vec![
+            Section::new(1, &[0x4b]),
+            Section::new(2, &[0x61]),
+            Section::new(3, &[]),
+        ],
+    )
+}
+
+/// Version 2, count 2, kernel and empty command line.
+pub fn two_sections() -> Vec<u8> {
+    Layout::new(2, vec![Section::new(1, &[0x4b]), Section::new(2, &[])]).image()
+}
+
+/// An image with the command line before the kernel, metadata among three ramdisks, and its streams
+/// Whole, Boot and App.
+pub fn stream_case() -> (Vec<u8>, [&'static [u8]; 3]) {
+    let sections = [2, 1, 3, 5, 3, 3].into_iter().zip(b'a'..);
+    let sections = sections.map(|(kind, byte)| Section::new(kind, &[byte, byte]));
+    let image = Layout::new(4, sections.collect()).image();
+    (image, [b"bbaacceeff", b"bbaacc", b"eeff"])
+}
+
+/// An image of exactly `length` bytes that meets every rule but perhaps the first.
+///
+/// # Panics
+///
+/// Where `length` is less than 572, the least that a kernel and a command line need.
+pub fn image_of_length(length: usize) -> Vec<u8> {
+    let kernel = vec![0x5a; length - HEADER - 2 * SECTION_HEADER];
+    Layout::new(2, vec![Section::new(1, &kernel), Section::new(2, &[])]).image()
+}
+
+/// The worked image with an edit, then sealed again.
+fn edited(edit: impl FnOnce(&mut Vec<u8>)) -> Vec<u8> {
+    let mut image = worked_layout().image();
+    edit(&mut image);
+    seal(&mut image);
+    image
+}
+
+fn of_types(version: u16, types: &[u16]) -> Vec<u8> {
+    let sections = types.iter().map(|&kind| Section::new(kind, b"x"));
+    Layout::new(version, sections.collect()).image()
+}
+
+/// The lines of "Run by a program" that read one small image, then those rules of the document that a
+/// reader easily gets wrong.
+pub fn image_cases() -> Vec<ImageCase> {
+    let mut cases = Vec::new();
+    let mut case = |name, image, number, index| {
+        cases.push(ImageCase {
+            name,
+            image,
+            number,
+            index,
+        });
+    };
+
+    case("547 bytes", worked_image()[..547].to_vec(), 2, 0);
+    for count in [1, 33] {
+        let image = edited(|image| put(image, COUNT_AT, &[0, count]));
+        case("count 1 or 33", image, 5, 0);
+    }
+    case("kernel and empty command line", two_sections(), 0, 0);
+    let image = edited(|image| put_number(image, OFFSETS_AT, 547));
+    case("first offset 547", image, 6, 0);
+    for index in 0..3 {
+        let image = edited(|image| put_number(image, SIZES_AT + 8 * index, u64::MAX));
+        case("size of all ones", image, 7, index as u64);
+    }
+    case("a section ending at the file's end", worked_image(), 0, 0);
+    let image = edited(|image| {
+        put_number(image, SIZES_AT + 16, 1);
+        put_number(image, 578, 1);
+    });
+    case("its size one more", image, 7, 2);
+    for kind in [6, 0] {
+        let image = edited(|image| put(image, 574, &[0, kind]));
+        case("type 6 or 0", image, 9, 2);
+    }
+    case("version 3 with metadata", of_types(3, &[1, 2, 5]), 9, 2);
+    case("version 4 without metadata", of_types(4, &[1, 2, 3]), 12, 0);
+    for difference in [1, u32::MAX] {
+        let mut image = worked_image();
+        let checksum = crc32(&[&image[..CHECKSUM_AT], &image[HEADER..]]);
+        put(
+            &mut image,
+            CHECKSUM_AT,
+            &checksum.wrapping_add(difference).to_be_bytes(),
+        );
+        case("checksum one off", image, 13, 0);
+    }
+
+    // Offset 574 + 12 + size is 2 to the 64, which wraps to 0.
+    let image = edited(|image| put_number(image, SIZES_AT + 16, 0u64.wrapping_sub(586)));
+    case("end that wraps to 0", image, 7, 2);
+    let mut image = worked_layout().unsealed();
+    let checksum = crc32(&[&image]);
+    put(&mut image, CHECKSUM_AT, &checksum.to_be_bytes());
+    case("checksum over the field as zeros", image, 13, 0);
+    case("ramdisk first, two kernels", of_types(2, &[3, 1, 1]), 10, 0);
+    case("ramdisk and no kernel", of_types(2, &[2, 3]), 10, 1);
+    case("second kernel", of_types(2, &[1, 1, 2]), 11, 1);
+    case("second metadata", of_types(4, &[1, 5, 2, 5]), 11, 3);
+    case("no command line", of_types(2, &[1, 3]), 12, 0);
+    case("signature in version 2", of_types(2, &[1, 2, 4]), 9, 2);
+    case("signature in version 3", of_types(3, &[1, 2, 4]), 0, 0);
+    let mut image = of_types(4, &[1, 2]);
+    image[CHECKSUM_AT] ^= 1;
+    case("no metadata and a wrong checksum", image, 12, 0);
+    cases
+}

@@ -1,0 +1,153 @@
+//! Images laid out byte by byte, with no rule judged.
+
+/// The longest image.
+pub const MAX_IMAGE: usize = 16_777_216;
+/// The most sections.
+pub const MAX_SECTIONS: usize = 32;
+/// Length of the image's header.
+pub const HEADER: usize = 548;
+/// Length of a section's header.
+pub const SECTION_HEADER: usize = 12;
+/// Position of the version.
+pub const VERSION_AT: usize = 4;
+/// Position of num_sections.
+pub const COUNT_AT: usize = 26;
+/// Position of the section offsets.
+pub const OFFSETS_AT: usize = 28;
+/// Position of the section sizes.
+pub const SIZES_AT: usize = 284;
+/// Position of the checksum.
+pub const CHECKSUM_AT: usize = 544;
+
+/// CRC-32 of `parts` joined, bit by bit.
+pub fn crc32(parts: &[&[u8]]) -> u32 {
+    let mut crc = !0;
+    for &byte in parts.iter().copied().flatten() {
+        crc ^= u32::from(byte);
+        for _ in 0..8 {
+            crc = (crc >> 1) ^ (0xEDB8_8320 & (crc & 1).wrapping_neg());
+        }
+    }
+    !crc
+}
+
+/// Writes `bytes` over `image` from `at`.
+pub fn put(image: &mut [u8], at: usize, bytes: &[u8]) {
+    image[at..at + bytes.len()].copy_from_slice(bytes);
+}
+
+/// Writes the 8-byte number `value` over `image` from `at`.
+pub fn put_number(image: &mut [u8], at: usize, value: u64) {
+    put(image, at, &value.to_be_bytes());
+}
+
+/// Puts the right checksum into an image of at least 548 bytes.
+pub fn seal(image: &mut [u8]) {
+    let checksum = crc32(&[&image[..CHECKSUM_AT], &image[HEADER..]]);
+    put(image, CHECKSUM_AT, &checksum.to_be_bytes());
+}
+
+/// Where a section that starts at `offset` with `length` bytes of data ends.
+pub fn section_end(offset: usize, length: usize) -> usize {
+    offset + SECTION_HEADER + length
+}
+
+/// A section to be laid out.
+#[derive(Clone, Debug, Default)]
+pub struct Section {
+    /// Its type.
+    pub kind: u16,
+    /// Its flags.
+    pub flags: u16,
+    /// Its data.
+    pub data: Vec<u8>,
+    /// How many bytes stand between the end of the one before and this section.
+    pub gap: usize,
+}
+
+impl Section {
+    /// A section with no flags and no gap before it.
+    pub fn new(kind: u16, data: &[u8]) -> Self {
+        Section {
+            kind,
+            data: data.to_vec(),
+            ..Section::default()
+        }
+    }
+}
+
+/// An image to be laid out.
+#[derive(Clone, Debug, Default)]
+pub struct Layout {
+    /// The header's version.
+    pub version: u16,
+    /// The header's flags.
+    pub flags: u16,
+    /// The header's default_mem.
+    pub default_mem: u64,
+    /// The header's default_cpus.
+    pub default_cpus: u64,
+    /// The sections in file order; the header has room for 32.
+    pub sections: Vec<Section>,
+}
+
+impl Layout {
+    /// A layout whose other header fields are zero.
+    pub fn new(version: u16, sections: Vec<Section>) -> Self {
+        Layout {
+            version,
+            sections,
+            ..Layout::default()
+        }
+    }
+
+    /// Where each section starts.
+    pub fn offsets(&self) -> Vec<usize> {
+        let mut end = HEADER;
+        let starts = self.sections.iter().map(|section| {
+            let offset = end + section.gap;
+            end = section_end(offset, section.data.len());
+            offset
+        });
+        starts.collect()
+    }
+
+    /// The image, gaps zero, checksum right.
+    ///
+    /// # Panics
+    ///
+    /// Where there are more than 32 sections.
+    pub fn image(&self) -> Vec<u8> {
+        let mut image = self.unsealed();
+        seal(&mut image);
+        image
+    }
+
+    /// The image with a checksum of zero.
+    ///
+    /// # Panics
+    ///
+    /// Where there are more than 32 sections.
+    pub fn unsealed(&self) -> Vec<u8> {
+        assert!(self.sections.len() <= MAX_SECTIONS);
+        let mut image = vec![0; HEADER];
+        put(&mut image, 0, b".eif");
+        put(&mut image, VERSION_AT, &self.version.to_be_bytes());
+        put(&mut image, 6, &self.flags.to_be_bytes());
+        put_number(&mut image, 8, self.default_mem);
+        put_number(&mut image, 16, self.default_cpus);
+        let count = self.sections.len() as u16;
+        put(&mut image, COUNT_AT, &count.to_be_bytes());
+        for (index, (section, offset)) in self.sections.iter().zip(self.offsets()).enumerate() {
+            image.resize(offset, 0);
+            let size = section.data.len() as u64;
+            put_number(&mut image, OFFSETS_AT + 8 * index, offset as u64);
+            put_number(&mut image, SIZES_AT + 8 * index, size);
+            image.extend_from_slice(&section.kind.to_be_bytes());
+            image.extend_from_slice(&section.flags.to_be_bytes());
+            image.extend_from_slice(&size.to_be_bytes());
+            image.extend_from_slice(&section.data);
+        }
+        image
+    }
+}

@@ -1,0 +1,25 @@
+//! Document 01's examples as data, for the tests of the library and of the twin.
+//!
+//! What builds the examples judges nothing and has a checksum of its own, bit by bit, so a test
+//! never trusts what it tests.
+//!
+//! ```
+//! let image = eif_cases::worked_image();
+//! assert_eq!(image.len(), 586);
+//! assert_eq!(eif_cases::crc32(&[b"123456789"]), 0xCBF4_3926);
+//! ```
+#![forbid(unsafe_code)]
+#![deny(missing_docs)]
+
+mod images;
+mod layout;
+mod rolls;
+
+pub use images::{
+    image_cases, image_of_length, stream_case, two_sections, worked_image, ImageCase,
+};
+pub use layout::{
+    crc32, put, put_number, seal, section_end, Layout, Section, CHECKSUM_AT, COUNT_AT, HEADER,
+    MAX_IMAGE, MAX_SECTIONS, OFFSETS_AT, SECTION_HEADER, SIZES_AT, VERSION_AT,
+};
+pub use rolls::{record, roll_cases, roll_of, RollCase, Row, RECORD_HEADER, WORKED_ROLL};

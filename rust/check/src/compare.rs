@@ -1,0 +1,336 @@
+//! The library's answers held to the twin's: every field and every byte of the output.
+
+use crate::{Call, Output, PlanInput, Rng, Tally};
+use eif::raw::{self, Answer, Reading, RollReading};
+use eif::{
+    DataLength, FilePosition, Refusal, RollPosition, RollRecord, Section, SectionType, Stream,
+    StreamPosition,
+};
+use eif_twin as twin;
+use std::fmt::{self, Debug, Display};
+
+/// Names an input in a message.
+struct Input<'a> {
+    kind: &'static str,
+    ordinal: u64,
+    /// Of a plan, the lent data.
+    bytes: &'a [u8],
+    plan: Option<&'a raw::Plan>,
+}
+
+impl Display for Input<'_> {
+    fn fmt(&self, f: &mut fmt::Formatter<'_>) -> fmt::Result {
+        let length = self.bytes.len();
+        write!(f, "{} {}, ", self.kind, self.ordinal)?;
+        if let Some(plan) = self.plan {
+            write!(f, "{plan:?}, ")?;
+        }
+        write!(f, "{length} bytes:")?;
+        for byte in self.bytes.iter().take(4096) {
+            write!(f, " {byte:02x}")?;
+        }
+        Ok(())
+    }
+}
+
+fn same<T: PartialEq + Debug>(input: &Input, what: &str, library: T, twin: T) {
+    assert!(
+        library == twin,
+        "{what}: the library has {library:?}, the twin {twin:?}, for {input}"
+    );
+}
+
+/// A refusal as number and index.
+fn pair(refusal: Refusal) -> (u8, u64) {
+    (refusal.number(), refusal.index())
+}
+
+fn twin_pair(refusal: twin::Refusal) -> (u8, u64) {
+    (refusal.number, refusal.index)
+}
+
+fn twin_answer(answer: Result<u64, twin::Refusal>) -> Answer {
+    match answer.map_err(twin_pair) {
+        Ok(length) => Answer {
+            number: 0,
+            index: 0,
+            length,
+        },
+        Err((number, index)) => Answer {
+            number,
+            index,
+            length: 0,
+        },
+    }
+}
+
+fn twin_reading(answer: &Result<twin::Reading, twin::Refusal>) -> Reading {
+    let reading = match answer {
+        Ok(reading) => reading,
+        Err(refusal) => {
+            return Reading {
+                number: refusal.number,
+                index: refusal.index,
+                first_ramdisk: 32,
+                ..Reading::default()
+            }
+        }
+    };
+    let mut sections = [Section::default(); 32];
+    for (to, from) in sections.iter_mut().zip(&reading.sections) {
+        *to = Section {
+            section_type: SectionType(from.kind),
+            flags: from.flags,
+            position: FilePosition(from.position as u64),
+            length: DataLength(from.length as u64),
+        };
+    }
+    Reading {
+        number: 0,
+        index: 0,
+        version: reading.version,
+        flags: reading.flags,
+        default_mem: reading.default_mem,
+        default_cpus: reading.default_cpus,
+        count: reading.sections.len() as u16,
+        ramdisk_mark: reading.ramdisk_mark(),
+        ramdisk_count: reading.ramdisk_count() as u32,
+        first_ramdisk: reading.first_ramdisk().unwrap_or(32) as u32,
+        sections,
+    }
+}
+
+fn twin_roll_reading(answer: &Result<Vec<twin::Record>, twin::Refusal>) -> RollReading {
+    let list = match answer {
+        Ok(list) => list,
+        Err(refusal) => {
+            return RollReading {
+                number: refusal.number,
+                index: refusal.index,
+                ..RollReading::default()
+            }
+        }
+    };
+    let mut records = [RollRecord::default(); 32];
+    for (to, from) in records.iter_mut().zip(list) {
+        *to = RollRecord {
+            section_type: SectionType(from.kind),
+            position: RollPosition(from.position as u64),
+            length: DataLength(from.length as u64),
+        };
+    }
+    RollReading {
+        number: 0,
+        index: 0,
+        count: list.len() as u64,
+        records,
+    }
+}
+
+/// Runs a call with an output three times, by the C interface, the Rust interface and the twin.
+/// Answers the answer number.
+fn compare_output(
+    input: &Input,
+    what: &str,
+    (length, salt): (usize, u8),
+    c: impl FnOnce(&mut [u8]) -> Answer,
+    rust: impl FnOnce(&mut [u8]) -> Result<usize, Refusal>,
+    twin: impl FnOnce(&mut [u8]) -> Result<usize, twin::Refusal>,
+) -> u8 {
+    let mut outputs = [(); 3].map(|()| Output::new(length, salt));
+    let answer = c(outputs[0].lend());
+    let rust_answer = rust(outputs[1].lend());
+    let twin_answer = twin_answer(twin(outputs[2].lend()).map(|length| length as u64));
+    same(input, what, answer, twin_answer);
+    let same_bytes = outputs[0] == outputs[2] && outputs[1] == outputs[2];
+    assert!(same_bytes, "{what}: other output bytes, for {input}");
+    let start = answer.length as usize;
+    let rest_stays = outputs[0].only_start_changed(start);
+    assert!(
+        rest_stays,
+        "{what}: bytes past {start} changed, for {input}"
+    );
+
+    let expected = match answer.number {
+        0 => Ok(start),
+        number => Err((number, answer.index)),
+    };
+    same(input, what, rust_answer.map_err(pair), expected);
+    answer.number
+}
+
+/// Reads an image, takes its streams and writes its roll.
+pub fn compare_image(rng: &mut Rng, ordinal: u64, image: &[u8], tally: &mut Tally) {
+    let input = &Input {
+        kind: "image",
+        ordinal,
+        bytes: image,
+        plan: None,
+    };
+    tally.add_input();
+    let twin_answer = twin::read(image);
+    let reading = raw::read(image);
+    same(input, "read", reading, twin_reading(&twin_answer));
+    tally.add(Call::Read, reading.number);
+    compare_image_view(input, &twin_answer);
+
+    for stream in Stream::ALL {
+        compare_stream(rng, input, stream, tally);
+    }
+
+    let roll_length = match &twin_answer {
+        Ok(reading) => {
+            let listed = reading.sections.iter().filter(|s| s.kind <= 3);
+            listed.map(|s| 10 + s.length).sum::<usize>() + 10
+        }
+        Err(_) => 60,
+    };
+    let number = compare_output(
+        input,
+        "roll write",
+        (rng.output_length(roll_length), rng.next() as u8),
+        |out| raw::roll_write(image, out),
+        |out| eif::write_roll(image, out),
+        |out| twin::write_roll(image, out),
+    );
+    tally.add(Call::RollWrite, number);
+}
+
+/// The Rust interface's view of an image.
+fn compare_image_view(input: &Input, twin: &Result<twin::Reading, twin::Refusal>) {
+    match (eif::read(input.bytes), twin) {
+        (Ok(image), Ok(reading)) => {
+            let sections = reading.sections.iter();
+            let data = sections.map(|s| &input.bytes[s.position..s.position + s.length]);
+            let data: Vec<&[u8]> = data.collect();
+            let count = image.sections().len();
+            let view: Vec<&[u8]> = (0..count).map(|i| image.section_data(i)).collect();
+            same(input, "section data", view, data);
+            let header = (image.version(), image.flags(), image.default_mem());
+            let twin_header = (reading.version, reading.flags, reading.default_mem);
+            same(input, "header", header, twin_header);
+            same(input, "cpus", image.default_cpus(), reading.default_cpus);
+            same(input, "mark", image.ramdisk_mark(), reading.ramdisk_mark());
+            let ramdisks = (image.ramdisk_count(), image.first_ramdisk());
+            let twin_ramdisks = (reading.ramdisk_count(), reading.first_ramdisk());
+            same(input, "ramdisks", ramdisks, twin_ramdisks);
+        }
+        (Err(refusal), Err(twin)) => same(input, "refusal", pair(refusal), twin_pair(*twin)),
+        (view, _) => panic!("the Rust interface has {view:?}, the twin {twin:?}, for {input}"),
+    }
+}
+
+fn compare_stream(rng: &mut Rng, input: &Input, stream: Stream, tally: &mut Tally) {
+    let image = input.bytes;
+    let (twin_stream, answer) = match stream {
+        Stream::Whole => (twin::Stream::Whole, raw::whole_length(image)),
+        Stream::Boot => (twin::Stream::Boot, raw::boot_length(image)),
+        Stream::App => (twin::Stream::App, raw::app_length(image)),
+    };
+    let length = twin::stream_length(image, twin_stream);
+    same(input, "stream length", answer, twin_answer(length));
+    let view = eif::stream_length(image, stream);
+    same(
+        input,
+        "stream length",
+        view.map(|length| length.0).map_err(pair),
+        length.map_err(twin_pair),
+    );
+    tally.add(Call::Length, answer.number);
+
+    let length = length.unwrap_or(20);
+    let from = match rng.below(6) {
+        0 | 1 => 0,
+        2 => rng.below(length as usize + 1) as u64,
+        3 => length,
+        4 => length + 1,
+        _ => rng.hostile(length),
+    };
+    tally.add_input();
+    let rest = length.saturating_sub(from) as usize;
+    let number = compare_output(
+        input,
+        "stream copy",
+        (rng.output_length(rest), rng.next() as u8),
+        |out| match stream {
+            Stream::Whole => raw::copy_whole(image, StreamPosition(from), out),
+            Stream::Boot => raw::copy_boot(image, StreamPosition(from), out),
+            Stream::App => raw::copy_app(image, StreamPosition(from), out),
+        },
+        |out| eif::copy_stream(image, stream, StreamPosition(from), out),
+        |out| twin::copy_stream(image, twin_stream, from, out),
+    );
+    tally.add(Call::Copy, number);
+}
+
+/// Writes a plan.
+pub fn compare_plan(rng: &mut Rng, ordinal: u64, given: &PlanInput, tally: &mut Tally) {
+    let input = &Input {
+        kind: "plan",
+        ordinal,
+        bytes: &given.data,
+        plan: Some(&given.plan),
+    };
+    tally.add_input();
+    let plan = given.plan;
+    let twin_place = |place: eif::Place| twin::Place {
+        kind: place.section_type.0,
+        flags: place.flags,
+        length: place.length.0,
+    };
+    let twin_plan = twin::Plan {
+        version: plan.version,
+        flags: plan.flags,
+        default_mem: plan.default_mem,
+        default_cpus: plan.default_cpus,
+        count: plan.count,
+        places: plan.places.map(twin_place),
+    };
+    // The Rust interface has as many places as the count says.
+    let places = plan.places.iter().chain(std::iter::repeat(&plan.places[0]));
+    let rust_plan = eif::Plan {
+        version: plan.version,
+        flags: plan.flags,
+        default_mem: plan.default_mem,
+        default_cpus: plan.default_cpus,
+        places: places.take(usize::from(plan.count)).copied().collect(),
+    };
+    let number = compare_output(
+        input,
+        "write",
+        (given.output, rng.next() as u8),
+        |out| raw::write(plan, &given.data, out),
+        |out| eif::write(&rust_plan, &given.data, out),
+        |out| twin::write(&twin_plan, &given.data, out),
+    );
+    tally.add(Call::Write, number);
+}
+
+/// Reads a roll.
+pub fn compare_roll(ordinal: u64, roll: &[u8], tally: &mut Tally) {
+    let input = &Input {
+        kind: "roll",
+        ordinal,
+        bytes: roll,
+        plan: None,
+    };
+    tally.add_input();
+    let twin_answer = twin::read_roll(roll);
+    let reading = raw::roll_read(roll);
+    same(input, "roll read", reading, twin_roll_reading(&twin_answer));
+    tally.add(Call::RollRead, reading.number);
+
+    match (eif::read_roll(roll), twin_answer) {
+        (Ok(view), Ok(list)) => {
+            let data = list
+                .iter()
+                .map(|r| &roll[r.position..r.position + r.length]);
+            let data: Vec<&[u8]> = data.collect();
+            let count = view.records().len();
+            let view: Vec<&[u8]> = (0..count).map(|i| view.record_data(i)).collect();
+            same(input, "record data", view, data);
+        }
+        (Err(refusal), Err(twin)) => same(input, "refusal", pair(refusal), twin_pair(twin)),
+        (view, twin) => panic!("the Rust interface has {view:?}, the twin {twin:?}, for {input}"),
+    }
+}

@@ -1,0 +1,217 @@
+//! Images: valid, damaged and hostile.
+
+use crate::Rng;
+use eif_cases::*;
+
+/// A layout that meets every rule.
+pub fn accepted_layout(rng: &mut Rng) -> Layout {
+    let version = rng.pick(&[2, 3, 4]);
+    let mut types = vec![1, 2];
+    if version >= 3 && rng.once_in(2) {
+        types.push(4);
+    }
+    if version == 4 {
+        types.push(5);
+    }
+    for place in (1..types.len()).rev() {
+        types.swap(place, rng.below(place + 1));
+    }
+    let room = MAX_SECTIONS - types.len();
+    let ramdisks = match rng.below(8) {
+        0 => room,
+        1 => rng.below(room + 1),
+        few => few / 2,
+    };
+    let kernel = types.iter().position(|&kind| kind == 1).unwrap_or(0);
+    for _ in 0..ramdisks {
+        let place = kernel + 1 + rng.below(types.len() - kernel);
+        types.insert(place, 3);
+    }
+    let gaps = rng.once_in(4);
+    let sections = types.into_iter().map(|kind| any_section(rng, kind, gaps));
+    Layout {
+        version,
+        sections: sections.collect(),
+        flags: any_or_zero(rng) as u16,
+        default_mem: any_or_zero(rng),
+        default_cpus: any_or_zero(rng),
+    }
+}
+
+fn any_or_zero(rng: &mut Rng) -> u64 {
+    if rng.once_in(2) {
+        rng.next()
+    } else {
+        0
+    }
+}
+
+fn any_section(rng: &mut Rng, kind: u16, gaps: bool) -> Section {
+    let length = match rng.below(16) {
+        0..=3 => 0,
+        4..=11 => 1 + rng.below(4),
+        12..=14 => rng.below(40),
+        _ => rng.below(300),
+    };
+    Section {
+        kind,
+        flags: any_or_zero(rng) as u16,
+        data: rng.bytes(length),
+        gap: if gaps { rng.below(20) } else { 0 },
+    }
+}
+
+fn any_type(rng: &mut Rng) -> u16 {
+    rng.pick(&[0, 1, 2, 3, 4, 5, 6, 7, 0x0100, 0x0300, 0x0103, 0xffff])
+}
+
+/// Breaks, or only changes, the list of sections.
+fn damage_layout(rng: &mut Rng, layout: &mut Layout) {
+    let count = layout.sections.len();
+    match rng.below(6) {
+        0 => layout.version = rng.pick(&[0, 1, 2, 3, 4, 5, 0x0200, 0xffff]),
+        1 if count > 0 => layout.sections[rng.below(count)].kind = any_type(rng),
+        2 if count > 0 => {
+            layout.sections.remove(rng.below(count));
+        }
+        3 if count < MAX_SECTIONS => {
+            let kind = any_type(rng);
+            let section = any_section(rng, kind, false);
+            layout.sections.insert(rng.below(count + 1), section);
+        }
+        4 if count > 0 => layout.sections.swap(rng.below(count), rng.below(count)),
+        5 if count > 0 => layout.sections[..].rotate_left(rng.below(count)),
+        _ => {}
+    }
+}
+
+/// Fills what the reader ignores: reserved fields, unused table entries, gaps and a tail.
+fn fill_ignored(rng: &mut Rng, image: &mut Vec<u8>, layout: &Layout) {
+    if rng.once_in(4) {
+        put(image, 24, &rng.bytes(2));
+        put(image, 540, &rng.bytes(4));
+    }
+    if rng.once_in(4) {
+        let unused = 8 * (MAX_SECTIONS - layout.sections.len());
+        put(image, SIZES_AT - unused, &rng.bytes(unused));
+        put(image, 540 - unused, &rng.bytes(unused));
+    }
+    for (section, offset) in layout.sections.iter().zip(layout.offsets()) {
+        put(image, offset - section.gap, &rng.bytes(section.gap));
+    }
+    if rng.once_in(8) {
+        let tail = 1 + rng.below(30);
+        image.extend(rng.bytes(tail));
+    }
+}
+
+/// Writes over the image where it is long enough.
+fn put_if_inside(image: &mut [u8], at: usize, bytes: &[u8]) {
+    if at + bytes.len() <= image.len() {
+        put(image, at, bytes);
+    }
+}
+
+/// Changes bytes of an image that was laid out by `layout`.
+fn damage_bytes(rng: &mut Rng, image: &mut Vec<u8>, layout: &Layout) {
+    let count = layout.sections.len();
+    let chosen = rng.below(count.max(1));
+    let offset = *layout.offsets().get(chosen).unwrap_or(&HEADER);
+    let section = layout.sections.get(chosen).cloned().unwrap_or_default();
+    let before = offset - section.gap;
+    let length = section.data.len();
+    let size_at = SIZES_AT + 8 * chosen;
+    match rng.below(14) {
+        0 => put_if_inside(image, rng.below(4), &[rng.next() as u8]),
+        1 => {
+            let count = count as u16;
+            let wrong = [0, 1, 2, 31, 32, 33, 255, 256, 0x0300, 0xffff];
+            let counts = [count.wrapping_sub(1), count + 1, rng.pick(&wrong)];
+            put_if_inside(image, COUNT_AT, &rng.pick(&counts).to_be_bytes());
+        }
+        2 | 3 => {
+            let near = rng.pick(&[before, offset, image.len(), HEADER]);
+            let wrong = rng.hostile(near as u64);
+            put_if_inside(image, OFFSETS_AT + 8 * chosen, &wrong.to_be_bytes());
+        }
+        4..=6 => {
+            let rest = image.len().wrapping_sub(offset + SECTION_HEADER) as u64;
+            let wraps = (offset as u64 + 12).wrapping_neg();
+            let near = rng.pick(&[length as u64, rest, wraps]);
+            let wrong = rng.hostile(near).to_be_bytes();
+            put_if_inside(image, size_at, &wrong);
+            if rng.once_in(2) {
+                put_if_inside(image, offset + 4, &wrong);
+            }
+        }
+        7 => {
+            let wrong = rng.hostile(length as u64);
+            put_if_inside(image, offset + 4, &wrong.to_be_bytes());
+        }
+        8 => put_if_inside(image, offset, &any_type(rng).to_be_bytes()),
+        9 => image.truncate(rng.below(image.len() + 1)),
+        10 => image.truncate(image.len().saturating_sub(1 + rng.below(14))),
+        11 => {
+            let tail = 1 + rng.below(20);
+            image.extend(rng.bytes(tail));
+        }
+        _ if !image.is_empty() => {
+            let at = rng.below(image.len());
+            image[at] ^= 1 << rng.below(8);
+        }
+        _ => {}
+    }
+}
+
+/// A checksum that is wrong in a way that a packer may get it wrong.
+fn spoil_checksum(rng: &mut Rng, image: &mut [u8]) {
+    let right = crc32(&[&image[..CHECKSUM_AT], &image[HEADER..]]);
+    let wrong = match rng.below(6) {
+        0 => right.wrapping_add(1),
+        1 => right.wrapping_sub(1),
+        2 => right.swap_bytes(),
+        3 => !right,
+        4 => crc32(&[&image[..CHECKSUM_AT], &[0; 4], &image[HEADER..]]),
+        _ => 0,
+    };
+    put(image, CHECKSUM_AT, &wrong.to_be_bytes());
+}
+
+/// Any image.
+pub fn any_image(rng: &mut Rng) -> Vec<u8> {
+    if rng.once_in(50) {
+        let length = rng.pick(&[0, 1, 4, 28, 547, 548, 549, 600]);
+        return rng.bytes(length);
+    }
+    let mut layout = accepted_layout(rng);
+    let (layout_faults, byte_faults) = rng.pick(&[
+        (0, 0),
+        (0, 0),
+        (0, 0),
+        (1, 0),
+        (1, 0),
+        (2, 0),
+        (0, 1),
+        (0, 1),
+        (0, 2),
+        (1, 1),
+    ]);
+    for _ in 0..layout_faults {
+        damage_layout(rng, &mut layout);
+    }
+    let mut image = layout.unsealed();
+    fill_ignored(rng, &mut image, &layout);
+    seal(&mut image);
+    for _ in 0..byte_faults {
+        damage_bytes(rng, &mut image, &layout);
+    }
+    if image.len() >= HEADER {
+        match rng.below(10) {
+            0 => spoil_checksum(rng, &mut image),
+            // Some damage stays under a checksum that no longer fits.
+            1..=3 => {}
+            _ => seal(&mut image),
+        }
+    }
+    image
+}

@@ -1,0 +1,22 @@
+//! Inputs for the tests of the proved library, and what holds its answers to the twin's.
+//!
+//! `tests/differential.rs` compares the two on generated inputs, `tests/demands.rs` tries the demands
+//! themselves, and `tests/document.rs` runs document 01's examples.
+#![forbid(unsafe_code)]
+#![deny(missing_docs)]
+
+mod compare;
+mod images;
+mod output;
+mod plans;
+mod rng;
+mod rolls;
+mod tally;
+
+pub use compare::{compare_image, compare_plan, compare_roll};
+pub use images::{accepted_layout, any_image};
+pub use output::Output;
+pub use plans::{accepted_plan, any_plan, PlanInput};
+pub use rng::Rng;
+pub use rolls::any_roll;
+pub use tally::{Call, Tally};

@@ -1,0 +1,220 @@
+//! The demands, tried on generated images: round trips, and what a roll tells of its image.
+
+use eif::{Image, Stream, StreamPosition};
+use eif_cases::{record, Layout, Section};
+use eif_check::{accepted_layout, accepted_plan, any_image, any_roll, Rng};
+
+const TIMES: u64 = 2_000;
+
+fn roll_of(image: &[u8]) -> Vec<u8> {
+    let mut roll = vec![0; image.len()];
+    let length = eif::write_roll(image, &mut roll).unwrap();
+    assert!(length < image.len());
+    roll.truncate(length);
+    roll
+}
+
+/// Type and data of every section of type 1, 2 or 3, in file order.
+fn listed<'a>(image: &Image<'a>) -> Vec<(u16, &'a [u8])> {
+    let sections = image.sections().iter().enumerate();
+    let all = sections.map(|(i, s)| (s.section_type.0, image.section_data(i)));
+    all.filter(|(kind, _)| *kind <= 3).collect()
+}
+
+fn stream_of(image: &[u8], stream: Stream) -> Vec<u8> {
+    let mut out = vec![0; eif::stream_length(image, stream).unwrap().0 as usize];
+    let copied = eif::copy_stream(image, stream, StreamPosition(0), &mut out);
+    assert_eq!(copied, Ok(out.len()));
+    out
+}
+
+#[test]
+fn a_plan_is_read_back() {
+    for ordinal in 0..TIMES {
+        let given = accepted_plan(&mut Rng::of_input(1, ordinal));
+        let plan = eif::Plan {
+            version: given.plan.version,
+            flags: given.plan.flags,
+            default_mem: given.plan.default_mem,
+            default_cpus: given.plan.default_cpus,
+            places: given.plan.places[..usize::from(given.plan.count)].to_vec(),
+        };
+        let mut out = vec![0; given.output];
+        let length = eif::write(&plan, &given.data, &mut out).unwrap();
+        let image = eif::read(&out[..length]).unwrap();
+        assert_eq!(image.plan(), plan);
+        assert_eq!(image.joined_data(), given.data);
+    }
+}
+
+#[test]
+fn a_plain_image_is_written_again() {
+    for ordinal in 0..TIMES {
+        let mut layout = accepted_layout(&mut Rng::of_input(2, ordinal));
+        let gaps: usize = layout.sections.iter().map(|s| s.gap).sum();
+        let bytes = layout.image();
+        let image = eif::read(&bytes).unwrap();
+        let mut out = vec![0; bytes.len()];
+        let length = eif::write(&image.plan(), &image.joined_data(), &mut out).unwrap();
+        assert_eq!(length, bytes.len() - gaps);
+        // Without gaps the layout is plain.
+        layout.sections.iter_mut().for_each(|s| s.gap = 0);
+        assert_eq!(out[..length], layout.image());
+    }
+}
+
+#[test]
+fn a_roll_lists_its_image() {
+    for ordinal in 0..TIMES {
+        let bytes = accepted_layout(&mut Rng::of_input(3, ordinal)).image();
+        let image = eif::read(&bytes).unwrap();
+        let roll = roll_of(&bytes);
+        let view = eif::read_roll(&roll).unwrap();
+        let records = view.records().iter().enumerate();
+        let list: Vec<_> = records
+            .map(|(i, r)| (r.section_type.0, view.record_data(i)))
+            .collect();
+        assert_eq!(list, listed(&image));
+        for cut in 0..roll.len() {
+            assert_eq!(eif::read_roll(&roll[..cut]).unwrap_err().number(), 16);
+        }
+        let longer = [&roll[..], &[0]].concat();
+        assert_eq!(eif::read_roll(&longer).unwrap_err().number(), 18);
+    }
+}
+
+/// Another image that is close to the first in what a roll must tell or must not tell.
+fn neighbour(rng: &mut Rng, layout: &Layout) -> Layout {
+    let mut other = layout.clone();
+    let count = other.sections.len();
+    match rng.below(5) {
+        0 => {
+            // What does not enter the roll.
+            other.flags ^= 1;
+            other.default_mem = rng.next();
+            for section in &mut other.sections {
+                section.flags = rng.next() as u16;
+                section.gap = rng.below(9);
+            }
+        }
+        1 => {
+            // A version without metadata, and with no signature.
+            other.version = 2;
+            other.sections.retain(|s| s.kind <= 3);
+        }
+        2 => other.sections.swap(rng.below(count), rng.below(count)),
+        3 => {
+            // A byte moved from one section's end to the next one's start.
+            let place = rng.below(count - 1);
+            if let Some(byte) = other.sections[place].data.pop() {
+                other.sections[place + 1].data.insert(0, byte);
+            }
+        }
+        _ if count < 32 => other.sections.push(Section::new(3, &[])),
+        _ => {}
+    }
+    other
+}
+
+#[test]
+fn rolls_are_equal_exactly_when_the_listed_sections_are() {
+    let (mut equal, mut different) = (0, 0);
+    for ordinal in 0..TIMES {
+        let mut rng = Rng::of_input(4, ordinal);
+        let layout = accepted_layout(&mut rng);
+        let (one, other) = (layout.image(), neighbour(&mut rng, &layout).image());
+        let Ok(view) = eif::read(&other) else {
+            continue;
+        };
+        let same = listed(&eif::read(&one).unwrap()) == listed(&view);
+        let (one, other) = (roll_of(&one), roll_of(&other));
+        assert_eq!(one == other, same);
+        assert_eq!(one.starts_with(&other) || other.starts_with(&one), same);
+        *(if same { &mut equal } else { &mut different }) += 1;
+    }
+    assert!(equal > 100 && different > 100, "{equal} {different}");
+}
+
+#[test]
+fn an_accepted_roll_is_the_roll_of_an_image() {
+    let mut accepted = 0;
+    for ordinal in 0..TIMES {
+        let bytes = any_roll(&mut Rng::of_input(5, ordinal));
+        let Ok(roll) = eif::read_roll(&bytes) else {
+            continue;
+        };
+        let records = roll.records().iter().enumerate();
+        let sections = records.map(|(i, r)| Section::new(r.section_type.0, roll.record_data(i)));
+        let image = Layout::new(2, sections.collect()).image();
+        assert_eq!(roll_of(&image), bytes);
+        accepted += 1;
+    }
+    assert!(accepted > 100, "{accepted}");
+}
+
+#[test]
+fn whole_is_boot_then_app() {
+    for ordinal in 0..TIMES {
+        let image = accepted_layout(&mut Rng::of_input(6, ordinal)).image();
+        let parts = [Stream::Boot, Stream::App].map(|stream| stream_of(&image, stream));
+        assert_eq!(stream_of(&image, Stream::Whole), parts.concat());
+    }
+}
+
+#[test]
+fn a_stream_copied_in_pieces_is_the_stream() {
+    for ordinal in 0..TIMES / 10 {
+        let mut rng = Rng::of_input(7, ordinal);
+        let image = accepted_layout(&mut rng).image();
+        let stream = rng.pick(&Stream::ALL);
+        let (mut joined, mut piece) = (Vec::new(), vec![0; 1 + rng.below(30)]);
+        loop {
+            let from = StreamPosition(joined.len() as u64);
+            match eif::copy_stream(&image, stream, from, &mut piece).unwrap() {
+                0 => break,
+                copied => joined.extend_from_slice(&piece[..copied]),
+            }
+        }
+        assert_eq!(joined, stream_of(&image, stream));
+    }
+}
+
+#[test]
+fn a_refused_image_gives_one_refusal_everywhere() {
+    for ordinal in 0..TIMES {
+        let image = any_image(&mut Rng::of_input(8, ordinal));
+        let Err(refusal) = eif::read(&image) else {
+            continue;
+        };
+        let mut out = [0xaa; 64];
+        assert_eq!(eif::write_roll(&image, &mut out), Err(refusal));
+        for stream in Stream::ALL {
+            assert_eq!(eif::stream_length(&image, stream), Err(refusal));
+            let past = StreamPosition(u64::MAX);
+            let answer = eif::copy_stream(&image, stream, past, &mut out);
+            assert_eq!(answer, Err(refusal));
+        }
+        assert_eq!(out, [0xaa; 64]);
+    }
+}
+
+#[test]
+fn a_roll_has_at_most_32_records() {
+    let mut records = [record(0, 1, &[]), record(0, 2, &[])].concat();
+    for _ in 0..30 {
+        records.extend(record(0, 3, &[]));
+    }
+    let roll = [&records[..], &record(0, 0, &[])].concat();
+    assert_eq!(eif::read_roll(&roll).unwrap().records().len(), 32);
+    // A 33rd record is 5 whatever its length, unless its header is cut or bad.
+    for (last, number, index) in [
+        (record(0, 3, &[]), 5, 0),
+        (record(u64::MAX, 1, &[]), 5, 0),
+        (record(u64::MAX, 4, &[]), 17, 32),
+        (record(1, 0, &[]), 17, 32),
+        (vec![0; 9], 16, 32),
+    ] {
+        let refusal = eif::read_roll(&[&records[..], &last].concat()).unwrap_err();
+        assert_eq!((refusal.number(), refusal.index()), (number, index));
+    }
+}

@@ -1,0 +1,151 @@
+//! The library beside the twin on generated inputs: valid, damaged and hostile.
+//!
+//! The environment variable EIF_SEED gives another seed, and EIF_TIMES that many times the inputs.
+
+use eif_cases::{image_of_length, record, MAX_IMAGE};
+use eif_check::*;
+use std::env;
+use std::io::{self, Write};
+use std::ops::Range;
+use std::thread;
+
+const SEED: u64 = 0x2024_0621;
+const IMAGES: u64 = 100_000;
+const PLANS: u64 = 60_000;
+const ROLLS: u64 = 80_000;
+
+fn variable(name: &str, default: u64) -> u64 {
+    let Ok(text) = env::var(name) else {
+        return default;
+    };
+    let number = match text.strip_prefix("0x") {
+        Some(digits) => u64::from_str_radix(digits, 16),
+        None => text.parse(),
+    };
+    number.unwrap_or_else(|_| panic!("{name} is no number: {text}"))
+}
+
+/// Writes a line that is seen also where the test passes.
+fn say(line: &str) {
+    writeln!(io::stderr(), "{line}").expect("standard error takes a line");
+}
+
+fn images(seed: u64, ordinals: Range<u64>, tally: &mut Tally) {
+    for ordinal in ordinals {
+        let mut rng = Rng::of_input(seed, ordinal);
+        let image = any_image(&mut rng);
+        compare_image(&mut rng, ordinal, &image, tally);
+    }
+}
+
+fn plans(seed: u64, ordinals: Range<u64>, tally: &mut Tally) {
+    for ordinal in ordinals {
+        let mut rng = Rng::of_input(!seed, ordinal);
+        let plan = any_plan(&mut rng);
+        compare_plan(&mut rng, ordinal, &plan, tally);
+    }
+}
+
+fn rolls(seed: u64, ordinals: Range<u64>, tally: &mut Tally) {
+    for ordinal in ordinals {
+        let mut rng = Rng::of_input(seed.rotate_left(32), ordinal);
+        compare_roll(ordinal, &any_roll(&mut rng), tally);
+    }
+}
+
+/// Images about as long as they may be.
+fn long_images(seed: u64, tally: &mut Tally) {
+    let mut rng = Rng::of_input(seed, u64::MAX);
+    for length in [MAX_IMAGE - 1, MAX_IMAGE] {
+        compare_image(&mut rng, length as u64, &image_of_length(length), tally);
+    }
+    let longer = image_of_length(MAX_IMAGE + 100);
+    for length in MAX_IMAGE + 1..=longer.len() {
+        compare_image(&mut rng, length as u64, &longer[..length], tally);
+    }
+}
+
+/// Plans whose images are about as long as they may be, with their data.
+fn long_plans(seed: u64, tally: &mut Tally) {
+    let mut rng = Rng::of_input(!seed, u64::MAX);
+    for length in MAX_IMAGE - 1..=MAX_IMAGE + 1 {
+        for output in [length - 1, length, length + 9] {
+            let mut given = accepted_plan(&mut rng);
+            let missing = length - 548 - 12 * usize::from(given.plan.count) - given.data.len();
+            given.plan.places[0].length.0 += missing as u64;
+            given.data.resize(given.data.len() + missing, 0x5a);
+            given.output = output;
+            compare_plan(&mut rng, length as u64, &given, tally);
+        }
+    }
+}
+
+/// Rolls whose images would be about as long as they may be.
+fn long_rolls(tally: &mut Tally) {
+    let most = MAX_IMAGE - 548 - 24;
+    for length in most - 3..most + 4 {
+        let mut roll = record(length as u64, 1, &vec![0x5a; length]);
+        let kernel = roll.len();
+        for rest in [
+            &[record(0, 2, &[]), record(0, 0, &[])][..],
+            &[record(1, 2, &[7]), record(0, 0, &[])],
+            &[record(0, 2, &[]), record(0, 3, &[]), record(0, 0, &[])],
+            &[record(0, 2, &[]), record(0, 0, &[]), vec![0]],
+            &[record(0, 3, &[]), record(0, 0, &[])],
+            &[record(0, 2, &[])],
+        ] {
+            roll.truncate(kernel);
+            roll.extend(rest.concat());
+            compare_roll(length as u64, &roll, tally);
+        }
+    }
+}
+
+/// The share `part` of `parts` of a number of inputs.
+fn share(total: u64, part: u64, parts: u64) -> Range<u64> {
+    total * part / parts..total * (part + 1) / parts
+}
+
+#[test]
+fn library_and_twin_agree() {
+    let seed = variable("EIF_SEED", SEED);
+    let times = variable("EIF_TIMES", 1);
+    say(&format!("seed {seed:#x} (EIF_SEED sets another)"));
+    let parts = thread::available_parallelism().map_or(2, |n| n.get() as u64);
+    let mut total = Tally::default();
+    thread::scope(|scope| {
+        let run = |part: u64| {
+            let mut tally = Tally::default();
+            images(seed, share(IMAGES * times, part, parts), &mut tally);
+            plans(seed, share(PLANS * times, part, parts), &mut tally);
+            rolls(seed, share(ROLLS * times, part, parts), &mut tally);
+            if part == 0 {
+                long_images(seed, &mut tally);
+                long_plans(seed, &mut tally);
+            }
+            if part == parts - 1 {
+                long_rolls(&mut tally);
+            }
+            tally
+        };
+        let threads: Vec<_> = (0..parts)
+            .map(|part| scope.spawn(move || run(part)))
+            .collect();
+        for thread in threads {
+            match thread.join() {
+                Ok(tally) => total += &tally,
+                Err(panic) => std::panic::resume_unwind(panic),
+            }
+        }
+    });
+    say(&format!("{} inputs\n{total}", total.inputs()));
+
+    // The generator reaches every number that a call may answer, and no call answers another.
+    for call in Call::ALL {
+        assert_eq!(total.reached(call), call.numbers(), "{call:?}");
+    }
+    for number in 0..20 {
+        assert!(total.of_number(number) > 0, "{number} never occurred");
+    }
+    assert!(total.inputs() >= 200_000);
+}

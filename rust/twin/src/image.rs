@@ -1,0 +1,150 @@
+//! Reading an image.
+
+use crate::crc32::Crc32;
+use crate::rules::*;
+
+/// A section of an accepted image.
+#[derive(Clone, Copy, Debug, PartialEq, Eq)]
+pub struct Section {
+    /// Its type, 1 to 5.
+    pub kind: u16,
+    /// Its flags, not judged.
+    pub flags: u16,
+    /// Where its data begin in the file.
+    pub position: usize,
+    /// How many bytes of data it has.
+    pub length: usize,
+}
+
+impl Section {
+    pub(crate) fn data<'a>(&self, image: &'a [u8]) -> &'a [u8] {
+        &image[self.position..][..self.length]
+    }
+}
+
+/// What an accepted image holds.
+#[derive(Clone, Debug, PartialEq, Eq)]
+pub struct Reading {
+    /// 2, 3 or 4.
+    pub version: u16,
+    /// Not judged.
+    pub flags: u16,
+    /// Not judged.
+    pub default_mem: u64,
+    /// Not judged.
+    pub default_cpus: u64,
+    /// In file order.
+    pub sections: Vec<Section>,
+}
+
+impl Reading {
+    /// The sections of one type, in file order.
+    pub(crate) fn of(&self, kind: u16) -> impl Iterator<Item = &Section> {
+        self.sections.iter().filter(move |s| s.kind == kind)
+    }
+
+    /// Bit i is one exactly when section i is a ramdisk.
+    pub fn ramdisk_mark(&self) -> u32 {
+        let ramdisks = self.sections.iter().map(|s| u32::from(s.kind == RAMDISK));
+        ramdisks.enumerate().map(|(i, bit)| bit << i).sum()
+    }
+
+    /// How many sections are ramdisks.
+    pub fn ramdisk_count(&self) -> usize {
+        self.of(RAMDISK).count()
+    }
+
+    /// The index of the first ramdisk.
+    pub fn first_ramdisk(&self) -> Option<usize> {
+        self.sections.iter().position(|s| s.kind == RAMDISK)
+    }
+}
+
+fn u16_at(bytes: &[u8], at: usize) -> u16 {
+    u16::from_be_bytes(bytes[at..at + 2].try_into().unwrap())
+}
+
+fn u32_at(bytes: &[u8], at: usize) -> u32 {
+    u32::from_be_bytes(bytes[at..at + 4].try_into().unwrap())
+}
+
+fn u64_at(bytes: &[u8], at: usize) -> u64 {
+    u64::from_be_bytes(bytes[at..at + 8].try_into().unwrap())
+}
+
+/// The checksum that an image of at least 548 bytes should carry.
+pub(crate) fn checksum(image: &[u8]) -> u32 {
+    Crc32::new()
+        .update(&image[..CHECKSUM_AT])
+        .update(&image[HEADER..])
+        .finish()
+}
+
+/// Reads an image.
+pub fn read(image: &[u8]) -> Result<Reading, Refusal> {
+    if image.len() > MAX_IMAGE {
+        return refuse(1, 0);
+    }
+    if image.len() < HEADER {
+        return refuse(2, 0);
+    }
+    if image[..4] != MAGIC {
+        return refuse(3, 0);
+    }
+    let version = u16_at(image, VERSION_AT);
+    if !known_version(version) {
+        return refuse(4, 0);
+    }
+    let count = usize::from(u16_at(image, COUNT_AT));
+    if !(2..=MAX_SECTIONS).contains(&count) {
+        return refuse(5, 0);
+    }
+    let sections = read_sections(image, version, count)?;
+    if checksum(image) != u32_at(image, CHECKSUM_AT) {
+        return refuse(13, 0);
+    }
+    Ok(Reading {
+        version,
+        flags: u16_at(image, FLAGS_AT),
+        default_mem: u64_at(image, MEM_AT),
+        default_cpus: u64_at(image, CPUS_AT),
+        sections,
+    })
+}
+
+/// Rules 6 to 12.
+fn read_sections(image: &[u8], version: u16, count: usize) -> Result<Vec<Section>, Refusal> {
+    let mut sections = Vec::with_capacity(count);
+    let mut seen = Seen::default();
+    let mut end = HEADER as u64;
+    for index in 0..count {
+        let offset = u64_at(image, OFFSETS_AT + 8 * index);
+        let size = u64_at(image, SIZES_AT + 8 * index);
+        if offset < end {
+            return refuse(6, index);
+        }
+        // A sum that does not fit 64 bits is past the end of the file too.
+        let position = offset.checked_add(SECTION_HEADER as u64);
+        end = match position.and_then(|position| position.checked_add(size)) {
+            Some(end) if end <= image.len() as u64 => end,
+            _ => return refuse(7, index),
+        };
+        let header = &image[offset as usize..][..SECTION_HEADER];
+        if u64_at(header, 4) != size {
+            return refuse(8, index);
+        }
+        let kind = u16_at(header, 0);
+        if !allowed(kind, version) {
+            return refuse(9, index);
+        }
+        seen.add(kind, index)?;
+        sections.push(Section {
+            kind,
+            flags: u16_at(header, 2),
+            position: offset as usize + SECTION_HEADER,
+            length: size as usize,
+        });
+    }
+    seen.complete(version)?;
+    Ok(sections)
+}

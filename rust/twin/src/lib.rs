@@ -1,0 +1,27 @@
+//! Enclave image files in ordinary Rust.
+//!
+//! Written from document 01 alone, to be compared with the proved library: it gives the same answers
+//! and shares no code with it. It is also what the library's speed is measured against.
+//!
+//! ```
+//! use eif_twin::{read_roll, Refusal};
+//!
+//! // Ten zero bytes are an end record with nothing before it: kernel and command line are missing.
+//! assert_eq!(read_roll(&[0; 10]), Err(Refusal { number: 12, index: 0 }));
+//! ```
+#![forbid(unsafe_code)]
+#![deny(missing_docs)]
+
+mod crc32;
+mod image;
+mod plan;
+mod roll;
+mod rules;
+mod stream;
+
+pub use crc32::Crc32;
+pub use image::{read, Reading, Section};
+pub use plan::{write, Place, Plan};
+pub use roll::{read_roll, write_roll, Record};
+pub use rules::Refusal;
+pub use stream::{copy_stream, stream_length, Stream};

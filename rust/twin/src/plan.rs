@@ -1,0 +1,102 @@
+//! Writing the plain image of a plan.
+
+use crate::image::checksum;
+use crate::rules::*;
+
+/// A section to be written.
+#[derive(Clone, Copy, Debug, Default, PartialEq, Eq)]
+pub struct Place {
+    /// Its type.
+    pub kind: u16,
+    /// Its flags.
+    pub flags: u16,
+    /// How many bytes of data it has.
+    pub length: u64,
+}
+
+/// An image to be written.
+#[derive(Clone, Debug, PartialEq, Eq)]
+pub struct Plan {
+    /// 2, 3 or 4, or the plan is refused.
+    pub version: u16,
+    /// Carried as it is.
+    pub flags: u16,
+    /// Carried as it is.
+    pub default_mem: u64,
+    /// Carried as it is.
+    pub default_cpus: u64,
+    /// How many of `places` are used.
+    pub count: u16,
+    /// The sections in file order; places past the count are ignored.
+    pub places: [Place; MAX_SECTIONS],
+}
+
+/// Writes the plain image of `plan`, with `data` as the sections' data joined, over the start of
+/// `out`. Answers the image's length.
+pub fn write(plan: &Plan, data: &[u8], out: &mut [u8]) -> Result<usize, Refusal> {
+    if !known_version(plan.version) {
+        return refuse(4, 0);
+    }
+    let count = usize::from(plan.count);
+    if !(2..=MAX_SECTIONS).contains(&count) {
+        return refuse(5, 0);
+    }
+    let places = &plan.places[..count];
+    let mut seen = Seen::default();
+    for (index, place) in places.iter().enumerate() {
+        if !allowed(place.kind, plan.version) {
+            return refuse(9, index);
+        }
+        seen.add(place.kind, index)?;
+    }
+    seen.complete(plan.version)?;
+
+    let sum: u128 = places.iter().map(|place| u128::from(place.length)).sum();
+    let total = (HEADER + SECTION_HEADER * count) as u128 + sum;
+    if total > MAX_IMAGE as u128 {
+        return refuse(1, 0);
+    }
+    if sum != data.len() as u128 {
+        return refuse(15, 0);
+    }
+    let total = total as usize;
+    if out.len() < total {
+        return refuse(14, 0);
+    }
+    write_image(plan, places, data, &mut out[..total]);
+    Ok(total)
+}
+
+/// Fills `image`, which is as long as the plan's image.
+fn write_image(plan: &Plan, places: &[Place], data: &[u8], image: &mut [u8]) {
+    image[..HEADER].fill(0);
+    image[..4].copy_from_slice(&MAGIC);
+    put(image, VERSION_AT, &plan.version.to_be_bytes());
+    put(image, FLAGS_AT, &plan.flags.to_be_bytes());
+    put(image, MEM_AT, &plan.default_mem.to_be_bytes());
+    put(image, CPUS_AT, &plan.default_cpus.to_be_bytes());
+    put(image, COUNT_AT, &plan.count.to_be_bytes());
+    let mut offset = HEADER;
+    let mut rest = data;
+    for (index, place) in places.iter().enumerate() {
+        put(
+            image,
+            OFFSETS_AT + 8 * index,
+            &(offset as u64).to_be_bytes(),
+        );
+        put(image, SIZES_AT + 8 * index, &place.length.to_be_bytes());
+        put(image, offset, &place.kind.to_be_bytes());
+        put(image, offset + 2, &place.flags.to_be_bytes());
+        put(image, offset + 4, &place.length.to_be_bytes());
+        let (section, others) = rest.split_at(place.length as usize);
+        put(image, offset + SECTION_HEADER, section);
+        offset += SECTION_HEADER + section.len();
+        rest = others;
+    }
+    let checksum = checksum(image);
+    put(image, CHECKSUM_AT, &checksum.to_be_bytes());
+}
+
+fn put(out: &mut [u8], at: usize, bytes: &[u8]) {
+    out[at..at + bytes.len()].copy_from_slice(bytes);
+}

@@ -1,0 +1,85 @@
+//! The boot roll: kernel, command line and ramdisks in file order.
+
+use crate::image::read;
+use crate::rules::*;
+
+const RECORD_HEADER: usize = 10;
+
+/// A record of an accepted roll.
+#[derive(Clone, Copy, Debug, PartialEq, Eq)]
+pub struct Record {
+    /// Its type, 1 to 3.
+    pub kind: u16,
+    /// Where its data begin in the roll.
+    pub position: usize,
+    /// How many bytes of data it has.
+    pub length: usize,
+}
+
+/// Writes the roll of `image` over the start of `out`. Answers the roll's length.
+pub fn write_roll(image: &[u8], out: &mut [u8]) -> Result<usize, Refusal> {
+    let reading = read(image)?;
+    let listed = || reading.sections.iter().filter(|s| s.kind <= RAMDISK);
+    let length = listed().map(|s| RECORD_HEADER + s.length).sum::<usize>() + RECORD_HEADER;
+    if out.len() < length {
+        return refuse(14, 0);
+    }
+    let mut at = 0;
+    let mut put = |bytes: &[u8]| {
+        out[at..at + bytes.len()].copy_from_slice(bytes);
+        at += bytes.len();
+    };
+    for section in listed() {
+        put(&(section.length as u64).to_le_bytes());
+        put(&section.kind.to_le_bytes());
+        put(section.data(image));
+    }
+    put(&[0; RECORD_HEADER]);
+    Ok(length)
+}
+
+/// Reads a roll: its records but the end record.
+pub fn read_roll(roll: &[u8]) -> Result<Vec<Record>, Refusal> {
+    let mut records = Vec::with_capacity(MAX_SECTIONS);
+    let mut seen = Seen::default();
+    let mut at = 0;
+    loop {
+        let index = records.len();
+        let Some(header) = roll.get(at..at + RECORD_HEADER) else {
+            return refuse(16, index);
+        };
+        let length = u64::from_le_bytes(header[..8].try_into().unwrap());
+        let kind = u16::from_le_bytes(header[8..].try_into().unwrap());
+        if kind > RAMDISK || (kind == 0 && length != 0) {
+            return refuse(17, index);
+        }
+        at += RECORD_HEADER;
+        if kind == 0 {
+            break;
+        }
+        if index == MAX_SECTIONS {
+            return refuse(5, 0);
+        }
+        if length > (roll.len() - at) as u64 {
+            return refuse(16, index);
+        }
+        let length = length as usize;
+        seen.add(kind, index)?;
+        records.push(Record {
+            kind,
+            position: at,
+            length,
+        });
+        at += length;
+    }
+    if at < roll.len() {
+        return refuse(18, 0);
+    }
+    // A roll has no metadata, so the rule is that of the first version.
+    seen.complete(2)?;
+    let sections: usize = records.iter().map(|r| SECTION_HEADER + r.length).sum();
+    if HEADER + sections > MAX_IMAGE {
+        return refuse(1, 0);
+    }
+    Ok(records)
+}

@@ -1,0 +1,87 @@
+//! What the reader, the writer and the roll have in common.
+
+pub(crate) const MAX_IMAGE: usize = 16_777_216;
+pub(crate) const MAX_SECTIONS: usize = 32;
+pub(crate) const HEADER: usize = 548;
+pub(crate) const SECTION_HEADER: usize = 12;
+
+pub(crate) const MAGIC: [u8; 4] = *b".eif";
+
+// Positions in the header.
+pub(crate) const VERSION_AT: usize = 4;
+pub(crate) const FLAGS_AT: usize = 6;
+pub(crate) const MEM_AT: usize = 8;
+pub(crate) const CPUS_AT: usize = 16;
+pub(crate) const COUNT_AT: usize = 26;
+pub(crate) const OFFSETS_AT: usize = 28;
+pub(crate) const SIZES_AT: usize = 284;
+pub(crate) const CHECKSUM_AT: usize = 544;
+
+// Section types.
+pub(crate) const KERNEL: u16 = 1;
+pub(crate) const COMMAND_LINE: u16 = 2;
+pub(crate) const RAMDISK: u16 = 3;
+pub(crate) const SIGNATURE: u16 = 4;
+pub(crate) const METADATA: u16 = 5;
+
+/// Why something was refused.
+#[derive(Clone, Copy, Debug, PartialEq, Eq)]
+pub struct Refusal {
+    /// Document 01's answer number, 1 to 19.
+    pub number: u8,
+    /// Index of the section or record, 0 where the number has none.
+    pub index: u64,
+}
+
+pub(crate) fn refuse<T>(number: u8, index: usize) -> Result<T, Refusal> {
+    Err(Refusal {
+        number,
+        index: index as u64,
+    })
+}
+
+pub(crate) fn known_version(version: u16) -> bool {
+    (2..=4).contains(&version)
+}
+
+pub(crate) fn allowed(kind: u16, version: u16) -> bool {
+    match kind {
+        KERNEL | COMMAND_LINE | RAMDISK => true,
+        SIGNATURE => version >= 3,
+        METADATA => version >= 4,
+        _ => false,
+    }
+}
+
+/// The section types met so far, of types 1 to 5.
+#[derive(Default)]
+pub(crate) struct Seen([bool; 6]);
+
+impl Seen {
+    /// Takes one section more, or refuses it by 10 or 11.
+    pub(crate) fn add(&mut self, kind: u16, index: usize) -> Result<(), Refusal> {
+        if kind == RAMDISK {
+            if !self.has(KERNEL) {
+                return refuse(10, index);
+            }
+        } else if self.has(kind) {
+            return refuse(11, index);
+        }
+        self.0[usize::from(kind)] = true;
+        Ok(())
+    }
+
+    pub(crate) fn has(&self, kind: u16) -> bool {
+        self.0[usize::from(kind)]
+    }
+
+    /// Refuses by 12 where a type that must be there is not.
+    pub(crate) fn complete(&self, version: u16) -> Result<(), Refusal> {
+        let metadata = version < 4 || self.has(METADATA);
+        if self.has(KERNEL) && self.has(COMMAND_LINE) && metadata {
+            Ok(())
+        } else {
+            refuse(12, 0)
+        }
+    }
+}

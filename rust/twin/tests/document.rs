@@ -1,0 +1,157 @@
+//! Document 01's examples through the twin.
+
+use eif_cases::{
+    image_cases, image_of_length, roll_cases, stream_case, two_sections, worked_image, MAX_IMAGE,
+    WORKED_ROLL,
+};
+use eif_twin::*;
+
+fn refused(number: u8, index: u64) -> Refusal {
+    Refusal { number, index }
+}
+
+fn worked_plan() -> Plan {
+    let mut places = [Place::default(); 32];
+    for (place, (kind, length)) in places.iter_mut().zip([(1, 1), (2, 1), (3, 0)]) {
+        *place = Place {
+            kind,
+            flags: 0,
+            length,
+        };
+    }
+    Plan {
+        version: 2,
+        flags: 0,
+        default_mem: 0,
+        default_cpus: 0,
+        count: 3,
+        places,
+    }
+}
+
+#[test]
+fn the_worked_image_is_read() {
+    let reading = read(&worked_image()).unwrap();
+    let rows: Vec<_> = reading
+        .sections
+        .iter()
+        .map(|s| (s.kind, s.position - 12, s.length))
+        .collect();
+    assert_eq!(rows, [(1, 548, 1), (2, 561, 1), (3, 574, 0)]);
+    assert_eq!((reading.version, reading.flags), (2, 0));
+    assert_eq!((reading.default_mem, reading.default_cpus), (0, 0));
+    assert_eq!(reading.ramdisk_mark(), 4);
+    assert_eq!(reading.ramdisk_count(), 1);
+    assert_eq!(reading.first_ramdisk(), Some(2));
+}
+
+#[test]
+fn the_worked_image_is_written() {
+    let mut out = [0xaa; 600];
+    assert_eq!(write(&worked_plan(), b"Ka", &mut out), Ok(586));
+    assert_eq!(out[..586], worked_image());
+    assert_eq!(out[586..], [0xaa; 14]);
+    assert_eq!(out[544..548], [0x86, 0xc2, 0x27, 0x31]);
+
+    let mut short = [0xaa; 585];
+    assert_eq!(
+        write(&worked_plan(), b"Ka", &mut short),
+        Err(refused(14, 0))
+    );
+    assert_eq!(
+        write(&worked_plan(), b"Kab", &mut short),
+        Err(refused(15, 0))
+    );
+    assert_eq!(short, [0xaa; 585]);
+}
+
+#[test]
+fn sums_of_a_plan_do_not_wrap() {
+    let mut plan = worked_plan();
+    plan.places[0].length = u64::MAX;
+    plan.places[1].length = 3;
+    assert_eq!(write(&plan, b"Ka", &mut [0; 600]), Err(refused(1, 0)));
+}
+
+#[test]
+fn the_worked_roll_is_written() {
+    let mut out = [0xaa; 50];
+    assert_eq!(write_roll(&worked_image(), &mut out), Ok(42));
+    assert_eq!(out[..42], WORKED_ROLL);
+    assert_eq!(out[42..], [0xaa; 8]);
+}
+
+#[test]
+fn a_roll_does_not_fit_41_bytes() {
+    let mut out = [0xaa; 41];
+    assert_eq!(write_roll(&worked_image(), &mut out), Err(refused(14, 0)));
+    assert_eq!(out, [0xaa; 41]);
+}
+
+#[test]
+fn rolls() {
+    for case in roll_cases() {
+        let answer = read_roll(&case.roll)
+            .map(|records| {
+                let row = |r: &Record| (r.kind, r.position as u64, r.length as u64);
+                records.iter().map(row).collect::<Vec<_>>()
+            })
+            .map_err(|refusal| (refusal.number, refusal.index));
+        assert_eq!(answer, case.answer, "{}", case.name);
+    }
+}
+
+#[test]
+fn images() {
+    for case in image_cases() {
+        let answer = match read(&case.image) {
+            Ok(_) => (0, 0),
+            Err(refusal) => (refusal.number, refusal.index),
+        };
+        assert_eq!(answer, (case.number, case.index), "{}", case.name);
+    }
+}
+
+#[test]
+fn the_longest_image() {
+    assert!(read(&image_of_length(MAX_IMAGE)).is_ok());
+    let longer = image_of_length(MAX_IMAGE + 1);
+    assert_eq!(read(&longer), Err(refused(1, 0)));
+}
+
+#[test]
+fn stream_positions() {
+    for (image, lengths) in [(worked_image(), [2, 2, 0]), (two_sections(), [1, 1, 0])] {
+        for (stream, length) in [Stream::Whole, Stream::Boot, Stream::App]
+            .into_iter()
+            .zip(lengths)
+        {
+            assert_eq!(stream_length(&image, stream), Ok(length));
+            let mut out = [0xaa; 8];
+            assert_eq!(copy_stream(&image, stream, length, &mut out), Ok(0));
+            assert_eq!(
+                copy_stream(&image, stream, length + 1, &mut out),
+                Err(refused(19, 0))
+            );
+            assert_eq!(out, [0xaa; 8]);
+        }
+    }
+}
+
+#[test]
+fn streams_hold_the_kernel_first() {
+    let (image, streams) = stream_case();
+    for (stream, bytes) in [Stream::Whole, Stream::Boot, Stream::App]
+        .into_iter()
+        .zip(streams)
+    {
+        let mut out = [0; 16];
+        assert_eq!(
+            copy_stream(&image, stream, 1, &mut out),
+            Ok(bytes.len() - 1)
+        );
+        assert_eq!(out[..bytes.len() - 1], bytes[1..]);
+        assert_eq!(copy_stream(&image, stream, 1, &mut out[..2]), Ok(2));
+        assert_eq!(out[..2], bytes[1..3]);
+    }
+}

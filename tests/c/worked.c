@@ -1,0 +1,183 @@
+/*
+ * Document 01's worked example through the C interface. Compiles as C99 and as C++.
+ * Prints one line and ends with status 0, or says what differs and ends with status 1.
+ */
+#include "eif.h"
+
+#include <stdio.h>
+#include <string.h>
+
+enum { IMAGE_LENGTH = 586, ROLL_LENGTH = 42, STAYS = 0xaa };
+
+/* The layout of each struct, as the Rust interface has it. A wrong size is a negative array length. */
+typedef char layout_of_section[sizeof(eif_section) == 24 ? 1 : -1];
+typedef char layout_of_place[sizeof(eif_place) == 16 ? 1 : -1];
+typedef char layout_of_plan[sizeof(eif_plan) == 544 ? 1 : -1];
+typedef char layout_of_plan_places[offsetof(eif_plan, places) == 32 ? 1 : -1];
+typedef char layout_of_reading[sizeof(eif_reading) == 824 ? 1 : -1];
+typedef char layout_of_reading_sections[offsetof(eif_reading, sections) == 56 ? 1 : -1];
+typedef char layout_of_answer[sizeof(eif_answer) == 24 ? 1 : -1];
+typedef char layout_of_roll_record[sizeof(eif_roll_record) == 24 ? 1 : -1];
+typedef char layout_of_roll_reading[sizeof(eif_roll_reading) == 792 ? 1 : -1];
+typedef char layout_of_roll_records[offsetof(eif_roll_reading, records) == 24 ? 1 : -1];
+
+static const uint8_t expected_roll[ROLL_LENGTH] = {
+    0x01, 0, 0, 0, 0, 0, 0, 0, 0x01, 0, 0x4b,
+    0x01, 0, 0, 0, 0, 0, 0, 0, 0x02, 0, 0x61,
+    0x00, 0, 0, 0, 0, 0, 0, 0, 0x03, 0,
+    0x00, 0, 0, 0, 0, 0, 0, 0, 0x00, 0};
+
+static int failures = 0;
+
+static void check(int holds, const char *what) {
+    if (!holds) {
+        printf("differs: %s\n", what);
+        failures++;
+    }
+}
+
+static int is(eif_answer answer, unsigned number, uint64_t length) {
+    return answer.number == number && answer.index == 0 && answer.length == length;
+}
+
+/* All bytes from begin up to end still have their first value. */
+static int stays(const uint8_t *bytes, size_t begin, size_t end) {
+    for (size_t i = begin; i < end; i++) {
+        if (bytes[i] != STAYS) {
+            return 0;
+        }
+    }
+    return 1;
+}
+
+/* The 586 bytes, each field at its place; the checksum is that of an independent implementation. */
+static void expect_image(uint8_t *image) {
+    static const uint8_t checksum[4] = {0x86, 0xc2, 0x27, 0x31};
+    memset(image, 0, IMAGE_LENGTH);
+    memcpy(image, ".eif", 4);
+    image[5] = 2;  /* version */
+    image[27] = 3; /* num_sections */
+    image[34] = 548 / 256;
+    image[35] = 548 % 256;
+    image[42] = 561 / 256;
+    image[43] = 561 % 256;
+    image[50] = 574 / 256;
+    image[51] = 574 % 256;
+    image[291] = 1; /* sizes */
+    image[299] = 1;
+    memcpy(image + 544, checksum, 4);
+    image[549] = 1; /* kernel */
+    image[559] = 1;
+    image[560] = 0x4b;
+    image[562] = 2; /* command line */
+    image[572] = 1;
+    image[573] = 0x61;
+    image[575] = 3; /* ramdisk */
+}
+
+static void put_place(eif_plan *plan, unsigned i, uint16_t type, uint64_t length) {
+    plan->places[i].type = type;
+    plan->places[i].length.value = length;
+}
+
+static void try_write(const uint8_t *image) {
+    static const uint8_t data[3] = {0x4b, 0x61, 0x00};
+    uint8_t out[600];
+    eif_plan plan;
+    memset(&plan, 0, sizeof plan);
+    plan.version = 2;
+    plan.count = 3;
+    put_place(&plan, 0, EIF_KERNEL, 1);
+    put_place(&plan, 1, EIF_COMMAND_LINE, 1);
+    put_place(&plan, 2, EIF_RAMDISK, 0);
+
+    memset(out, STAYS, sizeof out);
+    check(is(eif_write(plan, data, 2, out, IMAGE_LENGTH - 1), EIF_OUTPUT_TOO_SHORT, 0), "write, 585");
+    check(is(eif_write(plan, data, 3, out, sizeof out), EIF_DATA_LENGTH_DIFFERS, 0), "write, data");
+    check(stays(out, 0, sizeof out), "output of a refused write");
+    check(is(eif_write(plan, data, 2, out, sizeof out), EIF_ACCEPTED, IMAGE_LENGTH), "write");
+    check(memcmp(out, image, IMAGE_LENGTH) == 0, "image written");
+    check(stays(out, IMAGE_LENGTH, sizeof out), "output past the image");
+}
+
+static void try_read(const uint8_t *image) {
+    static const uint64_t offsets[3] = {548, 561, 574};
+    static const uint64_t lengths[3] = {1, 1, 0};
+    eif_reading reading = eif_read(image, IMAGE_LENGTH);
+    check(reading.number == EIF_ACCEPTED && reading.index == 0, "read");
+    check(reading.version == 2 && reading.flags == 0, "version and flags");
+    check(reading.default_mem == 0 && reading.default_cpus == 0, "default_mem and default_cpus");
+    check(reading.count == 3, "count");
+    check(reading.ramdisk_mark == 4 && reading.ramdisk_count == 1, "ramdisk mark and count");
+    check(reading.first_ramdisk == 2, "first ramdisk");
+    for (unsigned i = 0; i < EIF_MAX_SECTIONS; i++) {
+        eif_section section = reading.sections[i];
+        check(section.type == (i < 3 ? i + 1 : 0), "type of a section");
+        check(section.flags == 0, "flags of a section");
+        check(section.position.value == (i < 3 ? offsets[i] + 12 : 0), "position of a section");
+        check(section.length.value == (i < 3 ? lengths[i] : 0), "length of a section");
+    }
+
+    eif_reading refused = eif_read(image, 547);
+    check(refused.number == EIF_IMAGE_TOO_SHORT && refused.index == 0, "read, 547 bytes");
+    check(refused.version == 0 && refused.count == 0, "fields beside a refusal");
+    check(refused.ramdisk_mark == 0 && refused.ramdisk_count == 0, "ramdisks beside a refusal");
+    check(refused.first_ramdisk == 32, "first ramdisk beside a refusal");
+}
+
+static void try_streams(const uint8_t *image) {
+    uint8_t out[4];
+    memset(out, STAYS, sizeof out);
+    check(is(eif_whole_length(image, IMAGE_LENGTH), EIF_ACCEPTED, 2), "whole, length");
+    check(is(eif_boot_length(image, IMAGE_LENGTH), EIF_ACCEPTED, 2), "boot, length");
+    check(is(eif_app_length(image, IMAGE_LENGTH), EIF_ACCEPTED, 0), "app, length");
+    check(is(eif_app_length(image, 0), EIF_IMAGE_TOO_SHORT, 0), "app, length, no image");
+
+    check(is(eif_copy_app(image, IMAGE_LENGTH, 0, out, 4), EIF_ACCEPTED, 0), "app");
+    check(is(eif_copy_whole(image, IMAGE_LENGTH, 2, out, 4), EIF_ACCEPTED, 0), "whole from 2");
+    check(is(eif_copy_whole(image, IMAGE_LENGTH, 3, out, 4), EIF_PAST_STREAM_END, 0), "whole from 3");
+    check(stays(out, 0, 4), "output where nothing is copied");
+    check(is(eif_copy_boot(image, IMAGE_LENGTH, 1, out, 4), EIF_ACCEPTED, 1), "boot from 1");
+    check(out[0] == 0x61 && stays(out, 1, 4), "boot from 1, bytes");
+    check(is(eif_copy_whole(image, IMAGE_LENGTH, 0, out, 4), EIF_ACCEPTED, 2), "whole");
+    check(out[0] == 0x4b && out[1] == 0x61 && stays(out, 2, 4), "whole, bytes");
+}
+
+static void try_roll(const uint8_t *image) {
+    static const uint64_t positions[3] = {10, 21, 32};
+    uint8_t out[50];
+    memset(out, STAYS, sizeof out);
+    check(is(eif_roll_write(image, IMAGE_LENGTH, out, 41), EIF_OUTPUT_TOO_SHORT, 0), "roll, 41");
+    check(stays(out, 0, sizeof out), "output of a refused roll");
+    check(is(eif_roll_write(image, IMAGE_LENGTH, out, sizeof out), EIF_ACCEPTED, ROLL_LENGTH),
+          "roll");
+    check(memcmp(out, expected_roll, ROLL_LENGTH) == 0, "roll, bytes");
+    check(stays(out, ROLL_LENGTH, sizeof out), "output past the roll");
+
+    eif_roll_reading reading = eif_roll_read(expected_roll, ROLL_LENGTH);
+    check(reading.number == EIF_ACCEPTED && reading.index == 0, "roll read");
+    check(reading.count == 3, "roll's count");
+    for (unsigned i = 0; i < EIF_MAX_SECTIONS; i++) {
+        eif_roll_record record = reading.records[i];
+        check(record.type == (i < 3 ? i + 1 : 0), "type of a record");
+        check(record.position.value == (i < 3 ? positions[i] : 0), "position of a record");
+        check(record.length.value == (i < 2 ? 1u : 0u), "length of a record");
+    }
+
+    eif_roll_reading cut = eif_roll_read(expected_roll, ROLL_LENGTH - 1);
+    check(cut.number == EIF_ROLL_CUT && cut.index == 3 && cut.count == 0, "roll cut");
+}
+
+int main(void) {
+    uint8_t image[IMAGE_LENGTH];
+    expect_image(image);
+    try_write(image);
+    try_read(image);
+    try_streams(image);
+    try_roll(image);
+    if (failures != 0) {
+        return 1;
+    }
+    printf("worked example: all equal\n");
+    return 0;
+}
