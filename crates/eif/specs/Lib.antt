@@ -12,3 +12,4 @@ pub mod Plan
 pub mod Stream
 pub mod Roll
 pub mod Rows
+pub mod Worked

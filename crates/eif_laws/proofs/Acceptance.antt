@@ -4,10 +4,10 @@ use Prim.Native.Nat.{ℕ, zero, suc, _<_, _≤_}
 use mathlib.Core.Path.{_≡_, refl, sym, ap, _∙_}
 use mathlib.Core.Bool.{Bool, true, false, not}
 use mathlib.Core.List.{List}
-use mathlib.Core.Logic.{_⊎_, inl, inr, ⊎-elim}
+use mathlib.Core.Logic.{inl, inr, ⊎-elim}
 use native.Mathlib.Omega.{arith}
 use native.Mathlib.Nat.{eq-or-lt-of-le, le-of-suc-le-suc}
-use borrow.Author.Tests.{eq-eqb, ne-eqb, le-leb, lt-leb, eqb-true, eqb-false, leb-true, not-false}
+use borrow.Author.Tests.{eq-eqb, ne-eqb, le-leb, lt-leb, leb-true, not-false}
 use lib.Dec.{eqb, leb}
 use Rattle.eif.specs.Numbers.{signatureVersion, metadataVersion, kernel, commandLine, ramdisk, signature, metadata, ramdiskBeforeKernel, typeRepeated}
 use Rattle.eif.specs.Logic.{both, either, choose}
@@ -17,18 +17,11 @@ use Rattle.eif.specs.Reading.{sectionRule, checksumOf, verdictOf}
 use Rattle.eif.specs.Acceptance.{AllowedType, Present, MeetsRules}
 use Rattle.eif.specs.declared.Verdict.{Verdict}
 use Rattle.eif.specs.declared.Verdict.the-variants.{Accepted, Refused}
-use Rattle.eif_rules.proofs.Logic.{choose-zero, both-true, not-both}
+use Rattle.eif_rules.proofs.Logic.{choose-zero, both-true, not-both, either-false, equal-or-not}
 use Rattle.eif_rules.proofs.View.{Header, Sound, sound-of, order-of, no-fault, fault-order}
 use Rattle.eif_rules.proofs.Accept.{Passes, passes, →accepted}
 
 -- ---- a test and the fact it stands for
-
-equal-or-not : (a b : ℕ) → (a ≡ b) ⊎ (a ≡ b → ⊥)
-equal-or-not a b = go (eqb a b) refl
-  where
-    go : (t : Bool) → eqb a b ≡ t → (a ≡ b) ⊎ (a ≡ b → ⊥)
-    go true e = inl (eqb-true a b e)
-    go false e = inr (eqb-false a b e)
 
 -- rule 9
 module _ (version kind : ℕ) where
@@ -124,10 +117,6 @@ module _ (kinds : ℕ → ℕ) (i : ℕ) where
       other h = simp (ne-eqb (kinds i) ramdisk h, b h)
 
 -- rule 12
-either-false : (a b : Bool) → either a b ≡ false → (a ≡ false) × (b ≡ false)
-either-false true b e = not-both (sym e)
-either-false false b e = (refl, e)
-
 module _ (kinds : ℕ → ℕ) (version n : ℕ) where
   record Complete : Type 0 where
     kernel-there : seen kinds kernel n ≡ true

@@ -11,7 +11,7 @@ use Rattle.eif.specs.Layout.{headerSize, sectionHeaderSize}
 use Rattle.eif.specs.Plan.{sizeFault, packedAt, dataBefore, plainSize}
 use Rattle.eif.specs.declared.Place.{Place}
 use Rattle.eif.specs.declared.Plan.{Plan}
-use Rattle.eif_rules.proofs.Logic.{le-or-lt}
+use Rattle.octets.proofs.Over.{le-or-lt}
 use Rattle.eif_plan.specs.Size.{limited, imageSize}
 
 pub limited-over : (n : ℕ) → sizeLimit < n → 0 ≡ limited n

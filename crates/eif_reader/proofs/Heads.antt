@@ -15,7 +15,7 @@ use Rattle.eif.specs.Numbers.{placeCount}
 use Rattle.eif.specs.Layout.{sectionHeaderSize, View, viewOf, viewFrom, offsetAt, checksum}
 use Rattle.eif.specs.Reading.{checksumOf, readEarly, readImage, sealed}
 use Rattle.eif.specs.declared.Reading.{Reading}
-use Rattle.eif_rules.proofs.Logic.{le-or-lt}
+use Rattle.octets.proofs.Over.{le-or-lt}
 use Rattle.eif_rules.proofs.Agree.{Agree, read-same}
 use Rattle.eif_rules.proofs.Reading.{seal-early}
 use Rattle.eif_reader.specs.Gathered.{Gathered}

@@ -7,12 +7,12 @@ use mathlib.Core.List.{List}
 use native.Mathlib.Omega.{arith}
 use borrow.Author.Tests.{eq-eqb, eqb-true, not-false}
 use lib.Dec.{eqb}
-use lib.ListN.{length}
+use lib.ListN.{length, length-take, length-drop}
 use Rattle.eif.specs.Numbers.{placeCount}
 use Rattle.eif.specs.Answers.{andThen, wholeVerdict}
 use Rattle.eif.specs.Rules.{orderFault, missing}
 use Rattle.eif.specs.Layout.{View, viewOf, version, count, checksum, versionOf, countOf, kindAt}
-use Rattle.eif.specs.Reading.{sectionRule, missingRule, checksumRule, judged, verdictIn, checksumOf, verdictOf, sectionAt, blankSection, sectionsOf}
+use Rattle.eif.specs.Reading.{sectionRule, missingRule, checksumRule, judged, verdictIn, checksumOf, verdictOf, sectionAt, blankSection, sectionsOf, dataOf}
 use Rattle.eif.specs.declared.Section.{Section}
 use Rattle.eif.specs.declared.Verdict.{Verdict}
 use Rattle.eif.specs.declared.Verdict.the-variants.{Accepted, Refused}
@@ -70,6 +70,9 @@ module _ (v : View) where
 
 abbrev pub Inside : List ℕ → Section → Type 0
 Inside s x = x .position .0 + x .length .0 ≤ length s
+
+pub length-data : (s : List ℕ) (x : Section) → Inside s x → length (dataOf s x) ≡ x .length .0
+length-data s x inside = simp (length-take, length-drop) (omega arith)
 
 module _ (s : List ℕ) (e : verdictOf s ≡ Accepted) where
   pub passes : Passes (viewOf s) (checksumOf s)

@@ -18,7 +18,7 @@ use Rattle.eif.specs.declared.Section.{Section}
 use Rattle.eif.specs.declared.Reading.{Reading}
 use Rattle.eif.specs.declared.Verdict.{Verdict}
 use Rattle.eif.specs.declared.Verdict.the-variants.{Accepted, Refused}
-use Rattle.eif_rules.proofs.Logic.{le-or-lt}
+use Rattle.octets.proofs.Over.{le-or-lt}
 use Rattle.eif_rules.proofs.Verdicts.{then-accepted, then-same, whole-zero, walk-accepted, walk-same}
 use Rattle.eif_rules.proofs.Types.{order-same, missing-same}
 use Rattle.eif_rules.proofs.Table.{filled-same}

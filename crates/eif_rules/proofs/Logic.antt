@@ -1,12 +1,13 @@
 -- From what a chain of tests answers back to the tests, and cases on numbers.
 -- Assumes nothing.
-use Prim.Native.Nat.{ℕ, zero, suc, _<_, _≤_}
-use mathlib.Core.Path.{_≡_, refl}
+use Prim.Native.Nat.{ℕ, zero, suc}
+use mathlib.Core.Path.{_≡_, refl, sym}
 use mathlib.Core.Bool.{Bool, true, false}
 use mathlib.Core.Logic.{_⊎_, inl, inr}
 use native.Mathlib.Omega.{arith}
-use native.Mathlib.Decide.{decLe}
-use Rattle.eif.specs.Logic.{choose, both}
+use borrow.Author.Tests.{eqb-true, eqb-false}
+use lib.Dec.{eqb}
+use Rattle.eif.specs.Logic.{choose, both, either}
 
 pub choose-zero : (b : Bool) (n r : ℕ) → choose b (suc n) r ≡ 0 → (b ≡ false) × (r ≡ 0)
 choose-zero true n r e = absurd (omega arith)
@@ -19,8 +20,16 @@ pub both-true : (a b : Bool) → both a b ≡ true → (a ≡ true) × (b ≡ tr
 both-true true b e = (refl, e)
 both-true false b e = not-both e
 
-pub le-or-lt : (m n : ℕ) → (m ≤ n) ⊎ (n < m)
-le-or-lt m n = elim (decLe m n) [ yes h ↦ inl h | no h ↦ inr (omega arith) ]
+pub either-false : (a b : Bool) → either a b ≡ false → (a ≡ false) × (b ≡ false)
+either-false true b e = not-both (sym e)
+either-false false b e = (refl, e)
+
+pub equal-or-not : (a b : ℕ) → (a ≡ b) ⊎ (a ≡ b → ⊥)
+equal-or-not a b = go (eqb a b) refl
+  where
+    go : (t : Bool) → eqb a b ≡ t → (a ≡ b) ⊎ (a ≡ b → ⊥)
+    go true e = inl (eqb-true a b e)
+    go false e = inr (eqb-false a b e)
 
 pub zero-or : (n : ℕ) → (n ≡ 0) ⊎ (n ≡ 0 → ⊥)
 zero-or zero = inl refl

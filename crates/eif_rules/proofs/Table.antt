@@ -1,9 +1,10 @@
 -- Laws of a table whose first places are used, over any element.
 -- Assumes nothing.
-use Prim.Native.Nat.{ℕ, zero, suc, _<_, _≤_}
+use Prim.Native.Nat.{ℕ, zero, suc, _+_, _<_, _≤_}
 use mathlib.Core.Path.{_≡_, refl, sym, ap, ap₂, _∙_}
 use mathlib.Core.List.{List, [], _∷_}
 use native.Mathlib.Omega.{arith}
+use native.Mathlib.Numerals.{add-one}
 use native.Mathlib.Nat.{not-suc-le-zero, le-of-suc-le-suc, le-trans}
 use lib.ListN.{length, getD, set, replicate, length-replicate}
 use Rattle.eif.specs.Table.{filled}
@@ -16,6 +17,10 @@ pub filled-more {ℓ} : {A : Type ℓ} (f : ℕ → A) (d : A) (m i : ℕ) → i
 filled-more f d zero i h = absurd (not-suc-le-zero h)
 filled-more f d (suc m) zero h = ap (λ t. f 0 ∷ t) (sym (filled-none (λ k. f (suc k)) d m))
 filled-more f d (suc m) (suc i) h = ap (λ t. f 0 ∷ t) (filled-more (λ k. f (suc k)) d m i (le-of-suc-le-suc h))
+
+-- the same, as a loop stores it
+pub filled-next {ℓ} : {A : Type ℓ} (f : ℕ → A) (d x : A) (m i : ℕ) (l : List A) → i < m → l ≡ filled f d m i → x ≡ f i → set l i x ≡ filled f d m (i + 1)
+filled-next f d x m i l h e p = rw (e, p, add-one) (filled-more f d m i h)
 
 pub filled-at {ℓ} : {A : Type ℓ} (f : ℕ → A) (d x : A) (m i j : ℕ) → j < i → i ≤ m → getD (filled f d m i) j x ≡ f j
 filled-at f d x zero i j h g = absurd (not-suc-le-zero (le-trans h g))
@@ -56,3 +61,10 @@ all-filled P f d (suc m) zero pd h = (pd, all-replicate m)
     all-replicate zero = tt
     all-replicate (suc k) = (pd, all-replicate k)
 all-filled P f d (suc m) (suc n) pd h = (h 0 (omega arith), all-filled P (λ k. f (suc k)) d m n pd (λ i l. h (suc i) (omega arith)))
+
+-- what holds of every element holds of the one at i
+pub all-at {ℓ} : {A : Type ℓ} (P : A → Type 0) (l : List A) (i : ℕ) (d : A) → i < length l → All P l → P (getD l i d)
+unfolding All
+all-at P [] i d h a = absurd (omega arith)
+all-at P (x ∷ xs) zero d h a = a .0
+all-at P (x ∷ xs) (suc i) d h a = all-at P xs i d (omega arith) (a .1)

@@ -15,7 +15,8 @@ use Rattle.eif.specs.Rules.{firstFault}
 use Rattle.eif.specs.declared.Refusal.{Refusal}
 use Rattle.eif.specs.declared.Verdict.{Verdict}
 use Rattle.eif.specs.declared.Verdict.the-variants.{Accepted, Refused}
-use Rattle.eif_rules.proofs.Logic.{le-or-lt, zero-or}
+use Rattle.eif_rules.proofs.Logic.{zero-or}
+use Rattle.octets.proofs.Over.{le-or-lt}
 
 pub never {ℓ} : {A : Type ℓ} (r : Refusal) → Refused r ≡ Accepted → A
 never r e = let z : _≡_ {A = ℕ} 0 1 = cc in absurd (omega arith)

@@ -6,24 +6,18 @@ use mathlib.Core.List.{List, [], _∷_, _++_}
 use mathlib.Core.Logic.{⊎-elim}
 use native.Mathlib.Omega.{arith}
 use native.Mathlib.Numerals.{add-one}
-use lib.ListN.{length, getD, take, drop, length-append, length-take, length-drop}
+use lib.ListN.{length, getD, take, drop, length-append, length-drop}
 use lib.Seq.{slice, slice-cons, slice-empty, take-nil, drop-drop, drop-append-le, drop-append-add, drop-length, getD-take, length-take-le}
 use Rattle.octets.specs.Over.{over}
 use Rattle.octets.proofs.Over.{over-append}
 use Rattle.eif.specs.Reading.{blankSection, dataOf}
 use Rattle.eif.specs.Stream.{joined}
 use Rattle.eif.specs.declared.Section.{Section}
-use Rattle.eif_rules.proofs.Logic.{le-or-lt}
-use Rattle.eif_rules.proofs.Table.{All}
-use Rattle.eif_rules.proofs.Accept.{Inside}
+use Rattle.octets.proofs.Over.{le-or-lt}
+use Rattle.eif_rules.proofs.Table.{All, all-at}
+use Rattle.eif_rules.proofs.Accept.{Inside, length-data}
 
 -- ---- lists
-
-all-at {ℓ} : {A : Type ℓ} (P : A → Type 0) (l : List A) (i : ℕ) (d : A) → i < length l → All P l → P (getD l i d)
-unfolding All
-all-at P [] i d h a = absurd (omega arith)
-all-at P (x ∷ xs) zero d h a = a .0
-all-at P (x ∷ xs) (suc i) d h a = all-at P xs i d (omega arith) (a .1)
 
 drop-take : (m n : ℕ) (l : List ℕ) → drop m (take n l) ≡ take (n - m) (drop m l)
 drop-take zero n l = let e : n ≡ n - 0 = omega arith in ap (λ (k : ℕ). take k l) e
@@ -48,9 +42,6 @@ drop-append n size x y e =
 -- ---- a section's data
 
 module _ (s : List ℕ) (x : Section) where
-  pub length-data : Inside s x → length (dataOf s x) ≡ x .length .0
-  length-data inside = simp (length-take, length-drop) (omega arith)
-
   pub data-from : (skip : ℕ) → take (x .position .0 + x .length .0 - (x .position .0 + skip)) (drop (x .position .0 + skip) s) ≡ drop skip (dataOf s x)
   data-from skip =
       let n : x .position .0 + x .length .0 - (x .position .0 + skip) ≡ x .length .0 - skip = omega arith in

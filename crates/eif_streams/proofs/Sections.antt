@@ -16,7 +16,8 @@ use Rattle.eif.specs.Logic.{choose}
 use Rattle.eif.specs.Reading.{blankSection, firstRamdisk}
 use Rattle.eif.specs.Stream.{ofType}
 use Rattle.eif.specs.declared.Section.{Section}
-use Rattle.eif_rules.proofs.Logic.{le-or-lt}
+use Rattle.octets.proofs.Over.{le-or-lt}
+use Rattle.stream_laws.proofs.Sections.{sum-ones, sum-types, sum-measured}
 
 -- ---- one place further
 
@@ -90,30 +91,6 @@ module _ (l : List Section) (after : ℕ) (size : length l ≡ placeCount) (e : 
 
 -- ---- no more than there are places
 
-abbrev one : ℕ → ℕ → ℕ
-one kind k = choose (eqb kind k) 1 0
-
-one-le : (b : Bool) → choose b 1 0 ≤ 1
-one-le true = omega arith
-one-le false = omega arith
-
-one-of : (kind : ℕ) → one kind kernel + (one kind commandLine + one kind ramdisk) ≤ 1
-one-of kind =
-    ⊎-elim
-    (λ a. omega (arith, most kernel, none commandLine (λ e. omega arith), none ramdisk (λ e. omega arith)))
-    (λ a.
-    ⊎-elim
-    (λ b. omega (arith, none kernel (λ e. omega arith), most commandLine, none ramdisk (λ e. omega arith)))
-    (λ b. omega (arith, none kernel (λ e. omega arith), none commandLine (λ e. omega arith), most ramdisk))
-    (le-or-lt kind commandLine))
-    (le-or-lt kind kernel)
-  where
-    none : (k : ℕ) → (kind ≡ k → ⊥) → one kind k ≡ 0
-    none k h = simp (ne-eqb _ _ h)
-
-    most : (k : ℕ) → one kind k ≤ 1
-    most k = one-le (eqb kind k)
-
 module _ (x : Section) where
   length-by : (l : List Section) (b : Bool) → length (choose b (x ∷ l) l) ≡ choose b 1 0 + length l
   length-by l true = omega arith
@@ -126,13 +103,8 @@ module _ (x : Section) where
   more-by l b = omega (arith, length-by l b)
 
 pub types-fit : (l : List Section) → length (ofType kernel l) + (length (ofType commandLine l) + length (ofType ramdisk l)) ≤ length l
-unfolding ofType
-types-fit [] = omega arith
-types-fit (x ∷ xs) =
-    let a = length-by x (ofType kernel xs) (eqb (x .kind) kernel) in
-    let b = length-by x (ofType commandLine xs) (eqb (x .kind) commandLine) in
-    let d = length-by x (ofType ramdisk xs) (eqb (x .kind) ramdisk) in
-    omega (arith, types-fit xs, one-of (x .kind))
+types-fit l =
+    omega (arith, sum-types (λ x. 1) l, sum-measured (λ x. 1) l, sum-ones (ofType kernel l), sum-ones (ofType commandLine l), sum-ones (ofType ramdisk l), sum-ones l)
 
 module _ (kind : ℕ) where
   take-fits : (n : ℕ) (l : List Section) → length (ofType kind (take n l)) ≤ length (ofType kind l)

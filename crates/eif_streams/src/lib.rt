@@ -39,6 +39,7 @@ fn append(list: Listed, sections: [Section; PLACES], kind: u16, from: usize, to:
     requires { ⌜ list .count + length (ofType kind (slice from to sections)) ≤ placeCount ⌝ }
     ensures { λ r. ⌜ r .count ≡ list .count + length (ofType kind (slice from to sections)) ⌝ }
     ensures { λ r. ⌜ listed r ≡ listed list ++ ofType kind (slice from to sections) ⌝ }
+    ensures { λ r. ⌜ r .count ≤ placeCount ⌝ }
 {
     let mut out = list.sections;
     let mut count = list.count;

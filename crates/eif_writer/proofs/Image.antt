@@ -10,7 +10,7 @@ use lib.ListN.{length, take, drop, length-append, length-take, length-drop, take
 use lib.Seq.{take-at, drop-at, drop-drop}
 use Rattle.octets.specs.Bytes.{beBytes}
 use Rattle.octets.specs.Over.{over}
-use Rattle.octets.proofs.Over.{over-parts, length-over}
+use Rattle.octets.proofs.Over.{over-parts, over-start, over-own, over-joined, length-over}
 use Rattle.crc32.specs.Crc.{crc32}
 use Rattle.eif.specs.Numbers.{outputTooShort}
 use Rattle.eif.specs.Layout.{headerSize, checksumAt}
@@ -23,7 +23,6 @@ use Rattle.eif.specs.declared.Written.{Written}
 use Rattle.eif.specs.declared.Verdict.the-variants.{Accepted, Refused}
 use Rattle.plain_laws.proofs.Shape.{packed-zero, length-offsets, length-sizes, length-header, length-sections}
 use Rattle.eif_writer.specs.Parts.{offsetsOf, sizesOf, firstFields, nextFields, sealed}
-use Rattle.eif_writer.proofs.Pieces.{joined}
 
 -- ---- the header
 
@@ -57,27 +56,14 @@ module _ (p : Plan) where
   pub header-over : (d d₁ d₂ d₃ d₄ d₅ : List ℕ) → d₁ ≡ over d 0 (firstFields p) → d₂ ≡ over d₁ 8 (nextFields p) → d₃ ≡ over d₂ 28 offsets
       → d₄ ≡ over d₃ 284 sizes → d₅ ≡ over d₄ 540 (beBytes 4 0) → d₅ ≡ over d 0 (headerBytes p)
   header-over d d₁ d₂ d₃ d₄ d₅ e₁ e₂ e₃ e₄ e₅ =
-      joined _ _ _ _ e₁
-      (joined _ _ _ _ e₂
-      (joined _ _ _ _ e₃ (joined _ _ _ _ e₄ e₅ (ap (λ (n : ℕ). 284 + n) length-size-entries)) (ap (λ (n : ℕ). 28 + n) length-offset-entries))
+      over-joined _ _ _ _ e₁
+      (over-joined _ _ _ _ e₂
+      (over-joined _ _ _ _ e₃ (over-joined _ _ _ _ e₄ e₅ (ap (λ (n : ℕ). 284 + n) length-size-entries)) (ap (λ (n : ℕ). 28 + n) length-offset-entries))
       (ap (λ (n : ℕ). 8 + n) length-next))
       (ap (λ (n : ℕ). 0 + n) length-first)
       ∙ ap (over d 0) header-parts
 
 -- ---- the whole
-
-over-start : (d x : List ℕ) → length x ≤ length d → over d 0 x ≡ x ++ drop (length x) d
-over-start d x h = over-parts d 0 x (rw zero-add h) ∙ ap (λ (n : ℕ). x ++ drop n d) (zero-add (length x))
-
--- writing what stands there changes nothing
-over-own : (d : List ℕ) (at n : ℕ) → at + n ≤ length d → over d at (take n (drop at d)) ≡ d
-over-own d at n h =
-    let e : length (take n (drop at d)) ≡ n = simp (length-take, length-drop) (omega arith) in
-    over-parts d at (take n (drop at d)) (omega arith)
-    ∙ ap (λ (m : ℕ). take at d ++ (take n (drop at d) ++ drop (at + m) d)) e
-    ∙ ap (λ (l : List ℕ). take at d ++ (take n (drop at d) ++ l)) (sym (drop-drop n at d))
-    ∙ ap (λ (l : List ℕ). take at d ++ l) (take-append-drop n (drop at d))
-    ∙ take-append-drop at d
 
 module _ (p : Plan) (given d a b : List ℕ) (sized : length given ≡ dataBefore (p .places) (p .count)) (room : plainSize p ≤ length d) where
   abbrev head : List ℕ
@@ -120,7 +106,7 @@ module _ (p : Plan) (given d a b : List ℕ) (sized : length given ≡ dataBefor
         let m = length-a in
         let w = whole in
         let own : a ≡ over a checksumAt gap = sym (over-own a checksumAt 4 (omega arith)) in
-        joined _ _ _ _ (joined _ _ _ _ e own (zero-add (length head) ∙ length-header p)) f (zero-add (length (head ++ gap)) ∙ length-front)
+        over-joined _ _ _ _ (over-joined _ _ _ _ e own (zero-add (length head) ∙ length-header p)) f (zero-add (length (head ++ gap)) ∙ length-front)
         ∙ over-start d ((head ++ gap) ++ body) (omega arith)
         ∙ ap (λ (n : ℕ). ((head ++ gap) ++ body) ++ drop n d) w
 

@@ -8,17 +8,12 @@ use lib.ListN.{length, drop, getD, drop-of-length-le}
 use lib.Seq.{drop-cons}
 use Rattle.octets.specs.Bytes.{beBytes}
 use Rattle.octets.specs.Over.{over}
-use Rattle.octets.proofs.Over.{over-append}
+use Rattle.octets.proofs.Over.{over-append, over-joined}
 use Rattle.eif.specs.Numbers.{sizeLimit}
 use Rattle.eif.specs.Layout.{sectionHeaderSize}
 use Rattle.eif.specs.Plan.{entries, placeAt, plannedSize, packedAt, dataBefore, pieceAt, sectionHeader, sectionBytes}
 use Rattle.eif.specs.declared.Place.{Place}
 use Rattle.plain_laws.proofs.Shape.{packed-le, packed-suc, before-le, before-suc, length-sectionHeader, length-piece, section-suc}
-
--- a piece from `at` on, and the next from where it ends
-pub joined : (d : List ℕ) (at : ℕ) (x y : List ℕ) {b c : List ℕ} {m : ℕ} → b ≡ over d at x → c ≡ over b m y → at + length x ≡ m → c ≡ over d at (x ++ y)
-joined d at x y e f h =
-    f ∙ ap₂ (λ (l : List ℕ) (n : ℕ). over l n y) e (sym h) ∙ sym (over-append d at x y)
 
 -- ---- a table
 
@@ -51,7 +46,7 @@ module _ (l : List Place) (count i : ℕ) (h : i < count) where
       let n : suc (count - suc i) ≡ count - i = omega arith in
       let a : at + sectionHeaderSize + length p ≡ at + sectionHeaderSize + plannedSize l i = ap (λ (m : ℕ). at + sectionHeaderSize + m) (length-piece l d count sized i h) in
       let b : at + length (sectionHeader (placeAt l i)) ≡ at + sectionHeaderSize = ap (λ (m : ℕ). at + m) (length-sectionHeader (placeAt l i)) in
-      joined o at (sectionHeader (placeAt l i)) (p ++ r) e (joined x (at + sectionHeaderSize) p r f refl a) b
+      over-joined o at (sectionHeader (placeAt l i)) (p ++ r) e (over-joined x (at + sectionHeaderSize) p r f refl a) b
       ∙ ap (over o at) (sym (section-suc l d (count - suc i) i) ∙ ap (λ (m : ℕ). sectionBytes l d m i) n)
 
 pub sections-done : (l : List Place) (d : List ℕ) (i n : ℕ) → n ≡ 0 → (o : List ℕ) (at : ℕ) → over o at (sectionBytes l d n i) ≡ o

@@ -1,14 +1,14 @@
 -- Laws of writing over a part of a list: one store at a time, one piece at a time, and past the end.
 -- Assumes nothing.
 use Prim.Native.Nat.{ℕ, zero, suc, _+_, _-_, _≤_, _<_, min}
-use mathlib.Core.Path.{_≡_, refl, sym, ap, _∙_}
+use mathlib.Core.Path.{_≡_, refl, sym, ap, ap₂, _∙_}
 use mathlib.Core.List.{List, [], _∷_, _++_}
 use mathlib.Core.Logic.{_⊎_, inl, inr, ⊎-elim}
 use native.Mathlib.Omega.{arith}
 use native.Mathlib.Decide.{decLe}
 use native.Mathlib.Nat.{add-zero, suc-add, zero-add}
-use lib.ListN.{length, take, drop, set, length-set}
-use lib.Seq.{set-out, take-nil}
+use lib.ListN.{length, take, drop, set, length-set, length-take, length-drop, take-append-drop}
+use lib.Seq.{set-out, take-nil, drop-drop}
 use Rattle.octets.specs.Over.{over}
 
 pub length-over : (d : List ℕ) (at : ℕ) (bs : List ℕ) → length (over d at bs) ≡ length d
@@ -48,7 +48,7 @@ unfolding over
 over-out d at [] h = refl
 over-out d at (b ∷ bs) h = ap (λ (l : List ℕ). over l (at + 1) bs) (set-out d at b h) ∙ over-out d (at + 1) bs (omega arith)
 
-le-or-lt : (m n : ℕ) → (m ≤ n) ⊎ (n < m)
+pub le-or-lt : (m n : ℕ) → (m ≤ n) ⊎ (n < m)
 le-or-lt m n = elim (decLe m n) [ yes h ↦ inl h | no h ↦ inr (omega arith) ]
 
 pub over-clip : (d : List ℕ) (at : ℕ) (bs : List ℕ) → over d at bs ≡ over d at (take (length d - at) bs)
@@ -77,3 +77,23 @@ over-end d at (b ∷ bs) h = over-out d at (b ∷ bs) (omega arith)
 pub over-next : (d : List ℕ) (at k b : ℕ) (bs : List ℕ) → over (set d (at + k) b) (at + (k + 1)) bs ≡ over d (at + k) (b ∷ bs)
 unfolding over
 over-next d at k b bs = ap (λ (n : ℕ). over (set d (at + k) b) n bs) (let e : at + (k + 1) ≡ at + k + 1 = omega arith in e)
+
+-- ---- at the start, and what stands there already
+
+pub over-start : (d x : List ℕ) → length x ≤ length d → over d 0 x ≡ x ++ drop (length x) d
+over-start d x h = over-parts d 0 x (rw zero-add h) ∙ ap (λ (n : ℕ). x ++ drop n d) (zero-add (length x))
+
+-- writing what stands there changes nothing
+pub over-own : (d : List ℕ) (at n : ℕ) → at + n ≤ length d → over d at (take n (drop at d)) ≡ d
+over-own d at n h =
+    let e : length (take n (drop at d)) ≡ n = simp (length-take, length-drop) (omega arith) in
+    over-parts d at (take n (drop at d)) (omega arith)
+    ∙ ap (λ (m : ℕ). take at d ++ (take n (drop at d) ++ drop (at + m) d)) e
+    ∙ ap (λ (l : List ℕ). take at d ++ (take n (drop at d) ++ l)) (sym (drop-drop n at d))
+    ∙ ap (λ (l : List ℕ). take at d ++ l) (take-append-drop n (drop at d))
+    ∙ take-append-drop at d
+
+-- a piece from `at` on, and the next from where it ends
+pub over-joined : (d : List ℕ) (at : ℕ) (x y : List ℕ) {b c : List ℕ} {m : ℕ} → b ≡ over d at x → c ≡ over b m y → at + length x ≡ m → c ≡ over d at (x ++ y)
+over-joined d at x y e f h =
+    f ∙ ap₂ (λ (l : List ℕ) (n : ℕ). over l n y) e (sym h) ∙ sym (over-append d at x y)

@@ -22,7 +22,7 @@ use Rattle.eif.specs.declared.Plan.{Plan}
 use Rattle.eif.specs.declared.Place.{Place}
 use Rattle.eif.specs.declared.Section.{Section}
 use Rattle.eif.specs.declared.Verdict.the-variants.{Accepted}
-use Rattle.eif_rules.proofs.Logic.{not-both}
+use Rattle.eif_rules.proofs.Logic.{not-both, either-false}
 use Rattle.eif_rules.proofs.Types.{order-same, missing-same}
 use Rattle.eif_rules.proofs.Table.{filled-at, filled-none}
 use Rattle.plain_laws.proofs.Split.{le-split}
@@ -45,10 +45,6 @@ known-allowed kind a b =
 
 pub known-in-roll : (kind : ℕ) → 1 ≤ kind → kind ≤ 3 → inRoll kind ≡ true
 known-in-roll kind a b = simp (le-leb _ _ a, le-leb _ _ b)
-
-either-false : (a b : Bool) → either a b ≡ false → (a ≡ false) × (b ≡ false)
-either-false true b e = not-both (sym e)
-either-false false b e = (refl, e)
 
 -- kernel and command line are there
 pub missing-parts : (kinds : ℕ → ℕ) (version n : ℕ) → missing kinds version n ≡ false → (seen kinds kernel n ≡ true) × (seen kinds commandLine n ≡ true)

@@ -6,4 +6,3 @@ pub mod Order
 pub mod RollOfImage
 pub mod Listing
 pub mod Demand3
-pub mod Worked

@@ -15,15 +15,12 @@ use Rattle.eif.specs.Table.{filled}
 use Rattle.eif.specs.Rules.{orderFault, missing}
 use Rattle.eif.specs.Roll.{recordHeadSize, endType, recordAt, recordSize, recordKind, listedAt, headFault, bodyFault}
 use Rattle.eif_rules.proofs.Logic.{choose-zero, zero-or}
-use Rattle.eif_rules.proofs.Table.{filled-at, filled-more, length-filled}
+use Rattle.eif_rules.proofs.Table.{filled-at, length-filled}
 use Rattle.roll_reader.specs.Walk.{recordFault}
 use Rattle.type_rules.specs.Kinds.{kindIn}
 use Rattle.type_rules.proofs.Parts.{order-part, missing-part}
 
 -- ---- a table of what the records before hold
-
-pub filled-next {ℓ} : {A : Type ℓ} (f : ℕ → A) (d x : A) (m i : ℕ) (l : List A) → i < m → l ≡ filled f d m i → x ≡ f i → set l i x ≡ filled f d m (i + 1)
-filled-next f d x m i l h e p = rw (e, p, add-one) (filled-more f d m i h)
 
 module _ (s kinds : List ℕ) (n : ℕ) (few : n ≤ placeCount) (kept : kinds ≡ filled (recordKind s) 0 placeCount n) where
   within : n ≤ length kinds

@@ -16,16 +16,9 @@ use Rattle.eif.specs.Reading.{verdictOf, blankSection, sectionAt, sectionsOf, d
 use Rattle.eif.specs.Roll.{recordHeadSize, headOf, endType, inRoll, rollOf, recordFor, recordsIn, rollBytes}
 use Rattle.eif.specs.declared.Section.{Section}
 use Rattle.eif.specs.declared.Verdict.the-variants.{Accepted}
-use Rattle.eif_rules.proofs.Table.{All, length-filled}
-use Rattle.eif_rules.proofs.Accept.{Inside, passes, sections-inside}
+use Rattle.eif_rules.proofs.Table.{All, all-at, length-filled}
+use Rattle.eif_rules.proofs.Accept.{Inside, length-data, passes, sections-inside}
 use Rattle.roll_writer.specs.Write.{partOf, partSize, rollFor, sizeFor, sizeBound}
-
--- what holds of every element holds of the one at i
-all-at : (P : Section → Type 0) (d : Section) (l : List Section) (i : ℕ) → i < length l → All P l → P (getD l i d)
-unfolding All
-all-at P d [] i h a = absurd (omega arith)
-all-at P d (x ∷ xs) zero h a = a .0
-all-at P d (x ∷ xs) (suc i) h a = all-at P d xs i (omega arith) (a .1)
 
 -- ---- one section
 
@@ -34,15 +27,12 @@ unfolding headOf
 length-head size kind = refl
 
 module _ (s : List ℕ) (x : Section) (inside : Inside s x) where
-  length-data : length (dataOf s x) ≡ x .length .0
-  length-data = simp (length-take, length-drop) (omega arith)
-
   pub length-part : length (partOf s x) ≡ partSize x
   unfolding partOf partSize
   length-part = by (inRoll (x .kind))
     where
       by : (b : Bool) → length (choose b (headOf (x .length .0) (x .kind) ++ dataOf s x) []) ≡ choose b (recordHeadSize + x .length .0) 0
-      by true = simp (length-append, length-head, length-data)
+      by true = simp (length-append, length-head, length-data s x inside)
       by false = refl
 
   part-small : length s ≤ sizeLimit → partSize x ≤ recordHeadSize + sizeLimit
@@ -91,7 +81,7 @@ module _ (l : List Section) (i : ℕ) (h : i < length l) where
 
     module _ (a : All (Inside s) l) where
       pub inside-at : Inside s (getD l i blankSection)
-      inside-at = all-at (Inside s) blankSection l i h a
+      inside-at = all-at (Inside s) l i blankSection h a
 
       -- the record of section i written, and then the rest
       pub roll-over : (d : List ℕ) (at : ℕ)

@@ -72,7 +72,7 @@ returns c =
     let l = c .before .loop in
     let none = type-none (a .kind) (l .i) (a .to) (a .t2) (omega arith) in
     let n = ap length none in
-    (omega arith, sym (append-nil (take (l .count) (l .out))) ∙ ap (λ (x : List Section). take (l .count) (l .out) ++ x) (sym none) ∙ l .inv .3)
+    (omega arith, (sym (append-nil (take (l .count) (l .out))) ∙ ap (λ (x : List Section). take (l .count) (l .out) ++ x) (sym none) ∙ l .inv .3, omega arith))
 
 pub append-spec : {M : Type 1} → statement M
 append-spec =

@@ -31,7 +31,7 @@ returns c =
     let m = all-places commandLine l size in
     let x = c .before .append .ensures in
     let y = c .append2 .ensures in
-    (omega (arith, ap length k, ap length m), y .1 ∙ ap₂ (λ (a b : List Section). a ++ b) (x .1 ∙ k) m)
+    (omega (arith, ap length k, ap length m), y .1 .0 ∙ ap₂ (λ (a b : List Section). a ++ b) (x .1 .0 ∙ k) m)
 
 pub kernel-and-command-line-spec : {M : Type 1} → statement M
 kernel-and-command-line-spec = tie.close (tie.spec append-requires append-requires-2 returns)

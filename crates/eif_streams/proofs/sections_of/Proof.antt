@@ -50,6 +50,33 @@ module _ (l : List Section) (stream : Stream) where
   unfolding streamSections
   app e = rw e
 
+returns : tie.Need-returns
+returns c =
+    let w = c .before .before .before .before in
+    let k = c .before .kernel-and-command-line .ensures in
+    let r = c .append .ensures in
+    let l = w .before .args .sections in (
+      r .1 .1,
+      r .1 .0 ∙ ap₂ (λ (a b : List Section). a ++ b) (k .1) (every w) ∙ whole l (w .before .args .stream) (c .before .before .enum-told .given .1),
+    )
+
+returns-2 : tie.Need-returns-2
+returns-2 c =
+    let w = c .before .before .before .before in
+    let k = c .before .kernel-and-command-line2 .ensures in
+    let r = c .append2 .ensures in
+    let l = w .before .args .sections in (
+      r .1 .1,
+      r .1 .0 ∙ ap₂ (λ (a b : List Section). a ++ b) (k .1) (first w) ∙ boot l (w .before .args .stream) (c .before .before .enum-told2 .given .1),
+    )
+
+returns-3 : tie.Need-returns-3
+returns-3 c =
+    let w = c .before .before .before in
+    let r = c .append3 .ensures in
+    let l = w .before .args .sections in
+    (r .1 .1, r .1 .0 ∙ others w ∙ app l (w .before .args .stream) (c .before .enum-told3 .given .1))
+
 append-requires : tie.Need-append-requires
 append-requires c κs =
     let w = c .before .before .before in
@@ -64,33 +91,6 @@ append-requires-3 : tie.Need-append-requires-3
 append-requires-3 c κs =
     let w = c .before .before in
     omega (arith, fit w, part (w .after-first .result) placeCount w, w .after-first .ensures)
-
-returns : tie.Need-returns
-returns c =
-    let w = c .before .before .before .before in
-    let k = c .before .kernel-and-command-line .ensures in
-    let r = c .append .ensures in
-    let l = w .before .args .sections in (
-      omega (arith, fit w, part 0 placeCount w),
-      r .1 ∙ ap₂ (λ (a b : List Section). a ++ b) (k .1) (every w) ∙ whole l (w .before .args .stream) (c .before .before .enum-told .given .1),
-    )
-
-returns-2 : tie.Need-returns-2
-returns-2 c =
-    let w = c .before .before .before .before in
-    let k = c .before .kernel-and-command-line2 .ensures in
-    let r = c .append2 .ensures in
-    let l = w .before .args .sections in (
-      omega (arith, fit w, part 0 (w .after-first .result) w),
-      r .1 ∙ ap₂ (λ (a b : List Section). a ++ b) (k .1) (first w) ∙ boot l (w .before .args .stream) (c .before .before .enum-told2 .given .1),
-    )
-
-returns-3 : tie.Need-returns-3
-returns-3 c =
-    let w = c .before .before .before in
-    let r = c .append3 .ensures in
-    let l = w .before .args .sections in
-    (omega (arith, fit w, part (w .after-first .result) placeCount w), r .1 ∙ others w ∙ app l (w .before .args .stream) (c .before .enum-told3 .given .1))
 
 pub sections-of-spec : {M : Type 1} → statement M
 sections-of-spec =

@@ -2,7 +2,7 @@
 use mathlib.Core.Path.{refl}
 use borrow.Author.Needs.{needs}
 use Rattle.eif_writer.specs.Parts.{firstFields}
-use Rattle.eif_writer.proofs.Pieces.{joined}
+use Rattle.octets.proofs.Over.{over-joined}
 use Rattle.eif_writer.proofs.put_first.Statement.{statement}
 use Rattle.eif_writer.proofs.put_first.Tie as tie
 
@@ -12,7 +12,7 @@ returns c =
     let z = c .before .before in
     let y = z .before .before .before .before in
     let x = y .before .before .before .before in
-    joined _ _ _ _ (x .put-be32 .ensures) (joined _ _ _ _ (y .put-be16 .ensures) (z .put-be162 .ensures) refl) refl
+    over-joined _ _ _ _ (x .put-be32 .ensures) (over-joined _ _ _ _ (y .put-be16 .ensures) (z .put-be162 .ensures) refl) refl
 
 pub put-first-spec : {M : Type 1} → statement M
 put-first-spec = tie.close (tie.spec (λ c κs. search needs) (λ c κs. search needs) (λ c κs. search needs) (λ c. search needs) returns)

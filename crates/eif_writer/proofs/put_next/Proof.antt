@@ -2,7 +2,7 @@
 use mathlib.Core.Path.{refl}
 use borrow.Author.Needs.{needs}
 use Rattle.eif_writer.specs.Parts.{nextFields}
-use Rattle.eif_writer.proofs.Pieces.{joined}
+use Rattle.octets.proofs.Over.{over-joined}
 use Rattle.eif_writer.proofs.put_next.Statement.{statement}
 use Rattle.eif_writer.proofs.put_next.Tie as tie
 
@@ -13,8 +13,8 @@ returns c =
     let y = z .before .before .before .before in
     let x = y .before .before .before .before in
     let w = x .before .before .before .before in
-    joined _ _ _ _ (w .put-be64 .ensures)
-    (joined _ _ _ _ (x .put-be642 .ensures) (joined _ _ _ _ (y .put-be16 .ensures) (z .put-be162 .ensures) refl) refl) refl
+    over-joined _ _ _ _ (w .put-be64 .ensures)
+    (over-joined _ _ _ _ (x .put-be642 .ensures) (over-joined _ _ _ _ (y .put-be16 .ensures) (z .put-be162 .ensures) refl) refl) refl
 
 pub put-next-spec : {M : Type 1} → statement M
 put-next-spec =

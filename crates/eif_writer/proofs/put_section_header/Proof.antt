@@ -8,7 +8,7 @@ use denote.Ref.{now}
 use Rattle.octets.specs.Bytes.{beBytes}
 use Rattle.octets.specs.Over.{over}
 use Rattle.eif.specs.Plan.{sectionHeader}
-use Rattle.eif_writer.proofs.Pieces.{joined}
+use Rattle.octets.proofs.Over.{over-joined}
 use Rattle.eif_writer.proofs.put_section_header.Statement.{statement}
 use Rattle.eif_writer.proofs.put_section_header.Tie as tie
 
@@ -20,8 +20,8 @@ returns c =
     let x = y .before .before .before .before in
     let a = x .before .before .before .args in
     let e : a .at + 2 + 2 ≡ a .at + 4 = omega arith in
-    joined _ _ _ _ (x .put-be16 .ensures ∙ ap (λ (n : ℕ). over (now (a .out)) n (beBytes 2 (a .place .kind))) (add-zero (a .at)))
-    (joined _ _ _ _ (y .put-be162 .ensures) (z .put-be64 .ensures) e) refl
+    over-joined _ _ _ _ (x .put-be16 .ensures ∙ ap (λ (n : ℕ). over (now (a .out)) n (beBytes 2 (a .place .kind))) (add-zero (a .at)))
+    (over-joined _ _ _ _ (y .put-be162 .ensures) (z .put-be64 .ensures) e) refl
 
 pub put-section-header-spec : {M : Type 1} → statement M
 put-section-header-spec =

@@ -1,0 +1,318 @@
+// Runs the cases of the three streams, one line each: what each stream of small images is, and copying from positions at and
+// around borders and ends. An output buffer is shown whole; it held dots before the call.
+use eif::Header;
+use eif::Refusal;
+use eif::SectionType;
+use eif::Stream;
+use eif::StreamPosition;
+use eif::Verdict;
+
+// ---- lines
+
+fn text(bytes: &[u8]) {
+    io::write_all(libc::STDOUT_FILENO, bytes);
+}
+
+fn number(n: u64) {
+    io::print_decimal(libc::STDOUT_FILENO, n);
+}
+
+fn in_brackets(bytes: &[u8]) {
+    text(b"[");
+    text(bytes);
+    text(b"]");
+}
+
+fn refusal(r: Refusal) {
+    text(b"refused ");
+    number(r.number as u64);
+    text(b" at ");
+    number(r.index);
+}
+
+fn answer(verdict: Verdict) {
+    match verdict {
+        Verdict::Accepted => text(b"accepted"),
+        Verdict::Refused(r) => refusal(r),
+    }
+}
+
+// The answer, the number of bytes copied and every byte of the output.
+fn copy(label: &[u8], image: &[u8], stream: Stream, from: u64, out: &mut [u8]) {
+    let copied = eif_streams::copy(image, stream, StreamPosition(from), out);
+    let verdict = copied.verdict;
+    text(label);
+    text(b": ");
+    answer(verdict);
+    text(b", ");
+    number(copied.count);
+    text(b" ");
+    in_brackets(out);
+    text(b"\n");
+}
+
+// A copy of at most four bytes.
+fn copy_few(label: &[u8], image: &[u8], stream: Stream, from: u64) {
+    let mut out = [b'.'; 4];
+    copy(label, image, stream, from, &mut out);
+}
+
+fn length(label: &[u8], image: &[u8], stream: Stream) {
+    let length = eif_streams::length(image, stream);
+    let verdict = length.verdict;
+    text(label);
+    text(b": ");
+    answer(verdict);
+    text(b", ");
+    number(length.length);
+    text(b"\n");
+}
+
+// A stream's length, and its bytes in a buffer of 26.
+fn whole_of(name: &[u8], image: &[u8], stream: Stream) {
+    let mut out = [b'.'; 26];
+    text(name);
+    number(eif_streams::length(image, stream).length);
+    text(b" ");
+    eif_streams::copy(image, stream, StreamPosition(0), &mut out);
+    in_brackets(&out);
+}
+
+fn streams(label: &[u8], image: &[u8]) {
+    text(label);
+    whole_of(b": Whole ", image, Stream::Whole);
+    whole_of(b", Boot ", image, Stream::Boot);
+    whole_of(b", App ", image, Stream::App);
+    text(b"\n");
+}
+
+// ---- images; sections are packed, each at the end of the one before it
+
+fn put(image: &mut [u8], i: u8, at: u32, kind: u16, lent: &[u8]) {
+    case_images::put_section(image, i, at, kind, 0, lent);
+}
+
+// Kernel, command line and three ramdisks, not sealed; 633 bytes.
+fn put_ordinary(image: &mut [u8]) {
+    case_images::put_header(image, 2, 0, 5);
+    put(image, 0, 548, SectionType::KERNEL, b"kernel");
+    put(image, 1, 566, SectionType::COMMAND_LINE, b"cmd");
+    put_ramdisks(image);
+}
+
+fn put_ramdisks(image: &mut [u8]) {
+    put(image, 2, 581, SectionType::RAMDISK, b"first");
+    put(image, 3, 598, SectionType::RAMDISK, b"second");
+    put(image, 4, 616, SectionType::RAMDISK, b"third");
+}
+
+fn put_command_line_first(image: &mut [u8]) {
+    case_images::put_header(image, 2, 0, 3);
+    put(image, 0, 548, SectionType::COMMAND_LINE, b"cmd");
+    put(image, 1, 563, SectionType::KERNEL, b"kernel");
+    put(image, 2, 581, SectionType::RAMDISK, b"ram");
+}
+
+fn put_command_line_last(image: &mut [u8]) {
+    case_images::put_header(image, 2, 0, 4);
+    put(image, 0, 548, SectionType::KERNEL, b"kernel");
+    put(image, 1, 566, SectionType::RAMDISK, b"one");
+    put(image, 2, 581, SectionType::RAMDISK, b"two");
+}
+
+// A command line with no bytes, and ramdisks with none between others.
+fn put_empty_sections(image: &mut [u8]) {
+    case_images::put_header(image, 2, 0, 5);
+    put(image, 0, 548, SectionType::KERNEL, b"k");
+    put(image, 1, 561, SectionType::COMMAND_LINE, b"");
+    put(image, 2, 573, SectionType::RAMDISK, b"a");
+}
+
+// Kernel and command line of one byte each.
+fn put_small(image: &mut [u8], count: u16) {
+    case_images::put_header(image, 2, 0, count);
+    put(image, 0, 548, SectionType::KERNEL, b"k");
+    put(image, 1, 561, SectionType::COMMAND_LINE, b"c");
+}
+
+fn put_signed(image: &mut [u8]) {
+    case_images::put_header(image, 3, 0, 4);
+    put(image, 0, 548, SectionType::KERNEL, b"k");
+    put(image, 1, 561, SectionType::SIGNATURE, b"sig");
+    put(image, 2, 576, SectionType::COMMAND_LINE, b"c");
+}
+
+// ---- which sections, in what order
+
+fn ordinary() {
+    let mut image = [0u8; 633];
+    put_ordinary(&mut image);
+    case_images::seal(&mut image);
+    streams(b"in order", &image);
+    within(&image);
+    ends(&image);
+    pieces(&image);
+}
+
+fn command_line_first() {
+    let mut image = [0u8; 596];
+    put_command_line_first(&mut image);
+    case_images::seal(&mut image);
+    streams(b"command line before the kernel", &image);
+}
+
+fn command_line_last() {
+    let mut image = [0u8; 611];
+    put_command_line_last(&mut image);
+    put(&mut image, 3, 596, SectionType::COMMAND_LINE, b"cmd");
+    case_images::seal(&mut image);
+    streams(b"command line after the ramdisks", &image);
+}
+
+fn empty_sections() {
+    let mut image = [0u8; 611];
+    put_empty_sections(&mut image);
+    put(&mut image, 3, 586, SectionType::RAMDISK, b"");
+    put(&mut image, 4, 598, SectionType::RAMDISK, b"b");
+    case_images::seal(&mut image);
+    streams(b"empty sections in the middle", &image);
+}
+
+fn first_ramdisk_empty() {
+    let mut image = [0u8; 599];
+    put_small(&mut image, 4);
+    put(&mut image, 2, 574, SectionType::RAMDISK, b"");
+    put(&mut image, 3, 586, SectionType::RAMDISK, b"b");
+    case_images::seal(&mut image);
+    streams(b"first ramdisk empty", &image);
+}
+
+fn no_ramdisk() {
+    let mut image = [0u8; 574];
+    put_small(&mut image, 2);
+    case_images::seal(&mut image);
+    streams(b"no ramdisk", &image);
+    copy_few(b"its App from 0", &image, Stream::App, 0);
+    copy_few(b"its App from 1", &image, Stream::App, 1);
+}
+
+fn one_ramdisk() {
+    let mut image = [0u8; 587];
+    put_small(&mut image, 3);
+    put(&mut image, 2, 574, SectionType::RAMDISK, b"r");
+    case_images::seal(&mut image);
+    streams(b"one ramdisk", &image);
+}
+
+fn signed() {
+    let mut image = [0u8; 602];
+    put_signed(&mut image);
+    put(&mut image, 3, 589, SectionType::RAMDISK, b"r");
+    case_images::seal(&mut image);
+    streams(b"a signature between", &image);
+}
+
+// ---- positions and room, for the image in order
+
+fn within(image: &[u8]) {
+    let mut kernel = [b'.'; 6];
+    copy(
+        b"Whole from 0, room 6",
+        image,
+        Stream::Whole,
+        0,
+        &mut kernel,
+    );
+    let mut borders = [b'.'; 8];
+    copy(
+        b"Whole from 4, over two borders",
+        image,
+        Stream::Whole,
+        4,
+        &mut borders,
+    );
+    let mut last = [b'.'; 8];
+    copy(
+        b"Whole from 20, room 8",
+        image,
+        Stream::Whole,
+        20,
+        &mut last,
+    );
+    let mut none = [b'.'; 0];
+    copy(b"Whole from 3, no room", image, Stream::Whole, 3, &mut none);
+}
+
+fn ends(image: &[u8]) {
+    copy_few(b"Whole from 25", image, Stream::Whole, 25);
+    copy_few(b"Whole from 26", image, Stream::Whole, 26);
+    copy_few(b"Boot from 13", image, Stream::Boot, 13);
+    copy_few(b"Boot from 14", image, Stream::Boot, 14);
+    copy_few(b"Boot from 15", image, Stream::Boot, 15);
+    copy_few(b"App from 5", image, Stream::App, 5);
+    copy_few(b"App from 11", image, Stream::App, 11);
+    copy_few(b"App from 12", image, Stream::App, 12);
+    copy_few(
+        b"Whole from all ones",
+        image,
+        Stream::Whole,
+        18446744073709551615,
+    );
+}
+
+// Seven bytes at a time, each copy from where the last one ended.
+fn pieces(image: &[u8]) {
+    text(b"Whole in pieces of 7: ");
+    let second = piece(image, 0);
+    let third = piece(image, second);
+    let fourth = piece(image, third);
+    let fifth = piece(image, fourth);
+    piece(image, fifth);
+    text(b"\n");
+}
+
+// Where the next piece starts is handed back.
+fn piece(image: &[u8], from: u64) -> u64 {
+    let mut out = [b'.'; 7];
+    let copied = eif_streams::copy(image, Stream::Whole, StreamPosition(from), &mut out);
+    in_brackets(&out);
+    std::num::wrapping_add_u64(from, copied.count)
+}
+
+// ---- the image's own refusal comes first
+
+fn not_sealed() {
+    let mut image = [0u8; 633];
+    put_ordinary(&mut image);
+    case_images::seal(&mut image);
+    octets::put_be16(&mut image, Header::FLAGS_AT, 1);
+    copy_few(b"its checksum wrong, from 0", &image, Stream::Whole, 0);
+    copy_few(
+        b"its checksum wrong, from all ones",
+        &image,
+        Stream::Whole,
+        18446744073709551615,
+    );
+    length(b"its checksum wrong, length", &image, Stream::Whole);
+}
+
+fn before_kernel() {
+    let mut image = [0u8; 596];
+    put_command_line_first(&mut image);
+    octets::put_be16(&mut image, 563, SectionType::RAMDISK);
+    case_images::seal(&mut image);
+    copy_few(b"a ramdisk before the kernel", &image, Stream::Boot, 0);
+}
+
+fn main() {
+    ordinary();
+    command_line_first();
+    command_line_last();
+    empty_sections();
+    first_ramdisk_empty();
+    no_ramdisk();
+    one_ramdisk();
+    signed();
+    not_sealed();
+    before_kernel();
+}
