@@ -53,19 +53,19 @@ enum eif_number {
     /* Version not 2, 3 or 4. */
     EIF_WRONG_VERSION = 4,
     /* Number of sections not 2 to 32, or a roll with a 33rd record. */
-    EIF_WRONG_SECTION_COUNT = 5,
+    EIF_WRONG_COUNT = 5,
     /* Section starts before the end of the one before it (548 for the first). */
-    EIF_SECTION_OVERLAP = 6,
+    EIF_STARTS_EARLY = 6,
     /* Offset + 12 + size is more than the file length. */
-    EIF_SECTION_PAST_END = 7,
+    EIF_ENDS_LATE = 7,
     /* Size in the section header differs from the table. */
-    EIF_SIZE_DIFFERS = 8,
+    EIF_SIZES_DIFFER = 8,
     /* Type not allowed in this version. */
     EIF_TYPE_NOT_ALLOWED = 9,
     /* Ramdisk with no kernel earlier in the file. */
     EIF_RAMDISK_BEFORE_KERNEL = 10,
     /* Second kernel, command line, signature or metadata. */
-    EIF_SECOND_OF_TYPE = 11,
+    EIF_TYPE_REPEATED = 11,
     /* Kernel or command line missing, or metadata missing in version 4. */
     EIF_SECTION_MISSING = 12,
     /* Checksum differs. */
@@ -75,11 +75,11 @@ enum eif_number {
     /* Data length differs from the plan's sum of lengths. */
     EIF_DATA_LENGTH_DIFFERS = 15,
     /* Roll ends inside a record, or before its end record. */
-    EIF_ROLL_CUT = 16,
+    EIF_RECORD_CUT = 16,
     /* Roll record of type above 3, or type 0 with a length not 0. */
-    EIF_ROLL_RECORD_TYPE = 17,
+    EIF_RECORD_TYPE_WRONG = 17,
     /* Bytes after the end record. */
-    EIF_BYTES_AFTER_ROLL = 18,
+    EIF_BYTES_AFTER_END = 18,
     /* Stream position past the stream's end. */
     EIF_PAST_STREAM_END = 19
 };
@@ -100,6 +100,11 @@ enum eif_section_type {
 typedef struct eif_file_position {
     uint64_t value;
 } eif_file_position;
+
+/* A position in a measured stream. */
+typedef struct eif_stream_position {
+    uint64_t value;
+} eif_stream_position;
 
 /* A position in a boot roll, from the roll's start. */
 typedef struct eif_roll_position {
@@ -193,12 +198,12 @@ eif_answer eif_app_length(const uint8_t *image, size_t image_length);
 /* Copies a measured stream, from stream position from on, to the start of out, and answers how many
  * bytes were copied: as many as both out and the rest of the stream have. Later bytes of out stay.
  * Refusals: the image's own, then 19. */
-eif_answer eif_copy_whole(const uint8_t *image, size_t image_length, uint64_t from, uint8_t *out,
-                          size_t out_length);
-eif_answer eif_copy_boot(const uint8_t *image, size_t image_length, uint64_t from, uint8_t *out,
-                         size_t out_length);
-eif_answer eif_copy_app(const uint8_t *image, size_t image_length, uint64_t from, uint8_t *out,
-                        size_t out_length);
+eif_answer eif_copy_whole(const uint8_t *image, size_t image_length, eif_stream_position from,
+                          uint8_t *out, size_t out_length);
+eif_answer eif_copy_boot(const uint8_t *image, size_t image_length, eif_stream_position from,
+                         uint8_t *out, size_t out_length);
+eif_answer eif_copy_app(const uint8_t *image, size_t image_length, eif_stream_position from,
+                        uint8_t *out, size_t out_length);
 
 /* Writes the boot roll of an image over the start of out and answers the roll's length, which is less
  * than the image's. Bytes of out past the roll stay. Refusals: the image's own, then 14. */

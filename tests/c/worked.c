@@ -21,6 +21,12 @@ typedef char layout_of_roll_record[sizeof(eif_roll_record) == 24 ? 1 : -1];
 typedef char layout_of_roll_reading[sizeof(eif_roll_reading) == 792 ? 1 : -1];
 typedef char layout_of_roll_records[offsetof(eif_roll_reading, records) == 24 ? 1 : -1];
 
+static eif_stream_position at(uint64_t value) {
+    eif_stream_position position;
+    position.value = value;
+    return position;
+}
+
 static const uint8_t expected_roll[ROLL_LENGTH] = {
     0x01, 0, 0, 0, 0, 0, 0, 0, 0x01, 0, 0x4b,
     0x01, 0, 0, 0, 0, 0, 0, 0, 0x02, 0, 0x61,
@@ -133,13 +139,13 @@ static void try_streams(const uint8_t *image) {
     check(is(eif_app_length(image, IMAGE_LENGTH), EIF_ACCEPTED, 0), "app, length");
     check(is(eif_app_length(image, 0), EIF_IMAGE_TOO_SHORT, 0), "app, length, no image");
 
-    check(is(eif_copy_app(image, IMAGE_LENGTH, 0, out, 4), EIF_ACCEPTED, 0), "app");
-    check(is(eif_copy_whole(image, IMAGE_LENGTH, 2, out, 4), EIF_ACCEPTED, 0), "whole from 2");
-    check(is(eif_copy_whole(image, IMAGE_LENGTH, 3, out, 4), EIF_PAST_STREAM_END, 0), "whole from 3");
+    check(is(eif_copy_app(image, IMAGE_LENGTH, at(0), out, 4), EIF_ACCEPTED, 0), "app");
+    check(is(eif_copy_whole(image, IMAGE_LENGTH, at(2), out, 4), EIF_ACCEPTED, 0), "whole from 2");
+    check(is(eif_copy_whole(image, IMAGE_LENGTH, at(3), out, 4), EIF_PAST_STREAM_END, 0), "whole from 3");
     check(stays(out, 0, 4), "output where nothing is copied");
-    check(is(eif_copy_boot(image, IMAGE_LENGTH, 1, out, 4), EIF_ACCEPTED, 1), "boot from 1");
+    check(is(eif_copy_boot(image, IMAGE_LENGTH, at(1), out, 4), EIF_ACCEPTED, 1), "boot from 1");
     check(out[0] == 0x61 && stays(out, 1, 4), "boot from 1, bytes");
-    check(is(eif_copy_whole(image, IMAGE_LENGTH, 0, out, 4), EIF_ACCEPTED, 2), "whole");
+    check(is(eif_copy_whole(image, IMAGE_LENGTH, at(0), out, 4), EIF_ACCEPTED, 2), "whole");
     check(out[0] == 0x4b && out[1] == 0x61 && stays(out, 2, 4), "whole, bytes");
 }
 
@@ -165,7 +171,7 @@ static void try_roll(const uint8_t *image) {
     }
 
     eif_roll_reading cut = eif_roll_read(expected_roll, ROLL_LENGTH - 1);
-    check(cut.number == EIF_ROLL_CUT && cut.index == 3 && cut.count == 0, "roll cut");
+    check(cut.number == EIF_RECORD_CUT && cut.index == 3 && cut.count == 0, "roll cut");
 }
 
 int main(void) {

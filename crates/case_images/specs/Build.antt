@@ -1,8 +1,8 @@
 -- What the building functions leave in a buffer, as bytes written over what stood there.
 -- Assumes nothing.
 use Prim.Native.Nat.{ℕ, _+_, _*_}
-use mathlib.Core.List.{List, _++_}
-use lib.ListN.{length, take, drop}
+use mathlib.Core.List.{List}
+use lib.ListN.{length}
 use Rattle.octets.specs.Bytes.{beBytes}
 use Rattle.octets.specs.Over.{over}
 use Rattle.eif.specs.Layout.{magicNumber, sectionHeaderSize, checksumAt}

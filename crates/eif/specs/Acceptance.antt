@@ -1,6 +1,6 @@
 -- What an accepted image is, with no order of rules and no walk: each rule of the paper once, in plain arithmetic.
 -- That an image is accepted exactly when it meets these rules is a law of its own. Assumes nothing.
-use Prim.Native.Nat.{ℕ, suc, _+_, _<_, _≤_}
+use Prim.Native.Nat.{ℕ, suc, _<_, _≤_}
 use mathlib.Core.Path.{_≡_}
 use mathlib.Core.List.{List}
 use mathlib.Core.Logic.{_⊎_}

@@ -3,7 +3,6 @@
 use Prim.Native.Nat.{ℕ}
 use lib.Dec.{eqb}
 use Rattle.eif.specs.Logic.{choose}
-use Rattle.eif.specs.declared.Refusal.{Refusal}
 use Rattle.eif.specs.declared.Verdict.{Verdict}
 use Rattle.eif.specs.declared.Verdict.the-variants.{Accepted, Refused}
 

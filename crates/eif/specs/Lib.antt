@@ -6,10 +6,10 @@ pub mod Table
 pub mod Layout
 pub mod Reading
 pub mod Acceptance
-pub mod Order
 pub mod Output
 pub mod Plan
 pub mod Stream
 pub mod Roll
+pub mod Order
 pub mod Rows
 pub mod Worked

@@ -1,16 +1,23 @@
--- The order of the refusals of an image, as one list: every rule at every section it judges, in the paper's order.
--- That the verdict is the first of them that applies is a law of its own. Assumes nothing.
+-- The order of the refusals, as lists: every rule at every section or record that it judges, in the paper's order.
+-- That each verdict is that of the first rule that applies is a law of its own. Assumes nothing.
 use Prim.Native.Nat.{ℕ, zero, suc, _+_}
-use mathlib.Core.Bool.{Bool, true, false, not}
+use mathlib.Core.Bool.{Bool, true, not}
 use mathlib.Core.List.{List, [], _∷_, _++_}
-use lib.Dec.{ltb, eqb}
-use Rattle.eif.specs.Numbers.{sizeLimit, kernel, ramdisk, imageTooLong, imageTooShort, wrongMagic, wrongVersion, wrongCount, startsEarly, endsLate, sizesDiffer, typeNotAllowed, ramdiskBeforeKernel, typeRepeated, sectionMissing, checksumDiffers}
-use Rattle.eif.specs.Logic.{both, choose}
+use lib.Dec.{ltb, leb, eqb}
+use lib.ListN.{length}
+use Rattle.eif.specs.Numbers.{sizeLimit, placeCount, oldestVersion, kernel, ramdisk, imageTooLong, imageTooShort, wrongMagic, wrongVersion, wrongCount, startsEarly, endsLate, sizesDiffer, typeNotAllowed, ramdiskBeforeKernel, typeRepeated, sectionMissing, checksumDiffers, outputTooShort, dataLengthDiffers, recordCut, recordTypeWrong, bytesAfterEnd, pastStreamEnd}
+use Rattle.eif.specs.Logic.{both, either, choose}
 use Rattle.eif.specs.Answers.{refuse}
 use Rattle.eif.specs.Rules.{versionKnown, countKnown, allowedIn, seen, missing}
-use Rattle.eif.specs.Layout.{magicNumber, headerSize, View, magic, version, count, offset, size, checksum, end, start}
+use Rattle.eif.specs.Layout.{magicNumber, headerSize, View, viewOf, magic, version, count, offset, size, checksum, end, start}
+use Rattle.eif.specs.Reading.{checksumOf}
+use Rattle.eif.specs.Plan.{plannedKind, plainSize, dataBefore}
+use Rattle.eif.specs.Stream.{streamOf}
+use Rattle.eif.specs.Roll.{recordHeadSize, recordAt, recordSize, recordKind, isEnd, imageSize, rollBytes}
+use Rattle.eif.specs.declared.Plan.{Plan}
+use Rattle.eif.specs.declared.Stream.{Stream}
 use Rattle.eif.specs.declared.Verdict.{Verdict}
-use Rattle.eif.specs.declared.Verdict.the-variants.{Accepted, Refused}
+use Rattle.eif.specs.declared.Verdict.the-variants.{Accepted}
 
 -- whether a rule applies, its number, and the index that its refusal gives
 pub record Rule : Type 0 where
@@ -26,6 +33,26 @@ unfoldable pub firstThatApplies : List Rule → Verdict
 firstThatApplies [] = Accepted
 firstThatApplies (r ∷ rs) = choose (r .applies) (refuse (r .number) (r .index)) (firstThatApplies rs)
 
+-- ---- rules on section types, for image, plan and roll: types are given by a function from place to type
+
+-- 10 and 11 at place i
+unfoldable pub orderRules : (ℕ → ℕ) → ℕ → List Rule
+orderRules kinds i =
+    rule (both (eqb (kinds i) ramdisk) (not (seen kinds kernel i))) ramdiskBeforeKernel i
+    ∷ rule (both (not (eqb (kinds i) ramdisk)) (seen kinds (kinds i) i)) typeRepeated i
+    ∷ []
+
+-- 9, 10 and 11 at place i, in a version
+unfoldable pub typeRules : ℕ → (ℕ → ℕ) → ℕ → List Rule
+typeRules version kinds i = rule (not (allowedIn version (kinds i))) typeNotAllowed i ∷ orderRules kinds i
+
+-- the rules at n places from place i on
+unfoldable pub rulesFrom : (ℕ → List Rule) → ℕ → ℕ → List Rule
+rulesFrom at zero i = []
+rulesFrom at (suc n) i = at i ++ rulesFrom at n (suc i)
+
+-- ---- reading an image: 1 to 5, then 6 to 11 section by section, then 12, then 13
+
 unfoldable pub headerRules : View → List Rule
 headerRules v =
     rule (ltb sizeLimit (v .size)) imageTooLong 0
@@ -35,25 +62,71 @@ headerRules v =
     ∷ rule (not (countKnown (count v))) wrongCount 0
     ∷ []
 
-unfoldable pub rulesAt : View → ℕ → List Rule
-rulesAt v i =
+unfoldable pub sectionRules : View → ℕ → List Rule
+sectionRules v i =
     rule (ltb (offset v i) (start v i)) startsEarly i
     ∷ rule (ltb (v .size) (end v i)) endsLate i
     ∷ rule (not (eqb (v .ownSize i) (size v i))) sizesDiffer i
-    ∷ rule (not (allowedIn (version v) (v .kind i))) typeNotAllowed i
-    ∷ rule (both (eqb (v .kind i) ramdisk) (not (seen (v .kind) kernel i))) ramdiskBeforeKernel i
-    ∷ rule (both (not (eqb (v .kind i) ramdisk)) (seen (v .kind) (v .kind i) i)) typeRepeated i
-    ∷ []
+    ∷ typeRules (version v) (v .kind) i
 
--- those of n sections from section i on
-unfoldable pub sectionRules : View → ℕ → ℕ → List Rule
-sectionRules v zero i = []
-sectionRules v (suc n) i = rulesAt v i ++ sectionRules v n (suc i)
-
--- all, where the sections are looked at only if no rule of the header applies
-unfoldable pub rulesOf : View → ℕ → List Rule
-rulesOf v computed =
-    headerRules v ++ (sectionRules v (count v) 0
+unfoldable pub viewRules : View → ℕ → List Rule
+viewRules v computed =
+    headerRules v ++ (rulesFrom (sectionRules v) (count v) 0
     ++ (rule (missing (v .kind) (version v) (count v)) sectionMissing 0
     ∷ rule (not (eqb (checksum v) computed)) checksumDiffers 0
     ∷ []))
+
+abbrev pub imageRules : List ℕ → List Rule
+imageRules s = viewRules (viewOf s) (checksumOf s)
+
+-- ---- writing an image: 4, 5, then 9 to 11 section by section, then 12, 1, 15, 14
+
+unfoldable pub planRules : Plan → ℕ → ℕ → List Rule
+planRules p given room =
+    rule (not (versionKnown (p .version))) wrongVersion 0
+    ∷ rule (not (countKnown (p .count))) wrongCount 0
+    ∷ (rulesFrom (typeRules (p .version) (plannedKind (p .places))) (p .count) 0
+    ++ (rule (missing (plannedKind (p .places)) (p .version) (p .count)) sectionMissing 0
+    ∷ rule (ltb sizeLimit (plainSize p)) imageTooLong 0
+    ∷ rule (not (eqb given (dataBefore (p .places) (p .count)))) dataLengthDiffers 0
+    ∷ rule (ltb room (plainSize p)) outputTooShort 0
+    ∷ []))
+
+-- ---- copying from a stream, and writing a roll: the image's own, then 19 or 14
+
+unfoldable pub copyRules : List ℕ → Stream → ℕ → List Rule
+copyRules s stream from = imageRules s ++ (rule (ltb (length (streamOf s stream)) from) pastStreamEnd 0 ∷ [])
+
+unfoldable pub rollWriteRules : List ℕ → ℕ → List Rule
+rollWriteRules s room = imageRules s ++ (rule (ltb room (length (rollBytes s))) outputTooShort 0 ∷ [])
+
+-- ---- reading a roll: per record 16, 17; stop at the end record; 5, 16, 10, 11. After the end record 18, 12, 1
+
+unfoldable pub headRules : List ℕ → ℕ → List Rule
+headRules s i =
+    rule (ltb (length s) (recordAt s i + recordHeadSize)) recordCut i
+    ∷ rule (either (ltb ramdisk (recordKind s i)) (both (isEnd s i) (not (eqb (recordSize s i) 0)))) recordTypeWrong i
+    ∷ []
+
+unfoldable pub bodyRules : List ℕ → ℕ → List Rule
+bodyRules s i =
+    rule (leb placeCount i) wrongCount 0
+    ∷ rule (ltb (length s) (recordAt s (suc i))) recordCut i
+    ∷ orderRules (recordKind s) i
+
+-- with the end record at place n
+unfoldable pub endRules : List ℕ → ℕ → List Rule
+endRules s n =
+    rule (ltb (recordAt s n + recordHeadSize) (length s)) bytesAfterEnd 0
+    ∷ rule (missing (recordKind s) oldestVersion n) sectionMissing 0
+    ∷ rule (ltb sizeLimit (imageSize s n)) imageTooLong 0
+    ∷ []
+
+-- from record i on, in at most n records
+unfoldable pub rollRulesFrom : List ℕ → ℕ → ℕ → List Rule
+rollRulesFrom s zero i = rule true wrongCount 0 ∷ []
+rollRulesFrom s (suc n) i = headRules s i ++ choose (isEnd s i) (endRules s i) (bodyRules s i ++ rollRulesFrom s n (suc i))
+
+-- at most 32 records and the end record
+abbrev pub rollRules : List ℕ → List Rule
+rollRules s = rollRulesFrom s (suc placeCount) 0

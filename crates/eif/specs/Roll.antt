@@ -1,7 +1,7 @@
 -- The boot roll (the paper's term): its bytes, what writing one answers, and what reading one answers.
 -- Assumes nothing.
 use Prim.Native.Nat.{ℕ, zero, suc, _+_, _≤_}
-use mathlib.Core.Bool.{Bool, true, false, not}
+use mathlib.Core.Bool.{Bool, not}
 use mathlib.Core.List.{List, [], _∷_, _++_}
 use mathlib.Core.Path.{_≡_}
 use lib.Dec.{ltb, leb, eqb}
@@ -21,7 +21,7 @@ use Rattle.eif.specs.declared.RollRecord.{RollRecord}
 use Rattle.eif.specs.declared.RollReading.{RollReading}
 use Rattle.eif.specs.declared.Written.{Written}
 use Rattle.eif.specs.declared.Verdict.{Verdict}
-use Rattle.eif.specs.declared.Verdict.the-variants.{Accepted, Refused}
+use Rattle.eif.specs.declared.Verdict.the-variants.{Accepted}
 
 -- ---- the bytes of a roll
 

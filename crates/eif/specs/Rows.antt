@@ -8,7 +8,7 @@ use Rattle.octets.specs.Bytes.{leField}
 use Rattle.eif.specs.Numbers.{placeCount}
 use Rattle.eif.specs.Answers.{refuse}
 use Rattle.eif.specs.Rules.{seen, orderFault, missing}
-use Rattle.eif.specs.Roll.{Record, rollOf, headOf, readRoll, refusedRoll, acceptedRoll, blankRecord, endFrom, recordAt, headFault, bodyFault, imageSize, rollFault}
+use Rattle.eif.specs.Roll.{rollOf, headOf, readRoll, refusedRoll, acceptedRoll, blankRecord, endFrom, recordAt, headFault, bodyFault, imageSize, rollFault}
 use Rattle.eif.specs.declared.RollRecord.{RollRecord}
 use Rattle.eif.specs.declared.RollReading.{RollReading}
 

@@ -1,13 +1,13 @@
 -- The rules on section types, for image, plan and boot roll alike: types are given by a function from place to type.
 -- Assumes nothing.
 use Prim.Native.Nat.{ℕ, zero, suc}
-use mathlib.Core.Bool.{Bool, true, false, not}
+use mathlib.Core.Bool.{Bool, false, not}
 use lib.Dec.{leb, eqb}
 use Rattle.eif.specs.Numbers.{signatureVersion, metadataVersion, oldestVersion, newestVersion, fewestSections, placeCount, kernel, commandLine, ramdisk, signature, metadata, typeNotAllowed, ramdiskBeforeKernel, typeRepeated}
 use Rattle.eif.specs.Logic.{both, either, choose}
 use Rattle.eif.specs.Answers.{refuse}
 use Rattle.eif.specs.declared.Verdict.{Verdict}
-use Rattle.eif.specs.declared.Verdict.the-variants.{Accepted, Refused}
+use Rattle.eif.specs.declared.Verdict.the-variants.{Accepted}
 
 -- the test of rule 4
 abbrev pub versionKnown : ℕ → Bool

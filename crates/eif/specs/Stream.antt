@@ -15,7 +15,7 @@ use Rattle.eif.specs.declared.Stream.the-variants.{Whole, Boot, App}
 use Rattle.eif.specs.declared.Copied.{Copied}
 use Rattle.eif.specs.declared.StreamLength.{StreamLength}
 use Rattle.eif.specs.declared.Verdict.{Verdict}
-use Rattle.eif.specs.declared.Verdict.the-variants.{Accepted, Refused}
+use Rattle.eif.specs.declared.Verdict.the-variants.{Accepted}
 
 -- the sections of a type, in file order
 unfoldable pub ofType : ℕ → List Section → List Section

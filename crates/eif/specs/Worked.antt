@@ -15,7 +15,6 @@ use Rattle.eif.specs.Roll.{headOf, rollOf, recordsIn, rollBytes}
 use Rattle.eif.specs.Rows.{worked}
 use Rattle.eif.specs.declared.Place.{Place}
 use Rattle.eif.specs.declared.Plan.{Plan}
-use Rattle.eif.specs.declared.Verdict.{Verdict}
 use Rattle.eif.specs.declared.Verdict.the-variants.{Accepted}
 
 abbrev place : ℕ → ℕ → Place

@@ -141,31 +141,31 @@ pub extern "C" fn eif_app_length(image: &[u8]) -> EifAnswer
 }
 
 #[no_mangle]
-pub extern "C" fn eif_copy_whole(image: &[u8], from: u64, out: &mut [u8]) -> EifAnswer
-    ensures { λ r. ⌜ r ≡ flatCopied (copyAnswer (now (image .entry)) Whole from (length (now (out .entry)))) ⌝ }
-    ensures { λ _. ⌜ now (out .exit) ≡ copyOutput (now (image .entry)) Whole from (now (out .entry)) ⌝ }
+pub extern "C" fn eif_copy_whole(image: &[u8], from: StreamPosition, out: &mut [u8]) -> EifAnswer
+    ensures { λ r. ⌜ r ≡ flatCopied (copyAnswer (now (image .entry)) Whole (from .0) (length (now (out .entry)))) ⌝ }
+    ensures { λ _. ⌜ now (out .exit) ≡ copyOutput (now (image .entry)) Whole (from .0) (now (out .entry)) ⌝ }
 {
-    let done = eif_streams::copy(image, Stream::Whole, StreamPosition(from), out);
+    let done = eif_streams::copy(image, Stream::Whole, from, out);
     let verdict = done.verdict;
     answer(verdict, done.count)
 }
 
 #[no_mangle]
-pub extern "C" fn eif_copy_boot(image: &[u8], from: u64, out: &mut [u8]) -> EifAnswer
-    ensures { λ r. ⌜ r ≡ flatCopied (copyAnswer (now (image .entry)) Boot from (length (now (out .entry)))) ⌝ }
-    ensures { λ _. ⌜ now (out .exit) ≡ copyOutput (now (image .entry)) Boot from (now (out .entry)) ⌝ }
+pub extern "C" fn eif_copy_boot(image: &[u8], from: StreamPosition, out: &mut [u8]) -> EifAnswer
+    ensures { λ r. ⌜ r ≡ flatCopied (copyAnswer (now (image .entry)) Boot (from .0) (length (now (out .entry)))) ⌝ }
+    ensures { λ _. ⌜ now (out .exit) ≡ copyOutput (now (image .entry)) Boot (from .0) (now (out .entry)) ⌝ }
 {
-    let done = eif_streams::copy(image, Stream::Boot, StreamPosition(from), out);
+    let done = eif_streams::copy(image, Stream::Boot, from, out);
     let verdict = done.verdict;
     answer(verdict, done.count)
 }
 
 #[no_mangle]
-pub extern "C" fn eif_copy_app(image: &[u8], from: u64, out: &mut [u8]) -> EifAnswer
-    ensures { λ r. ⌜ r ≡ flatCopied (copyAnswer (now (image .entry)) App from (length (now (out .entry)))) ⌝ }
-    ensures { λ _. ⌜ now (out .exit) ≡ copyOutput (now (image .entry)) App from (now (out .entry)) ⌝ }
+pub extern "C" fn eif_copy_app(image: &[u8], from: StreamPosition, out: &mut [u8]) -> EifAnswer
+    ensures { λ r. ⌜ r ≡ flatCopied (copyAnswer (now (image .entry)) App (from .0) (length (now (out .entry)))) ⌝ }
+    ensures { λ _. ⌜ now (out .exit) ≡ copyOutput (now (image .entry)) App (from .0) (now (out .entry)) ⌝ }
 {
-    let done = eif_streams::copy(image, Stream::App, StreamPosition(from), out);
+    let done = eif_streams::copy(image, Stream::App, from, out);
     let verdict = done.verdict;
     answer(verdict, done.count)
 }

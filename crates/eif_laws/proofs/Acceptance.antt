@@ -7,16 +7,15 @@ use mathlib.Core.List.{List}
 use mathlib.Core.Logic.{inl, inr, ⊎-elim}
 use native.Mathlib.Omega.{arith}
 use native.Mathlib.Nat.{eq-or-lt-of-le, le-of-suc-le-suc}
-use borrow.Author.Tests.{eq-eqb, ne-eqb, le-leb, lt-leb, leb-true, not-false}
-use lib.Dec.{eqb, leb}
+use borrow.Author.Tests.{eq-eqb, ne-eqb, le-leb, leb-true, not-false}
+use lib.Dec.{eqb}
 use Rattle.eif.specs.Numbers.{signatureVersion, metadataVersion, kernel, commandLine, ramdisk, signature, metadata, ramdiskBeforeKernel, typeRepeated}
 use Rattle.eif.specs.Logic.{both, either, choose}
 use Rattle.eif.specs.Rules.{allowedIn, seen, orderFault, missing}
 use Rattle.eif.specs.Layout.{viewOf, versionOf, countOf, kindAt, startAt, offsetAt}
 use Rattle.eif.specs.Reading.{sectionRule, checksumOf, verdictOf}
 use Rattle.eif.specs.Acceptance.{AllowedType, Present, MeetsRules}
-use Rattle.eif.specs.declared.Verdict.{Verdict}
-use Rattle.eif.specs.declared.Verdict.the-variants.{Accepted, Refused}
+use Rattle.eif.specs.declared.Verdict.the-variants.{Accepted}
 use Rattle.eif_rules.proofs.Logic.{choose-zero, both-true, not-both, either-false, equal-or-not}
 use Rattle.eif_rules.proofs.View.{Header, Sound, sound-of, order-of, no-fault, fault-order}
 use Rattle.eif_rules.proofs.Accept.{Passes, passes, →accepted}

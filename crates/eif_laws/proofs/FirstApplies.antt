@@ -1,17 +1,24 @@
--- Demand 1: a refusal carries the first number that applies, in the paper's order.
+-- Demand 1: a refusal carries the first number that applies, in the paper's order, for every call that judges.
 -- Assumes nothing.
-use Prim.Native.Nat.{ℕ, zero, suc}
+use Prim.Native.Nat.{ℕ, zero, suc, _+_}
 use mathlib.Core.Path.{_≡_, refl, sym, ap, ap₂, _∙_}
 use mathlib.Core.Bool.{Bool, true, false, not}
 use mathlib.Core.List.{List, [], _∷_, _++_}
-use lib.Dec.{ltb, eqb}
-use Rattle.eif.specs.Numbers.{sizeLimit, kernel, ramdisk, startsEarly, endsLate, sizesDiffer, typeNotAllowed, ramdiskBeforeKernel, typeRepeated, sectionMissing, checksumDiffers, imageTooLong, imageTooShort, wrongMagic, wrongVersion, wrongCount}
-use Rattle.eif.specs.Logic.{both, choose}
+use lib.Dec.{ltb, leb, eqb}
+use lib.ListN.{length}
+use Rattle.eif.specs.Numbers.{sizeLimit, placeCount, oldestVersion, kernel, ramdisk, sectionMissing, checksumDiffers, outputTooShort, pastStreamEnd}
+use Rattle.eif.specs.Logic.{both, either, choose}
 use Rattle.eif.specs.Answers.{refuse, andThen, wholeVerdict}
-use Rattle.eif.specs.Rules.{versionKnown, countKnown, allowedIn, seen, orderFault, missing, firstFault}
+use Rattle.eif.specs.Rules.{versionKnown, countKnown, allowedIn, seen, orderFault, typeFault, missing, firstFault}
 use Rattle.eif.specs.Layout.{magicNumber, headerSize, View, viewOf, magic, version, count, offset, size, checksum, end, start}
 use Rattle.eif.specs.Reading.{headerRule, entryRule, sectionRule, missingRule, checksumRule, judged, verdictIn, checksumOf, verdictOf}
-use Rattle.eif.specs.Order.{Rule, rule, firstThatApplies, headerRules, rulesAt, sectionRules, rulesOf}
+use Rattle.eif.specs.Plan.{plannedKind, plainSize, dataBefore, fieldFault, sizeFault, planFault, planVerdict, writeVerdict}
+use Rattle.eif.specs.Stream.{streamOf, copyVerdict}
+use Rattle.eif.specs.Roll.{recordHeadSize, recordAt, recordSize, recordKind, isEnd, imageSize, rollBytes, rollVerdict, Ending, ended, stopped, stop, headFault, bodyFault, rollFault, endFrom, rollAnswerFor, readRoll}
+use Rattle.eif.specs.Order.{Rule, rule, firstThatApplies, orderRules, typeRules, rulesFrom, headerRules, sectionRules, viewRules, imageRules, planRules, copyRules, rollWriteRules, headRules, bodyRules, endRules, rollRulesFrom, rollRules}
+use Rattle.eif.specs.declared.Plan.{Plan}
+use Rattle.eif.specs.declared.RollReading.{RollReading}
+use Rattle.eif.specs.declared.Stream.{Stream}
 use Rattle.eif.specs.declared.Verdict.{Verdict}
 use Rattle.eif.specs.declared.Verdict.the-variants.{Accepted, Refused}
 
@@ -28,7 +35,49 @@ first-append (r ∷ rs) b =
     ap (choose (r .applies) (refuse (r .number) (r .index))) (first-append rs b)
     ∙ sym (then-choose (r .applies) (r .number) (r .index) (firstThatApplies rs) (firstThatApplies b))
 
--- ---- the rules 1 to 5
+-- a number at a place; 0: none applies
+abbrev at : ℕ → ℕ → Verdict
+at number i = choose (eqb number 0) Accepted (refuse number i)
+
+then-at : (n i : ℕ) (b : Bool) (w : Verdict) → andThen (choose b Accepted (refuse n i)) w ≡ choose b w (refuse n i)
+then-at n i true w = refl
+then-at n i false w = refl
+
+-- rules at each place answer as the walk over the places does
+walk-first : (rules : ℕ → List Rule) (fault : ℕ → ℕ) → ((i : ℕ) → firstThatApplies (rules i) ≡ at (fault i) i)
+    → (n i : ℕ) → firstThatApplies (rulesFrom rules n i) ≡ firstFault fault n i
+unfolding rulesFrom firstFault firstThatApplies
+walk-first rules fault h zero i = refl
+walk-first rules fault h (suc n) i =
+    first-append (rules i) (rulesFrom rules n (suc i))
+    ∙ ap₂ andThen (h i) (walk-first rules fault h n (suc i))
+    ∙ then-at (fault i) i (eqb (fault i) 0) (firstFault fault n (suc i))
+
+-- ---- the rules on types
+
+-- is it a ramdisk, was a kernel seen, was its type seen
+order-by : (r k t : Bool) (i : ℕ)
+    → choose (both r (not k)) (refuse 10 i) (choose (both (not r) t) (refuse 11 i) Accepted) ≡ at (choose r (choose k 0 10) (choose t 11 0)) i
+order-by true true t i = refl
+order-by true false t i = refl
+order-by false k true i = refl
+order-by false k false i = refl
+
+order-first : (kinds : ℕ → ℕ) (i : ℕ) → firstThatApplies (orderRules kinds i) ≡ at (orderFault kinds (kinds i) i) i
+unfolding firstThatApplies orderRules orderFault
+order-first kinds i = order-by (eqb (kinds i) ramdisk) (seen kinds kernel i) (seen kinds (kinds i) i) i
+
+type-by : (d : Bool) (order i : ℕ) → choose d (refuse 9 i) (at order i) ≡ at (choose d 9 order) i
+type-by true order i = refl
+type-by false order i = refl
+
+type-first : (version : ℕ) (kinds : ℕ → ℕ) (i : ℕ) → firstThatApplies (typeRules version kinds i) ≡ at (typeFault version kinds i) i
+unfolding firstThatApplies typeRules typeFault
+type-first version kinds i =
+    ap (choose (not (allowedIn version (kinds i))) (refuse 9 i)) (order-first kinds i)
+    ∙ type-by (not (allowedIn version (kinds i))) (orderFault kinds (kinds i) i) i
+
+-- ---- reading an image
 
 five : (a b c d e : Bool)
     → choose a (refuse 1 0) (choose b (refuse 2 0) (choose c (refuse 3 0) (choose d (refuse 4 0) (choose e (refuse 5 0) Accepted))))
@@ -45,78 +94,177 @@ unfolding firstThatApplies headerRules headerRule
 header-first v =
     five (ltb sizeLimit (v .size)) (ltb (v .size) headerSize) (not (eqb (magic v) magicNumber)) (not (versionKnown (version v))) (not (countKnown (count v)))
 
--- ---- the rules 6 to 11 at a section
-
--- a number at a section; 0: none applies
-abbrev at : ℕ → ℕ → Verdict
-at number i = choose (eqb number 0) Accepted (refuse number i)
-
--- is it a ramdisk, was a kernel seen, was its type seen
-order-first : (r k t : Bool) (i : ℕ)
-    → choose (both r (not k)) (refuse 10 i) (choose (both (not r) t) (refuse 11 i) Accepted) ≡ at (choose r (choose k 0 10) (choose t 11 0)) i
-order-first true true t i = refl
-order-first true false t i = refl
-order-first false k true i = refl
-order-first false k false i = refl
-
-entry-first : (a b c d : Bool) (order i : ℕ)
-    → choose a (refuse 6 i) (choose b (refuse 7 i) (choose c (refuse 8 i) (choose d (refuse 9 i) (at order i))))
+entry-by : (a b c d : Bool) (order i : ℕ)
+    → choose a (refuse 6 i) (choose b (refuse 7 i) (choose c (refuse 8 i) (at (choose d 9 order) i)))
     ≡ at (choose (eqb (choose a 6 (choose b 7 (choose c 8 (choose d 9 0)))) 0) order (choose a 6 (choose b 7 (choose c 8 (choose d 9 0))))) i
-entry-first true b c d order i = refl
-entry-first false true c d order i = refl
-entry-first false false true d order i = refl
-entry-first false false false true order i = refl
-entry-first false false false false order i = refl
+entry-by true b c d order i = refl
+entry-by false true c d order i = refl
+entry-by false false true d order i = refl
+entry-by false false false true order i = refl
+entry-by false false false false order i = refl
 
-section-first : (v : View) (i : ℕ) → firstThatApplies (rulesAt v i) ≡ at (sectionRule v i) i
-unfolding firstThatApplies rulesAt sectionRule entryRule orderFault
+section-first : (v : View) (i : ℕ) → firstThatApplies (sectionRules v i) ≡ at (sectionRule v i) i
+unfolding firstThatApplies sectionRules sectionRule entryRule typeFault
 section-first v i =
     let a : Bool = ltb (offset v i) (start v i) in
     let b : Bool = ltb (v .size) (end v i) in
     let c : Bool = not (eqb (v .ownSize i) (size v i)) in
     let d : Bool = not (allowedIn (version v) (v .kind i)) in
-    let r : Bool = eqb (v .kind i) ramdisk in
-    let k : Bool = seen (v .kind) kernel i in
-    let t : Bool = seen (v .kind) (v .kind i) i in
-    ap (λ (x : Verdict). choose a (refuse 6 i) (choose b (refuse 7 i) (choose c (refuse 8 i) (choose d (refuse 9 i) x)))) (order-first r k t i)
-    ∙ entry-first a b c d (choose r (choose k 0 10) (choose t 11 0)) i
+    ap (λ (x : Verdict). choose a (refuse 6 i) (choose b (refuse 7 i) (choose c (refuse 8 i) x))) (type-first (version v) (v .kind) i)
+    ∙ entry-by a b c d (orderFault (v .kind) (v .kind i) i) i
 
-then-at : (n i : ℕ) (b : Bool) (w : Verdict) → andThen (choose b Accepted (refuse n i)) w ≡ choose b w (refuse n i)
-then-at n i true w = refl
-then-at n i false w = refl
-
-sections-first : (v : View) (n i : ℕ) → firstThatApplies (sectionRules v n i) ≡ firstFault (sectionRule v) n i
-unfolding sectionRules firstFault firstThatApplies
-sections-first v zero i = refl
-sections-first v (suc n) i =
-    first-append (rulesAt v i) (sectionRules v n (suc i))
-    ∙ ap₂ andThen (section-first v i) (sections-first v n (suc i))
-    ∙ then-at (sectionRule v i) i (eqb (sectionRule v i) 0) (firstFault (sectionRule v) n (suc i))
-
--- ---- the rules 12 and 13, and all
-
-last-first : (a b : Bool) → choose a (refuse 12 0) (choose b (refuse 13 0) Accepted) ≡ andThen (wholeVerdict (choose a 12 0)) (wholeVerdict (choose b 13 0))
-last-first true b = refl
-last-first false true = refl
-last-first false false = refl
+last-by : (a b : Bool) → choose a (refuse 12 0) (choose b (refuse 13 0) Accepted) ≡ andThen (wholeVerdict (choose a 12 0)) (wholeVerdict (choose b 13 0))
+last-by true b = refl
+last-by false true = refl
+last-by false false = refl
 
 then-then : (a b c d : Verdict) → andThen a (andThen b (andThen c d)) ≡ andThen (andThen a (andThen b c)) d
 then-then Accepted Accepted c d = refl
 then-then Accepted (Refused r) c d = refl
 then-then (Refused r) b c d = refl
 
--- the verdict on a view is the refusal of the first rule that applies
-pub first-applies : (v : View) (computed : ℕ) → verdictIn v computed ≡ firstThatApplies (rulesOf v computed)
-unfolding rulesOf verdictIn judged missingRule checksumRule firstThatApplies
-first-applies v computed =
+-- the verdict on a view, and so on an image, is that of the first rule that applies
+pub view-first : (v : View) (computed : ℕ) → verdictIn v computed ≡ firstThatApplies (viewRules v computed)
+unfolding viewRules verdictIn judged missingRule checksumRule firstThatApplies
+view-first v computed =
     let m : Bool = missing (v .kind) (version v) (count v) in
     let c : Bool = not (eqb (checksum v) computed) in
     let last : List Rule = rule m sectionMissing 0 ∷ rule c checksumDiffers 0 ∷ [] in
+    let sections : List Rule = rulesFrom (sectionRules v) (count v) 0 in
     sym
-    (first-append (headerRules v) (sectionRules v (count v) 0 ++ last)
-    ∙ ap₂ andThen (header-first v) (first-append (sectionRules v (count v) 0) last ∙ ap₂ andThen (sections-first v (count v) 0) (last-first m c))
+    (first-append (headerRules v) (sections ++ last)
+    ∙ ap₂ andThen (header-first v) (first-append sections last ∙ ap₂ andThen (walk-first (sectionRules v) (sectionRule v) (section-first v) (count v) 0) (last-by m c))
     ∙ then-then (wholeVerdict (headerRule v)) (firstFault (sectionRule v) (count v) 0) (wholeVerdict (choose m sectionMissing 0)) (wholeVerdict (choose c checksumDiffers 0)))
 
--- .. and so is the verdict on an image
-pub first-applies-of : (s : List ℕ) → verdictOf s ≡ firstThatApplies (rulesOf (viewOf s) (checksumOf s))
-first-applies-of s = first-applies (viewOf s) (checksumOf s)
+pub read-first : (s : List ℕ) → verdictOf s ≡ firstThatApplies (imageRules s)
+read-first s = view-first (viewOf s) (checksumOf s)
+
+-- ---- copying from a stream and writing a roll
+
+-- a last rule after the image's own
+after-image : (s : List ℕ) (b : Bool) (n : ℕ)
+    → andThen (verdictOf s) (choose b (refuse n 0) Accepted) ≡ firstThatApplies (imageRules s ++ (rule b n 0 ∷ []))
+unfolding firstThatApplies
+after-image s b n =
+    ap (λ (x : Verdict). andThen x (choose b (refuse n 0) Accepted)) (read-first s) ∙ sym (first-append (imageRules s) (rule b n 0 ∷ []))
+
+pub copy-first : (s : List ℕ) (stream : Stream) (from : ℕ) → copyVerdict s stream from ≡ firstThatApplies (copyRules s stream from)
+unfolding copyVerdict copyRules
+copy-first s stream from = after-image s (ltb (length (streamOf s stream)) from) pastStreamEnd
+
+pub roll-write-first : (s : List ℕ) (room : ℕ) → rollVerdict s room ≡ firstThatApplies (rollWriteRules s room)
+unfolding rollVerdict rollWriteRules
+roll-write-first s room = after-image s (ltb room (length (rollBytes s))) outputTooShort
+
+-- ---- writing an image
+
+fields-by : (a b : Bool) (w : Verdict) → choose a (refuse 4 0) (choose b (refuse 5 0) w) ≡ andThen (wholeVerdict (choose a 4 (choose b 5 0))) w
+fields-by true b w = refl
+fields-by false true w = refl
+fields-by false false w = refl
+
+plan-by : (a b c d : Bool) → choose a (refuse 12 0) (choose b (refuse 1 0) (choose c (refuse 15 0) (choose d (refuse 14 0) Accepted)))
+    ≡ andThen (wholeVerdict (choose a 12 (choose b 1 (choose c 15 0)))) (choose d (refuse 14 0) Accepted)
+plan-by true b c d = refl
+plan-by false true c d = refl
+plan-by false false true d = refl
+plan-by false false false d = refl
+
+pub write-first : (p : Plan) (given room : ℕ) → writeVerdict p given room ≡ firstThatApplies (planRules p given room)
+unfolding writeVerdict planVerdict fieldFault planFault sizeFault planRules firstThatApplies
+write-first p given room =
+    let kinds : ℕ → ℕ = plannedKind (p .places) in
+    let m : Bool = missing kinds (p .version) (p .count) in
+    let l : Bool = ltb sizeLimit (plainSize p) in
+    let d : Bool = not (eqb given (dataBefore (p .places) (p .count))) in
+    let o : Bool = ltb room (plainSize p) in
+    let last : List Rule = rule m sectionMissing 0 ∷ rule l 1 0 ∷ rule d 15 0 ∷ rule o outputTooShort 0 ∷ [] in
+    let sections : List Rule = rulesFrom (typeRules (p .version) kinds) (p .count) 0 in
+    let v : Bool = not (versionKnown (p .version)) in
+    let n : Bool = not (countKnown (p .count)) in
+    sym
+    (ap (λ (x : Verdict). choose v (refuse 4 0) (choose n (refuse 5 0) x))
+    (first-append sections last ∙ ap₂ andThen (walk-first (typeRules (p .version) kinds) (typeFault (p .version) kinds) (type-first (p .version) kinds) (p .count) 0) (plan-by m l d o))
+    ∙ fields-by v n _
+    ∙ then-then (wholeVerdict (choose v 4 (choose n 5 0))) (firstFault (typeFault (p .version) kinds) (p .count) 0) (wholeVerdict (choose m 12 (choose l 1 (choose d 15 0)))) (choose o (refuse 14 0) Accepted))
+
+-- ---- reading a roll
+
+module _ (s : List ℕ) where
+  -- what the records' ending says of the roll
+  abbrev endVerdict : Ending → Verdict
+  endVerdict (stopped number index) = refuse number index
+  endVerdict (ended n) = at (rollFault s n) 0
+
+  -- the rules on a head, and what follows it
+  head-by : (a b c : Bool) (i : ℕ) (x : Ending) (w : Verdict) → w ≡ endVerdict x
+      → andThen (choose a (refuse 16 i) (choose (either b c) (refuse 17 i) Accepted)) w
+      ≡ endVerdict (choose (eqb (choose a 16 (choose b 17 (choose c 17 0))) 0) x (stop (choose a 16 (choose b 17 (choose c 17 0))) i))
+  head-by true b c i x w e = refl
+  head-by false true c i x w e = refl
+  head-by false false true i x w e = refl
+  head-by false false false i x w e = e
+
+  -- the rules on the rest of a record, and what follows it
+  body-by : (a b r k t : Bool) (i : ℕ) (x : Ending) (w : Verdict) → w ≡ endVerdict x
+      → andThen (choose a (refuse 5 0) (choose b (refuse 16 i) (at (choose r (choose k 0 10) (choose t 11 0)) i))) w
+      ≡ endVerdict (choose (eqb (choose a 5 (choose b 16 (choose r (choose k 0 10) (choose t 11 0)))) 0) x (stop (choose a 5 (choose b 16 (choose r (choose k 0 10) (choose t 11 0)))) i))
+  body-by true b r k t i x w e = refl
+  body-by false true r k t i x w e = refl
+  body-by false false true true t i x w e = e
+  body-by false false true false t i x w e = refl
+  body-by false false false k true i x w e = refl
+  body-by false false false k false i x w e = e
+
+  end-by : (a b c : Bool) → choose a (refuse 18 0) (choose b (refuse 12 0) (choose c (refuse 1 0) Accepted)) ≡ at (choose a 18 (choose b 12 (choose c 1 0))) 0
+  end-by true b c = refl
+  end-by false true c = refl
+  end-by false false true = refl
+  end-by false false false = refl
+
+  end-first : (n : ℕ) → firstThatApplies (endRules s n) ≡ endVerdict (ended n)
+  unfolding firstThatApplies endRules rollFault
+  end-first n = end-by (ltb (recordAt s n + recordHeadSize) (length s)) (missing (recordKind s) oldestVersion n) (ltb sizeLimit (imageSize s n))
+
+  either-way : (e : Bool) (x y : List Rule) (p q : Ending) → firstThatApplies x ≡ endVerdict p → firstThatApplies y ≡ endVerdict q
+      → firstThatApplies (choose e x y) ≡ endVerdict (choose e p q)
+  either-way true x y p q f g = f
+  either-way false x y p q f g = g
+
+  body-first : (i : ℕ) (rest : List Rule) (x : Ending) → firstThatApplies rest ≡ endVerdict x
+      → firstThatApplies (bodyRules s i ++ rest) ≡ endVerdict (choose (eqb (bodyFault s i) 0) x (stop (bodyFault s i) i))
+  unfolding firstThatApplies bodyRules bodyFault orderFault
+  body-first i rest x e =
+      let a : Bool = leb placeCount i in
+      let b : Bool = ltb (length s) (recordAt s (suc i)) in
+      let r : Bool = eqb (recordKind s i) ramdisk in
+      let k : Bool = seen (recordKind s) kernel i in
+      let t : Bool = seen (recordKind s) (recordKind s i) i in
+      first-append (bodyRules s i) rest
+      ∙ ap (λ (o : Verdict). andThen (choose a (refuse 5 0) (choose b (refuse 16 i) o)) (firstThatApplies rest)) (order-first (recordKind s) i)
+      ∙ body-by a b r k t i x (firstThatApplies rest) e
+
+  records-first : (n i : ℕ) → firstThatApplies (rollRulesFrom s n i) ≡ endVerdict (endFrom s n i)
+  unfolding rollRulesFrom endFrom firstThatApplies headRules headFault
+  records-first zero i = refl
+  records-first (suc n) i =
+      let rest : List Rule = bodyRules s i ++ rollRulesFrom s n (suc i) in
+      let next : List Rule = choose (isEnd s i) (endRules s i) rest in
+      let judged : Ending = choose (eqb (bodyFault s i) 0) (endFrom s n (suc i)) (stop (bodyFault s i) i) in
+      let after : firstThatApplies next ≡ endVerdict (choose (isEnd s i) (ended i) judged) =
+      either-way (isEnd s i) (endRules s i) rest (ended i) judged (end-first i) (body-first i (rollRulesFrom s n (suc i)) (endFrom s n (suc i)) (records-first n (suc i))) in
+      first-append (headRules s i) next
+      ∙ head-by (ltb (length s) (recordAt s i + recordHeadSize)) (ltb ramdisk (recordKind s i)) (both (isEnd s i) (not (eqb (recordSize s i) 0))) i
+      (choose (isEnd s i) (ended i) judged) (firstThatApplies next) after
+
+  answer-verdict : (e : Ending) → rollAnswerFor s e .verdict ≡ endVerdict e
+  answer-verdict (stopped number index) = refl
+  answer-verdict (ended n) = go (eqb (rollFault s n) 0) _ _
+    where
+      go : (b : Bool) (x y : RollReading) → choose b x y .verdict ≡ choose b (x .verdict) (y .verdict)
+      go true x y = refl
+      go false x y = refl
+
+  pub roll-read-first : readRoll s .verdict ≡ firstThatApplies (rollRules s)
+  unfolding readRoll
+  roll-read-first = answer-verdict (endFrom s (suc placeCount) 0) ∙ sym (records-first (suc placeCount) 0)

@@ -10,7 +10,6 @@ use Rattle.eif.specs.Reading.{verdictOf, sectionAt, sectionsOf, blankSection, r
 use Rattle.eif.specs.Acceptance.{MeetsRules}
 use Rattle.eif.specs.declared.Reading.{Reading}
 use Rattle.eif.specs.declared.Section.{Section}
-use Rattle.eif.specs.declared.Verdict.{Verdict}
 use Rattle.eif.specs.declared.Verdict.the-variants.{Accepted}
 use Rattle.eif_rules.proofs.Reading.{reading-accepted}
 use Rattle.eif_rules.proofs.Table.{filled-at, filled-past}

@@ -1,21 +1,19 @@
 -- What the verdict on a view that is accepted says of each rule, and back; and what an accepted image's sections are.
 -- Assumes nothing.
 use Prim.Native.Nat.{ℕ, _+_, _<_, _≤_}
-use mathlib.Core.Path.{_≡_, refl, sym, ap}
-use mathlib.Core.Bool.{Bool, true, false, not}
+use mathlib.Core.Path.{_≡_, sym}
+use mathlib.Core.Bool.{false, not}
 use mathlib.Core.List.{List}
 use native.Mathlib.Omega.{arith}
 use borrow.Author.Tests.{eq-eqb, eqb-true, not-false}
 use lib.Dec.{eqb}
 use lib.ListN.{length, length-take, length-drop}
 use Rattle.eif.specs.Numbers.{placeCount}
-use Rattle.eif.specs.Answers.{andThen, wholeVerdict}
 use Rattle.eif.specs.Rules.{orderFault, missing}
 use Rattle.eif.specs.Layout.{View, viewOf, version, count, checksum, versionOf, countOf, kindAt}
 use Rattle.eif.specs.Reading.{sectionRule, missingRule, checksumRule, judged, verdictIn, checksumOf, verdictOf, sectionAt, blankSection, sectionsOf, dataOf}
 use Rattle.eif.specs.declared.Section.{Section}
-use Rattle.eif.specs.declared.Verdict.{Verdict}
-use Rattle.eif.specs.declared.Verdict.the-variants.{Accepted, Refused}
+use Rattle.eif.specs.declared.Verdict.the-variants.{Accepted}
 use Rattle.eif_rules.proofs.Logic.{choose-zero}
 use Rattle.eif_rules.proofs.Verdicts.{then-accepted, whole-zero, all-accepted, walk-accepted, walk-all}
 use Rattle.eif_rules.proofs.Table.{All, all-filled}

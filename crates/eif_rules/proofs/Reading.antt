@@ -11,7 +11,7 @@ use Rattle.eif.specs.Logic.{choose}
 use Rattle.eif.specs.Answers.{refuse, andThen, wholeVerdict}
 use Rattle.eif.specs.Rules.{firstFault}
 use Rattle.eif.specs.Layout.{View, viewOf, count, checksum}
-use Rattle.eif.specs.Reading.{headerRule, sectionRule, missingRule, checksumRule, judged, verdictIn, checksumOf, verdictOf, blankReading, readingOf, readEarly, sealed, sealedFor, readView, readImage}
+use Rattle.eif.specs.Reading.{headerRule, sectionRule, missingRule, checksumRule, judged, verdictIn, verdictOf, blankReading, readingOf, readEarly, sealed, sealedFor, readView, readImage}
 use Rattle.eif.specs.declared.Refusal.{Refusal}
 use Rattle.eif.specs.declared.Reading.{Reading}
 use Rattle.eif.specs.declared.Verdict.{Verdict}

@@ -2,12 +2,12 @@
 -- Assumes nothing.
 use Prim.Native.Nat.{ℕ, zero, suc, _<_}
 use mathlib.Core.Path.{_≡_, refl, ap₂}
-use mathlib.Core.Bool.{Bool, true, false, not}
+use mathlib.Core.Bool.{Bool, true}
 use native.Mathlib.Omega.{arith}
 use borrow.Author.Tests.{eq-eqb, ne-eqb}
 use lib.Dec.{eqb}
 use Rattle.eif.specs.Numbers.{kernel, commandLine, ramdisk, metadata, ramdiskBeforeKernel, typeRepeated}
-use Rattle.eif.specs.Logic.{both, either, choose}
+use Rattle.eif.specs.Logic.{either}
 use Rattle.eif.specs.Rules.{seen, orderFault, missing}
 
 -- ---- the rules 10 and 11

@@ -6,8 +6,8 @@ use mathlib.Core.List.{List, _++_, append-assoc}
 use native.Mathlib.Omega.{arith}
 use native.Mathlib.Nat.{zero-add}
 use borrow.Author.Tests.{lt-ltb, le-ltb}
-use lib.ListN.{length, take, drop, length-append, length-take, length-drop, take-append-drop}
-use lib.Seq.{take-at, drop-at, drop-drop}
+use lib.ListN.{length, take, drop, length-append, length-take, length-drop}
+use lib.Seq.{take-at, drop-at}
 use Rattle.octets.specs.Bytes.{beBytes}
 use Rattle.octets.specs.Over.{over}
 use Rattle.octets.proofs.Over.{over-parts, over-start, over-own, over-joined, length-over}

@@ -6,8 +6,7 @@ use mathlib.Core.List.{List}
 use mathlib.Core.Logic.{⊎-elim}
 use native.Mathlib.Omega.{arith}
 use borrow.Author.Tests.{lt-ltb, le-ltb, le-leb, lt-leb, eq-eqb, ne-eqb, ltb-false, leb-false}
-use native.Mathlib.Numerals.{add-one}
-use lib.ListN.{length, take, getD, set}
+use lib.ListN.{length, take, getD}
 use lib.Seq.{length-take-le}
 use Rattle.octets.specs.Bytes.{leField}
 use Rattle.eif.specs.Numbers.{placeCount, ramdisk, wrongCount, recordCut, recordTypeWrong}

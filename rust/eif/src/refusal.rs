@@ -24,19 +24,19 @@ pub enum Reason {
     /// Version not 2, 3 or 4.
     WrongVersion = 4,
     /// Number of sections not 2 to 32.
-    WrongSectionCount = 5,
+    WrongCount = 5,
     /// Section starts before the end of the one before it (548 for the first).
-    SectionOverlap = 6,
+    StartsEarly = 6,
     /// Offset + 12 + size is more than the file length.
-    SectionPastEnd = 7,
+    EndsLate = 7,
     /// Size in the section header differs from the table.
-    SizeDiffers = 8,
+    SizesDiffer = 8,
     /// Type not allowed in this version.
     TypeNotAllowed = 9,
     /// Ramdisk with no kernel earlier in the file.
     RamdiskBeforeKernel = 10,
     /// Second kernel, command line, signature or metadata.
-    SecondOfType = 11,
+    TypeRepeated = 11,
     /// Kernel or command line missing, or metadata missing in version 4.
     SectionMissing = 12,
     /// Checksum differs.
@@ -46,11 +46,11 @@ pub enum Reason {
     /// Data length differs from the plan's sum of lengths.
     DataLengthDiffers = 15,
     /// Roll ends inside a record, or before its end record.
-    RollCut = 16,
+    RecordCut = 16,
     /// Roll record of type above 3, or type 0 with a length not 0.
-    RollRecordType = 17,
+    RecordTypeWrong = 17,
     /// Bytes after the end record.
-    BytesAfterRoll = 18,
+    BytesAfterEnd = 18,
     /// Stream position past the stream's end.
     PastStreamEnd = 19,
 }
@@ -62,20 +62,20 @@ impl Reason {
         Reason::ImageTooShort,
         Reason::WrongMagic,
         Reason::WrongVersion,
-        Reason::WrongSectionCount,
-        Reason::SectionOverlap,
-        Reason::SectionPastEnd,
-        Reason::SizeDiffers,
+        Reason::WrongCount,
+        Reason::StartsEarly,
+        Reason::EndsLate,
+        Reason::SizesDiffer,
         Reason::TypeNotAllowed,
         Reason::RamdiskBeforeKernel,
-        Reason::SecondOfType,
+        Reason::TypeRepeated,
         Reason::SectionMissing,
         Reason::ChecksumDiffers,
         Reason::OutputTooShort,
         Reason::DataLengthDiffers,
-        Reason::RollCut,
-        Reason::RollRecordType,
-        Reason::BytesAfterRoll,
+        Reason::RecordCut,
+        Reason::RecordTypeWrong,
+        Reason::BytesAfterEnd,
         Reason::PastStreamEnd,
     ];
 
@@ -86,24 +86,24 @@ impl Reason {
             Reason::ImageTooShort => "image shorter than 548 bytes",
             Reason::WrongMagic => "wrong magic",
             Reason::WrongVersion => "version not 2, 3 or 4",
-            Reason::WrongSectionCount => "number of sections not 2 to 32",
-            Reason::SectionOverlap => {
+            Reason::WrongCount => "number of sections not 2 to 32",
+            Reason::StartsEarly => {
                 "section starts before the end of the one before it (548 for the first)"
             }
-            Reason::SectionPastEnd => "offset + 12 + size is more than the file length",
-            Reason::SizeDiffers => "size in the section header differs from the table",
+            Reason::EndsLate => "offset + 12 + size is more than the file length",
+            Reason::SizesDiffer => "size in the section header differs from the table",
             Reason::TypeNotAllowed => "type not allowed in this version",
             Reason::RamdiskBeforeKernel => "ramdisk with no kernel earlier in the file",
-            Reason::SecondOfType => "second kernel, command line, signature or metadata",
+            Reason::TypeRepeated => "second kernel, command line, signature or metadata",
             Reason::SectionMissing => {
                 "kernel or command line missing, or metadata missing in version 4"
             }
             Reason::ChecksumDiffers => "checksum differs",
             Reason::OutputTooShort => "output buffer too short",
             Reason::DataLengthDiffers => "data length differs from the plan's sum of lengths",
-            Reason::RollCut => "roll ends inside a record, or before its end record",
-            Reason::RollRecordType => "roll record of type above 3, or type 0 with a length not 0",
-            Reason::BytesAfterRoll => "bytes after the end record",
+            Reason::RecordCut => "roll ends inside a record, or before its end record",
+            Reason::RecordTypeWrong => "roll record of type above 3, or type 0 with a length not 0",
+            Reason::BytesAfterEnd => "bytes after the end record",
             Reason::PastStreamEnd => "stream position past the stream's end",
         }
     }
