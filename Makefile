@@ -1,6 +1,7 @@
 # `make run` shows an image, `make test` proves and tests everything. README.md says what each needs.
 SHELL := /bin/sh
 .DEFAULT_GOAL := help
+.NOTPARALLEL:
 .PHONY: help run test prove kit staticlib show-test c-test rust-test rust-lint bench doc install
 
 IMAGE ?= samples/worked.eif
@@ -37,6 +38,7 @@ kit:
 
 run: kit
 	@mkdir -p target
+	@test -x target/bin/eif_show || echo 'proving and building the program first: a minute or two' >&2
 	@$(RT) check eif_show >target/run.log 2>&1 || { cat target/run.log; exit 1; }
 	@target/bin/eif_show <'$(IMAGE)'
 

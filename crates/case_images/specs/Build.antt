@@ -5,15 +5,15 @@ use mathlib.Core.List.{List}
 use lib.ListN.{length}
 use Rattle.octets.specs.Bytes.{beBytes}
 use Rattle.octets.specs.Over.{over}
-use Rattle.eif.specs.Layout.{magicNumber, sectionHeaderSize, checksumAt}
+use Rattle.eif.specs.Layout.{magicNumber, sectionHeaderSize, magicAt, versionAt, headerFlagsAt, countAt, offsetsAt, sizesAt, checksumAt}
 use Rattle.eif.specs.Reading.{checksumOf}
 
 abbrev pub withHeader : List ℕ → ℕ → ℕ → ℕ → List ℕ
 withHeader s version flags count =
-    over (over (over (over s 0 (beBytes 4 magicNumber)) 4 (beBytes 2 version)) 6 (beBytes 2 flags)) 26 (beBytes 2 count)
+    over (over (over (over s magicAt (beBytes 4 magicNumber)) versionAt (beBytes 2 version)) headerFlagsAt (beBytes 2 flags)) countAt (beBytes 2 count)
 
 abbrev pub withEntry : List ℕ → ℕ → ℕ → ℕ → List ℕ
-withEntry s i offset size = over (over s (28 + 8 * i) (beBytes 8 offset)) (284 + 8 * i) (beBytes 8 size)
+withEntry s i offset size = over (over s (offsetsAt + 8 * i) (beBytes 8 offset)) (sizesAt + 8 * i) (beBytes 8 size)
 
 abbrev pub withOwnHeader : List ℕ → ℕ → ℕ → ℕ → ℕ → List ℕ
 withOwnHeader s at kind flags size = over (over (over s at (beBytes 2 kind)) (at + 2) (beBytes 2 flags)) (at + 4) (beBytes 8 size)

@@ -17,7 +17,38 @@ sectionHeaderSize = 12
 abbrev pub magicNumber : ℕ
 magicNumber = 0x2e656966
 
--- where the checksum stands, in 4 bytes, the header's last
+-- ---- where the header's fields stand
+
+abbrev pub magicAt : ℕ
+magicAt = 0
+
+abbrev pub versionAt : ℕ
+versionAt = 4
+
+abbrev pub headerFlagsAt : ℕ
+headerFlagsAt = 6
+
+abbrev pub memoryAt : ℕ
+memoryAt = 8
+
+abbrev pub cpusAt : ℕ
+cpusAt = 16
+
+abbrev pub reservedAt : ℕ
+reservedAt = 24
+
+abbrev pub countAt : ℕ
+countAt = 26
+
+abbrev pub offsetsAt : ℕ
+offsetsAt = 28
+
+abbrev pub sizesAt : ℕ
+sizesAt = 284
+
+abbrev pub reservedAfterAt : ℕ
+reservedAfterAt = 540
+
 abbrev pub checksumAt : ℕ
 checksumAt = 544
 
@@ -36,41 +67,41 @@ pub record View : Type 0 where
 
 -- the header's fields
 abbrev pub magic : View → ℕ
-magic v = v .header 4 0
+magic v = v .header 4 magicAt
 
 abbrev pub version : View → ℕ
-version v = v .header 2 4
+version v = v .header 2 versionAt
 
 abbrev pub headerFlags : View → ℕ
-headerFlags v = v .header 2 6
+headerFlags v = v .header 2 headerFlagsAt
 
 -- default_mem
 abbrev pub memory : View → ℕ
-memory v = v .header 8 8
+memory v = v .header 8 memoryAt
 
 -- default_cpus
 abbrev pub cpus : View → ℕ
-cpus v = v .header 8 16
+cpus v = v .header 8 cpusAt
 
 abbrev pub reserved : View → ℕ
-reserved v = v .header 2 24
+reserved v = v .header 2 reservedAt
 
 -- num_sections
 abbrev pub count : View → ℕ
-count v = v .header 2 26
+count v = v .header 2 countAt
 
 -- the table's entries for section i; an offset points at the section's own header, a size counts the data only
 abbrev pub offsetEntry : (ℕ → ℕ → ℕ) → ℕ → ℕ
-offsetEntry header i = header 8 (28 + 8 * i)
+offsetEntry header i = header 8 (offsetsAt + 8 * i)
 
 abbrev pub offset : View → ℕ → ℕ
 offset v i = offsetEntry (v .header) i
 
 abbrev pub size : View → ℕ → ℕ
-size v i = v .header 8 (284 + 8 * i)
+size v i = v .header 8 (sizesAt + 8 * i)
 
 abbrev pub reservedAfter : View → ℕ
-reservedAfter v = v .header 4 540
+reservedAfter v = v .header 4 reservedAfterAt
 
 abbrev pub checksum : View → ℕ
 checksum v = v .header 4 checksumAt

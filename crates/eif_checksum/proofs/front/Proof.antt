@@ -6,11 +6,12 @@ use denote.Ref.{now}
 use lib.ListN.{length-take}
 use lib.Seq.{take-all}
 use borrow.Author.Needs.{needs}
+use Rattle.eif.specs.Layout.{checksumAt}
 use Rattle.eif_checksum.proofs.front.Statement.{statement}
 use Rattle.eif_checksum.proofs.front.Tie as tie
 
 returns : tie.Need-returns
-returns c = sym (take-all 544 (now (c .before .args .image)) (omega arith))
+returns c = sym (take-all checksumAt (now (c .before .args .image)) (omega arith))
 
 slice-aggregate-result : tie.Need-slice-aggregate-result
 slice-aggregate-result c = simp length-take (omega arith)
