@@ -1,4 +1,4 @@
--- What an accepted image is, with no order of rules and no walk: each rule of the paper once, in plain arithmetic.
+-- What an accepted image is, with no order of rules and no walk: each rule of FORMAT.md, Reading an image, once, in plain arithmetic.
 -- That an image is accepted exactly when it meets these rules is a law of its own. Assumes nothing.
 use Prim.Native.Nat.{ℕ, suc, _<_, _≤_}
 use mathlib.Core.Path.{_≡_}

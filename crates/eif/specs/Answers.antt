@@ -1,4 +1,4 @@
--- Verdicts: what each case of the answering enum says in the paper's terms, and one verdict after another.
+-- Verdicts: what each case of the answering enum says (FORMAT.md, Answer numbers), and one verdict after another.
 -- Assumes nothing.
 use Prim.Native.Nat.{ℕ}
 use lib.Dec.{eqb}

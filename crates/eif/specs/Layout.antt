@@ -1,4 +1,4 @@
--- The layout of an image: what the rules look at, and where it stands.
+-- The layout of an image: what the rules look at, and where it stands (FORMAT.md, The header and Sections).
 -- Assumes nothing.
 use Prim.Native.Nat.{ℕ, zero, suc, _+_, _*_}
 use mathlib.Core.List.{List}

@@ -1,4 +1,4 @@
--- The paper's numbers, each named once: limits, versions, section types, answers.
+-- The numbers of FORMAT.md, each named once: limits, versions, section types, answers.
 -- Assumes nothing.
 use Prim.Native.Nat.{ℕ}
 

@@ -1,4 +1,4 @@
--- The order of the refusals, as lists: every rule at every section or record that it judges, in the paper's order.
+-- The order of the refusals that FORMAT.md gives for each call, as lists: every rule at every section or record that it judges.
 -- That each verdict is that of the first rule that applies is a law of its own. Assumes nothing.
 use Prim.Native.Nat.{ℕ, zero, suc, _+_}
 use mathlib.Core.Bool.{Bool, true, not}
@@ -81,16 +81,23 @@ imageRules s = viewRules (viewOf s) (checksumOf s)
 
 -- ---- writing an image: 4, 5, then 9 to 11 section by section, then 12, 1, 15, 14
 
-unfoldable pub planRules : Plan → ℕ → ℕ → List Rule
-planRules p given room =
+-- on the plan alone, as for the length of its image
+unfoldable pub planRules : Plan → List Rule
+planRules p =
     rule (not (versionKnown (p .version))) wrongVersion 0
     ∷ rule (not (countKnown (p .count))) wrongCount 0
     ∷ (rulesFrom (typeRules (p .version) (plannedKind (p .places))) (p .count) 0
     ++ (rule (missing (plannedKind (p .places)) (p .version) (p .count)) sectionMissing 0
     ∷ rule (ltb sizeLimit (plainSize p)) imageTooLong 0
-    ∷ rule (not (eqb given (dataBefore (p .places) (p .count)))) dataLengthDiffers 0
-    ∷ rule (ltb room (plainSize p)) outputTooShort 0
     ∷ []))
+
+-- with so many bytes of data and of room
+unfoldable pub writeRules : Plan → ℕ → ℕ → List Rule
+writeRules p given room =
+    planRules p
+    ++ (rule (not (eqb given (dataBefore (p .places) (p .count)))) dataLengthDiffers 0
+    ∷ rule (ltb room (plainSize p)) outputTooShort 0
+    ∷ [])
 
 -- ---- copying from a stream, and writing a roll: the image's own, then 19 or 14
 

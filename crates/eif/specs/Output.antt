@@ -1,4 +1,4 @@
--- What a call does to an output buffer.
+-- What a call does to an output buffer (FORMAT.md, Answer numbers).
 -- Assumes nothing.
 use Prim.Native.Nat.{ℕ}
 use mathlib.Core.List.{List}

@@ -1,4 +1,5 @@
--- Writing an image: the rules on a plan in their order, the plain image of a plan, and when an accepted image is plain.
+-- Writing an image: the rules on a plan in their order, the plain image of a plan, and when an accepted image is plain
+-- (FORMAT.md, Writing an image, whose term `plain image` is).
 -- Assumes nothing.
 use Prim.Native.Nat.{ℕ, zero, suc, _+_, _<_, _≤_}
 use mathlib.Core.Bool.{not}
@@ -137,6 +138,10 @@ writtenFor verdict size = record { verdict = verdict; length = beside verdict si
 
 unfoldable pub writeAnswer : Plan → ℕ → ℕ → Written
 writeAnswer p given room = writtenFor (writeVerdict p given room) (plainSize p)
+
+-- how long the plain image of a plan is: the writer's answer, were there data and room as planned
+unfoldable pub planLength : Plan → Written
+planLength p = writtenFor (planVerdict p (dataBefore (p .places) (p .count))) (plainSize p)
 
 unfoldable pub writeOutput : Plan → List ℕ → List ℕ → List ℕ
 writeOutput p given d = outputFor (writeVerdict p (length given) (length d)) (plainImage p given) d

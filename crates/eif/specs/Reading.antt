@@ -1,4 +1,4 @@
--- Reading an image: the rules 1 to 13 in their order, and what a reading holds.
+-- Reading an image: the rules 1 to 13 in their order, and what a reading holds (FORMAT.md, Reading an image).
 -- Assumes nothing.
 use Prim.Native.Nat.{ℕ, suc, _+_, _*_}
 use mathlib.Core.Bool.{not}
@@ -99,7 +99,7 @@ sectionsOf s = sections (viewOf s)
 abbrev pub dataOf : List ℕ → Section → List ℕ
 dataOf s x = take (x .length .0) (drop (x .position .0) s)
 
--- ---- the ramdisk mark: bit i is one exactly when section i is a ramdisk
+-- ---- the ramdisk mark, a term of FORMAT.md: bit i is one exactly when section i is a ramdisk
 
 abbrev pub ramdiskBit : Section → ℕ
 ramdiskBit x = choose (eqb (x .kind) ramdisk) 1 0

@@ -1,4 +1,4 @@
--- The boot roll (the paper's term): its bytes, what writing one answers, and what reading one answers.
+-- The boot roll, a term of FORMAT.md: its bytes, what writing one answers, and what reading one answers.
 -- Assumes nothing.
 use Prim.Native.Nat.{ℕ, zero, suc, _+_, _≤_}
 use mathlib.Core.Bool.{Bool, not}
@@ -68,7 +68,7 @@ recordsOf s = recordsIn s (sectionsOf s)
 unfoldable pub rollBytes : List ℕ → List ℕ
 rollBytes s = rollOf (recordsOf s)
 
--- ---- two words of the demands
+-- ---- two words of FORMAT.md, The boot roll: same sections and beginning
 
 -- two images hold the same such sections: same types, lengths, bytes and order
 abbrev pub SameSections : List ℕ → List ℕ → Type 0
@@ -88,6 +88,10 @@ rollVerdict s room =
 
 unfoldable pub rollAnswer : List ℕ → ℕ → Written
 rollAnswer s room = writtenFor (rollVerdict s room) (length (rollBytes s))
+
+-- how long the roll of an image is
+unfoldable pub rollLength : List ℕ → Written
+rollLength s = writtenFor (verdictOf s) (length (rollBytes s))
 
 unfoldable pub rollOutput : List ℕ → List ℕ → List ℕ
 rollOutput s d = outputFor (rollVerdict s (length d)) (rollBytes s) d

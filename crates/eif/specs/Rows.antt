@@ -1,4 +1,4 @@
--- The paper's eleven neighbours of the worked roll, R1 to R11: one table, one claim for all rows.
+-- The worked roll and its neighbours, R1 to R11 of FORMAT.md, The boot roll: one table, one claim for all rows.
 -- Assumes nothing.
 use Prim.Native.Nat.{ℕ, _-_}
 use mathlib.Core.Path.{_≡_, refl}
@@ -29,7 +29,7 @@ ramdiskRecord = headOf 0 3
 abbrev endRecord : List ℕ
 endRecord = headOf 0 0
 
--- the 42 bytes that the paper prints
+-- the 42 bytes that FORMAT.md prints
 abbrev pub worked : List ℕ
 worked =
     0x01 ∷ 0x00 ∷ 0x00 ∷ 0x00 ∷ 0x00 ∷ 0x00 ∷ 0x00 ∷ 0x00 ∷ 0x01 ∷ 0x00 ∷ 0x4b

@@ -1,4 +1,4 @@
--- The three measured streams, and copying from one.
+-- The three measured streams, and copying from one. Whole, Boot and App are terms of FORMAT.md, Measured streams.
 -- Assumes nothing.
 use Prim.Native.Nat.{ℕ}
 use mathlib.Core.List.{List, [], _∷_, _++_}
@@ -63,7 +63,7 @@ copyOutput s stream from d = outputFor (copyVerdict s stream from) (streamPart s
 -- ---- how long a stream is
 
 abbrev pub lengthFor : Verdict → ℕ → StreamLength
-lengthFor verdict count = record { verdict = verdict; length = beside verdict count 0 }
+lengthFor verdict count = record { verdict = verdict; length = record { 0 = beside verdict count 0 } }
 
 unfoldable pub lengthAnswer : List ℕ → Stream → StreamLength
 lengthAnswer s stream = lengthFor (verdictOf s) (length (streamOf s stream))

@@ -1,4 +1,5 @@
--- The paper's worked image, by computation: the plain version 2 image with kernel 4b, command line 61 and an empty ramdisk.
+-- The worked example of FORMAT.md, The boot roll, by computation: the plain version 2 image with kernel 4b, command line 61 and
+-- an empty ramdisk.
 -- Its checksum is the one that other programs compute. Assumes nothing.
 use Prim.Native.Nat.{ℕ}
 use mathlib.Core.Path.{_≡_, refl}
@@ -9,12 +10,13 @@ use Rattle.crc32.specs.Crc.{crc32, crcFrom, shiftBits, shiftBit}
 use Rattle.eif.specs.Numbers.{kernel, commandLine, ramdisk}
 use Rattle.eif.specs.Rules.{allowedIn, seen, orderFault, missing, firstFault}
 use Rattle.eif.specs.Layout.{offsetAt}
-use Rattle.eif.specs.Reading.{headerRule, entryRule, sectionRule, missingRule, checksumRule, judged, verdictIn, checksumOf, verdictOf}
+use Rattle.eif.specs.Reading.{headerRule, entryRule, sectionRule, missingRule, checksumRule, judged, verdictIn, checksumOf, verdictOf, blankSection, sectionsOf}
 use Rattle.eif.specs.Plan.{blankPlace, packedAt, dataBefore, fixedFields, offsetTable, sizeTable, headerBytes, sectionHeader, sectionBytes, plainImage}
 use Rattle.eif.specs.Roll.{headOf, rollOf, recordsIn, rollBytes}
 use Rattle.eif.specs.Rows.{worked}
 use Rattle.eif.specs.declared.Place.{Place}
 use Rattle.eif.specs.declared.Plan.{Plan}
+use Rattle.eif.specs.declared.Section.{Section}
 use Rattle.eif.specs.declared.Verdict.the-variants.{Accepted}
 
 abbrev place : ℕ → ℕ → Place
@@ -49,6 +51,13 @@ worked-checksum = refl
 pub worked-accepted : verdictOf workedImage ≡ Accepted
 unfolding verdictIn judged headerRule firstFault sectionRule entryRule allowedIn orderFault seen missingRule missing checksumRule field beValue checksumOf crc32 crcFrom shiftBits shiftBit plainImage headerBytes fixedFields offsetTable sizeTable packedAt sectionBytes sectionHeader dataBefore
 worked-accepted = refl
+
+abbrev read : ℕ → ℕ → ℕ → Section
+read kind position size = record { kind = kind; flags = 0; position = record { 0 = position }; length = record { 0 = size } }
+
+pub worked-sections : sectionsOf workedImage ≡ read kernel 560 1 ∷ read commandLine 573 1 ∷ read ramdisk 586 0 ∷ replicate 29 blankSection
+unfolding field beValue plainImage headerBytes fixedFields offsetTable sizeTable packedAt sectionBytes sectionHeader dataBefore crc32 crcFrom shiftBits shiftBit
+worked-sections = refl
 
 pub worked-roll : rollBytes workedImage ≡ worked
 unfolding rollBytes rollOf headOf recordsIn field beValue crc32 crcFrom shiftBits shiftBit plainImage headerBytes fixedFields offsetTable sizeTable packedAt sectionBytes sectionHeader dataBefore

@@ -1,5 +1,5 @@
-// The Enclave Image File: its vocabulary. The definitions that all contracts cite stand in specs/, in the order of the
-// paper; nothing here computes but the section type's own test of which version may hold it.
+// The Enclave Image File: its vocabulary. The definitions that all contracts cite stand in specs/; docs/FORMAT.md has the same
+// rules in words. Nothing here computes but the section type's own test of which version may hold it.
 ghost use mathlib.Core.Path.{_≡_};
 ghost use Rattle.eif.specs.Answers.{refuse};
 ghost use Rattle.eif.specs.Rules.{allowedIn};
@@ -131,7 +131,8 @@ impl SectionType {
 
 // ---- answers
 
-// Why something is refused: the paper's answer number, and the index of the section or record that it is about, else 0.
+// Why something is refused: the answer number, and the index of the section or record that it is about, else 0
+// (FORMAT.md, Answer numbers).
 pub struct Refusal {
     pub number: u8,
     pub index: u64,
@@ -202,8 +203,8 @@ pub struct Section {
     pub length: DataLength,
 }
 
-// `memory` and `cpus` are the header's default_mem and default_cpus; bit i of `ramdisks` is one exactly when section i is a
-// ramdisk.
+// `memory` and `cpus` are the header's default_mem and default_cpus; `ramdisks` is the ramdisk mark, a term of FORMAT.md: its
+// bit i is one exactly when section i is a ramdisk.
 pub struct Reading {
     pub verdict: Verdict,
     pub version: u16,
@@ -244,6 +245,7 @@ pub struct Written {
 
 // ---- the measured streams
 
+// Terms of FORMAT.md, Measured streams.
 pub enum Stream {
     Whole,
     Boot,
@@ -259,7 +261,7 @@ pub struct Copied {
 // How long a stream is.
 pub struct StreamLength {
     pub verdict: Verdict,
-    pub length: u64,
+    pub length: DataLength,
 }
 
 // ---- reading a boot roll

@@ -1,50 +1,81 @@
 // The library's calls for programs in C and Rust: answers are flat structs with the answer number (0: accepted) and its index
 // instead of a verdict. A slice is a pointer and a length. include/eif.h declares these functions to C.
 ghost use mathlib.Core.Path.{_≡_};
+ghost use mathlib.Core.List.{map};
 ghost use lib.ListN.{length};
 ghost use Rattle.eif.specs.Answers.{numberOf, indexOf};
 ghost use Rattle.eif.specs.Reading.{readImage};
-ghost use Rattle.eif.specs.Plan.{writeAnswer, writeOutput};
+ghost use Rattle.eif.specs.Plan.{writeAnswer, writeOutput, planLength};
 ghost use Rattle.eif.specs.Stream.{copyAnswer, copyOutput, lengthAnswer};
-ghost use Rattle.eif.specs.Roll.{rollAnswer, rollOutput, readRoll};
+ghost use Rattle.eif.specs.Roll.{rollAnswer, rollOutput, rollLength, readRoll};
 ghost use Rattle.eif.specs.declared.Stream.the-variants.{Whole, Boot, App};
-ghost use Rattle.eif_c.specs.Flat.{flat, flatReading, flatWritten, flatCopied, flatLength, flatRollReading};
+ghost use Rattle.eif_c.specs.Flat.{flat, flatSection, flatReading, flatWritten, flatCopied, flatLength, flatRecord, flatRollReading};
+use eif::DataLength;
+use eif::FilePosition;
+use eif::PLACES;
 use eif::Plan;
+use eif::RollPosition;
 use eif::RollRecord;
 use eif::Section;
 use eif::Stream;
 use eif::StreamPosition;
 use eif::Verdict;
 
+// Answers have no padding: what C would leave undefined between two fields is a field of its own, always 0. So two equal answers
+// are equal byte for byte, and none carries bytes of an earlier call.
+
+#[repr(C)]
+pub struct EifSection {
+    pub kind: u16,
+    pub flags: u16,
+    pub reserved: u32,
+    pub position: FilePosition,
+    pub length: DataLength,
+}
+
+// `first_ramdisk` is computed from the mark, so it is 32, none, beside a refusal.
 #[repr(C)]
 pub struct EifReading {
     pub number: u8,
-    pub index: u64,
+    pub reserved: u8,
     pub version: u16,
     pub flags: u16,
+    pub count: u16,
+    pub index: u64,
     pub memory: u64,
     pub cpus: u64,
-    pub count: u16,
     pub ramdisks: u32,
     pub ramdisk_count: u32,
     pub first_ramdisk: u32,
-    pub sections: [Section; 32],
+    pub reserved_after: u32,
+    pub sections: [EifSection; PLACES],
 }
 
-// A writer's answer, a copier's, and that of a stream's length: `length` is the length written, the number copied, the length.
+// A writer's answer, a copier's, and that of a length: `length` is the length written, the number copied, the length.
 #[repr(C)]
 pub struct EifAnswer {
     pub number: u8,
+    pub reserved: [u8; 7],
     pub index: u64,
     pub length: u64,
 }
 
 #[repr(C)]
+pub struct EifRollRecord {
+    pub kind: u16,
+    pub reserved: u16,
+    pub reserved_after: u32,
+    pub position: RollPosition,
+    pub length: DataLength,
+}
+
+#[repr(C)]
 pub struct EifRollReading {
     pub number: u8,
+    pub reserved: [u8; 7],
     pub index: u64,
     pub count: u64,
-    pub records: [RollRecord; 32],
+    pub records: [EifRollRecord; PLACES],
 }
 
 // ---- a verdict's number and index
@@ -72,9 +103,78 @@ fn answer(verdict: Verdict, length: u64) -> EifAnswer
 {
     EifAnswer {
         number: number_of(verdict),
+        reserved: [0u8; 7],
         index: index_of(verdict),
         length,
     }
+}
+
+// ---- sections and records
+
+fn flat_section(x: Section) -> EifSection
+    ensures { λ r. ⌜ r ≡ flatSection x ⌝ }
+{
+    let position = x.position;
+    let length = x.length;
+    EifSection {
+        kind: x.kind,
+        flags: x.flags,
+        reserved: 0,
+        position,
+        length,
+    }
+}
+
+fn flat_sections(sections: [Section; PLACES]) -> [EifSection; PLACES]
+    ensures { λ r. ⌜ r ≡ map flatSection sections ⌝ }
+{
+    let blank = EifSection {
+        kind: 0,
+        flags: 0,
+        reserved: 0,
+        position: FilePosition(0),
+        length: DataLength(0),
+    };
+    let mut flat = [blank; PLACES];
+    let mut i: usize = 0;
+    while i < PLACES {
+        flat[i] = flat_section(sections[i]);
+        i += 1;
+    }
+    flat
+}
+
+fn flat_record(x: RollRecord) -> EifRollRecord
+    ensures { λ r. ⌜ r ≡ flatRecord x ⌝ }
+{
+    let position = x.position;
+    let length = x.length;
+    EifRollRecord {
+        kind: x.kind,
+        reserved: 0,
+        reserved_after: 0,
+        position,
+        length,
+    }
+}
+
+fn flat_records(records: [RollRecord; PLACES]) -> [EifRollRecord; PLACES]
+    ensures { λ r. ⌜ r ≡ map flatRecord records ⌝ }
+{
+    let blank = EifRollRecord {
+        kind: 0,
+        reserved: 0,
+        reserved_after: 0,
+        position: RollPosition(0),
+        length: DataLength(0),
+    };
+    let mut flat = [blank; PLACES];
+    let mut i: usize = 0;
+    while i < PLACES {
+        flat[i] = flat_record(records[i]);
+        i += 1;
+    }
+    flat
 }
 
 // ---- reading and writing an image
@@ -88,16 +188,18 @@ pub extern "C" fn eif_read(image: &[u8]) -> EifReading
     let sections = reading.sections;
     EifReading {
         number: number_of(verdict),
-        index: index_of(verdict),
+        reserved: 0,
         version: reading.version,
         flags: reading.flags,
+        count: reading.count,
+        index: index_of(verdict),
         memory: reading.memory,
         cpus: reading.cpus,
-        count: reading.count,
         ramdisks: reading.ramdisks,
         ramdisk_count: eif_judge::ramdisk_count(reading),
         first_ramdisk: eif_judge::first_ramdisk(reading),
-        sections,
+        reserved_after: 0,
+        sections: flat_sections(sections),
     }
 }
 
@@ -111,6 +213,15 @@ pub extern "C" fn eif_write(plan: Plan, lent: &[u8], out: &mut [u8]) -> EifAnswe
     answer(verdict, done.length)
 }
 
+#[no_mangle]
+pub extern "C" fn eif_plan_length(plan: Plan) -> EifAnswer
+    ensures { λ r. ⌜ r ≡ flatWritten (planLength plan) ⌝ }
+{
+    let found = eif_plan::length(plan);
+    let verdict = found.verdict;
+    answer(verdict, found.length)
+}
+
 // ---- the measured streams: a function for each, so that only these three can be named
 
 #[no_mangle]
@@ -119,7 +230,7 @@ pub extern "C" fn eif_whole_length(image: &[u8]) -> EifAnswer
 {
     let found = eif_streams::length(image, Stream::Whole);
     let verdict = found.verdict;
-    answer(verdict, found.length)
+    answer(verdict, found.length.0)
 }
 
 #[no_mangle]
@@ -128,7 +239,7 @@ pub extern "C" fn eif_boot_length(image: &[u8]) -> EifAnswer
 {
     let found = eif_streams::length(image, Stream::Boot);
     let verdict = found.verdict;
-    answer(verdict, found.length)
+    answer(verdict, found.length.0)
 }
 
 #[no_mangle]
@@ -137,7 +248,7 @@ pub extern "C" fn eif_app_length(image: &[u8]) -> EifAnswer
 {
     let found = eif_streams::length(image, Stream::App);
     let verdict = found.verdict;
-    answer(verdict, found.length)
+    answer(verdict, found.length.0)
 }
 
 #[no_mangle]
@@ -183,6 +294,15 @@ pub extern "C" fn eif_roll_write(image: &[u8], out: &mut [u8]) -> EifAnswer
 }
 
 #[no_mangle]
+pub extern "C" fn eif_roll_length(image: &[u8]) -> EifAnswer
+    ensures { λ r. ⌜ r ≡ flatWritten (rollLength (now (image .entry))) ⌝ }
+{
+    let found = roll_writer::length(image);
+    let verdict = found.verdict;
+    answer(verdict, found.length)
+}
+
+#[no_mangle]
 pub extern "C" fn eif_roll_read(roll: &[u8]) -> EifRollReading
     ensures { λ r. ⌜ r ≡ flatRollReading (readRoll (now (roll .entry))) ⌝ }
 {
@@ -191,8 +311,9 @@ pub extern "C" fn eif_roll_read(roll: &[u8]) -> EifRollReading
     let records = reading.records;
     EifRollReading {
         number: number_of(verdict),
+        reserved: [0u8; 7],
         index: index_of(verdict),
         count: reading.count,
-        records,
+        records: flat_records(records),
     }
 }

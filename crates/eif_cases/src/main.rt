@@ -1,6 +1,8 @@
-// Runs the paper's cases of reading an image, one line each: what was done to an image, and the reader's answer.
+// Runs cases of reading an image, one line each: what was done to an image, and the reader's answer.
 use eif::Header;
+use eif::Reading;
 use eif::Refusal;
+use eif::Section;
 use eif::SectionType;
 use eif::Verdict;
 
@@ -71,6 +73,8 @@ fn worked(image: &mut [u8]) {
 // Version 4 with every type: kernel, command line, two ramdisks, signature, metadata at 548, 561, 574, 588, 601 and 614; 628 bytes.
 fn first_half(image: &mut [u8]) {
     case_images::put_header(image, 4, 1, 6);
+    octets::put_be64(image, Header::MEMORY_AT, 0x0102030405060708);
+    octets::put_be64(image, Header::CPUS_AT, 2);
     case_images::put_section(image, 0, 548, SectionType::KERNEL, 0, b"K");
     case_images::put_section(image, 1, 561, SectionType::COMMAND_LINE, 0, b"a");
     case_images::put_section(image, 2, 574, SectionType::RAMDISK, 0, b"r1");
@@ -106,15 +110,64 @@ fn refusal(r: Refusal) {
     number(r.index);
 }
 
+fn field(name: &[u8], n: u64) {
+    text(name);
+    number(n);
+}
+
+fn fields(reading: Reading) {
+    field(b"version ", reading.version as u64);
+    field(b" flags ", reading.flags as u64);
+    field(b" memory ", reading.memory);
+    field(b" cpus ", reading.cpus);
+    field(b" count ", reading.count as u64);
+    field(b" ramdisks ", reading.ramdisks as u64);
+}
+
+// Every place of the table, used or not, but for those that are all zero.
+fn rows(sections: [Section; eif::PLACES]) {
+    let mut i: usize = 0;
+    while i < eif::PLACES {
+        let section = sections[i];
+        if !is_blank(section) {
+            row(i as u64, section);
+        }
+        i += 1;
+    }
+}
+
+fn is_blank(section: Section) -> bool {
+    if section.kind != 0 {
+        return false;
+    }
+    if section.flags != 0 {
+        return false;
+    }
+    if section.position.0 != 0 {
+        return false;
+    }
+    section.length.0 == 0
+}
+
+fn row(i: u64, section: Section) {
+    field(b"\n  ", i);
+    field(b" type ", section.kind as u64);
+    field(b" flags ", section.flags as u64);
+    field(b" position ", section.position.0);
+    field(b" length ", section.length.0);
+}
+
 fn answer(label: &[u8], image: &[u8]) {
     let reading = eif_reader::read(image);
     let verdict = reading.verdict;
     text(label);
     text(b": ");
     match verdict {
-        Verdict::Accepted => text(b"accepted"),
+        Verdict::Accepted => fields(reading),
         Verdict::Refused(r) => refusal(r),
     }
+    let sections = reading.sections;
+    rows(sections);
     text(b"\n");
 }
 
@@ -213,7 +266,7 @@ fn gaps_and_tail(label: &[u8]) {
 
 // ---- the cases
 
-fn of_the_paper() {
+fn of_the_rules() {
     cut(b"the worked example", 586);
     cut(b"547 bytes", 547);
     cut(b"no bytes", 0);
@@ -283,7 +336,7 @@ fn of_a_section() {
     full(b"11 last", two(614, 4), nothing());
 }
 
-// The one that comes first in the paper's order is the answer, wherever the other stands.
+// The one that comes first in the order of FORMAT.md, Reading an image, is the answer, wherever the other stands.
 fn two_at_once() {
     small(b"3 and 4", four(0, 0), two(4, 9));
     small(b"4 and 5", two(4, 9), two(26, 1));
@@ -308,7 +361,7 @@ fn two_at_once() {
 }
 
 fn main() {
-    of_the_paper();
+    of_the_rules();
     of_the_header();
     of_a_section();
     two_at_once();

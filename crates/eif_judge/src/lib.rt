@@ -296,7 +296,7 @@ pub fn ramdisk_count(reading: Reading) -> u32
     u32::count_ones(reading.ramdisks)
 }
 
-// The index of the first one; 32 where there is none.
+// The index of the first one; 32 where there is none, as beside a refusal.
 pub fn first_ramdisk(reading: Reading) -> u32
     ensures { λ r. ⌜ r ≡ trailingZeros 32 (reading .ramdisks) ⌝ }
 {

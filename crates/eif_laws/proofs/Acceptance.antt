@@ -1,4 +1,4 @@
--- Demand 2: an image is accepted exactly when it meets the rules, checksum included, said with no order and no walk.
+-- Demand 2 (PROMISES.md): an image is accepted exactly when it meets the rules, checksum included, said with no order and no walk.
 -- Assumes nothing.
 use Prim.Native.Nat.{ℕ, zero, suc, _<_, _≤_}
 use mathlib.Core.Path.{_≡_, refl, sym, ap, _∙_}

@@ -1,9 +1,10 @@
--- Demand 1: a refusal carries the first number that applies, in the paper's order, for every call that judges.
+-- Demand 1 (PROMISES.md): a refusal carries the first number that applies, in the order that FORMAT.md gives for the call.
 -- Assumes nothing.
 use Prim.Native.Nat.{ℕ, zero, suc, _+_}
 use mathlib.Core.Path.{_≡_, refl, sym, ap, ap₂, _∙_}
 use mathlib.Core.Bool.{Bool, true, false, not}
 use mathlib.Core.List.{List, [], _∷_, _++_}
+use borrow.Author.Tests.{eq-eqb}
 use lib.Dec.{ltb, leb, eqb}
 use lib.ListN.{length}
 use Rattle.eif.specs.Numbers.{sizeLimit, placeCount, oldestVersion, kernel, ramdisk, sectionMissing, checksumDiffers, outputTooShort, pastStreamEnd}
@@ -12,10 +13,10 @@ use Rattle.eif.specs.Answers.{refuse, andThen, wholeVerdict}
 use Rattle.eif.specs.Rules.{versionKnown, countKnown, allowedIn, seen, orderFault, typeFault, missing, firstFault}
 use Rattle.eif.specs.Layout.{magicNumber, headerSize, View, viewOf, magic, version, count, offset, size, checksum, end, start}
 use Rattle.eif.specs.Reading.{headerRule, entryRule, sectionRule, missingRule, checksumRule, judged, verdictIn, checksumOf, verdictOf}
-use Rattle.eif.specs.Plan.{plannedKind, plainSize, dataBefore, fieldFault, sizeFault, planFault, planVerdict, writeVerdict}
+use Rattle.eif.specs.Plan.{plannedKind, plainSize, dataBefore, fieldFault, sizeFault, planFault, planVerdict, writeVerdict, planLength}
 use Rattle.eif.specs.Stream.{streamOf, copyVerdict}
 use Rattle.eif.specs.Roll.{recordHeadSize, recordAt, recordSize, recordKind, isEnd, imageSize, rollBytes, rollVerdict, Ending, ended, stopped, stop, headFault, bodyFault, rollFault, endFrom, rollAnswerFor, readRoll}
-use Rattle.eif.specs.Order.{Rule, rule, firstThatApplies, orderRules, typeRules, rulesFrom, headerRules, sectionRules, viewRules, imageRules, planRules, copyRules, rollWriteRules, headRules, bodyRules, endRules, rollRulesFrom, rollRules}
+use Rattle.eif.specs.Order.{Rule, rule, firstThatApplies, orderRules, typeRules, rulesFrom, headerRules, sectionRules, viewRules, imageRules, planRules, writeRules, copyRules, rollWriteRules, headRules, bodyRules, endRules, rollRulesFrom, rollRules}
 use Rattle.eif.specs.declared.Plan.{Plan}
 use Rattle.eif.specs.declared.RollReading.{RollReading}
 use Rattle.eif.specs.declared.Stream.{Stream}
@@ -163,30 +164,62 @@ fields-by true b w = refl
 fields-by false true w = refl
 fields-by false false w = refl
 
-plan-by : (a b c d : Bool) → choose a (refuse 12 0) (choose b (refuse 1 0) (choose c (refuse 15 0) (choose d (refuse 14 0) Accepted)))
-    ≡ andThen (wholeVerdict (choose a 12 (choose b 1 (choose c 15 0)))) (choose d (refuse 14 0) Accepted)
-plan-by true b c d = refl
-plan-by false true c d = refl
-plan-by false false true d = refl
-plan-by false false false d = refl
+-- 12, 1 and 15 together, or 12 and 1 and then 15
+plan-by : (a b c : Bool) → wholeVerdict (choose a 12 (choose b 1 (choose c 15 0))) ≡ andThen (choose a (refuse 12 0) (choose b (refuse 1 0) Accepted)) (choose c (refuse 15 0) Accepted)
+plan-by true b c = refl
+plan-by false true c = refl
+plan-by false false true = refl
+plan-by false false false = refl
 
-pub write-first : (p : Plan) (given room : ℕ) → writeVerdict p given room ≡ firstThatApplies (planRules p given room)
-unfolding writeVerdict planVerdict fieldFault planFault sizeFault planRules firstThatApplies
-write-first p given room =
-    let kinds : ℕ → ℕ = plannedKind (p .places) in
-    let m : Bool = missing kinds (p .version) (p .count) in
-    let l : Bool = ltb sizeLimit (plainSize p) in
-    let d : Bool = not (eqb given (dataBefore (p .places) (p .count))) in
-    let o : Bool = ltb room (plainSize p) in
-    let last : List Rule = rule m sectionMissing 0 ∷ rule l 1 0 ∷ rule d 15 0 ∷ rule o outputTooShort 0 ∷ [] in
-    let sections : List Rule = rulesFrom (typeRules (p .version) kinds) (p .count) 0 in
-    let v : Bool = not (versionKnown (p .version)) in
-    let n : Bool = not (countKnown (p .count)) in
-    sym
-    (ap (λ (x : Verdict). choose v (refuse 4 0) (choose n (refuse 5 0) x))
-    (first-append sections last ∙ ap₂ andThen (walk-first (typeRules (p .version) kinds) (typeFault (p .version) kinds) (type-first (p .version) kinds) (p .count) 0) (plan-by m l d o))
-    ∙ fields-by v n _
-    ∙ then-then (wholeVerdict (choose v 4 (choose n 5 0))) (firstFault (typeFault (p .version) kinds) (p .count) 0) (wholeVerdict (choose m 12 (choose l 1 (choose d 15 0)))) (choose o (refuse 14 0) Accepted))
+then-room : (a : Verdict) (c : Bool) (w : Verdict) → andThen (andThen a (choose c (refuse 15 0) Accepted)) w ≡ andThen a (choose c (refuse 15 0) w)
+then-room Accepted true w = refl
+then-room Accepted false w = refl
+then-room (Refused r) c w = refl
+
+module _ (p : Plan) where
+  -- the data has another length than the plan says
+  abbrev differs : ℕ → Bool
+  differs given = not (eqb given (dataBefore (p .places) (p .count)))
+
+  plan-then : (given : ℕ) → planVerdict p given ≡ andThen (firstThatApplies (planRules p)) (choose (differs given) (refuse 15 0) Accepted)
+  unfolding planVerdict fieldFault planFault sizeFault planRules firstThatApplies
+  plan-then given =
+      let kinds : ℕ → ℕ = plannedKind (p .places) in
+      let m : Bool = missing kinds (p .version) (p .count) in
+      let l : Bool = ltb sizeLimit (plainSize p) in
+      let last : List Rule = rule m sectionMissing 0 ∷ rule l 1 0 ∷ [] in
+      let sections : List Rule = rulesFrom (typeRules (p .version) kinds) (p .count) 0 in
+      let walk : Verdict = firstFault (typeFault (p .version) kinds) (p .count) 0 in
+      let v : Bool = not (versionKnown (p .version)) in
+      let n : Bool = not (countKnown (p .count)) in
+      let fields : Verdict = wholeVerdict (choose v 4 (choose n 5 0)) in
+      ap (λ (x : Verdict). andThen fields (andThen walk x)) (plan-by m l (differs given))
+      ∙ then-then fields walk (firstThatApplies last) (choose (differs given) (refuse 15 0) Accepted)
+      ∙ ap (λ (x : Verdict). andThen x (choose (differs given) (refuse 15 0) Accepted))
+      (sym
+      (ap (λ (x : Verdict). choose v (refuse 4 0) (choose n (refuse 5 0) x))
+      (first-append sections last ∙ ap (λ (x : Verdict). andThen x (firstThatApplies last)) (walk-first (typeRules (p .version) kinds) (typeFault (p .version) kinds) (type-first (p .version) kinds) (p .count) 0))
+      ∙ fields-by v n (andThen walk (firstThatApplies last))))
+
+  pub write-first : (given room : ℕ) → writeVerdict p given room ≡ firstThatApplies (writeRules p given room)
+  unfolding writeVerdict writeRules firstThatApplies
+  write-first given room =
+      let o : Bool = ltb room (plainSize p) in
+      ap (λ (x : Verdict). andThen x (choose o (refuse outputTooShort 0) Accepted)) (plan-then given)
+      ∙ then-room (firstThatApplies (planRules p)) (differs given) (choose o (refuse outputTooShort 0) Accepted)
+      ∙ sym (first-append (planRules p) (rule (differs given) 15 0 ∷ rule o outputTooShort 0 ∷ []))
+
+  -- the length of a plan's image
+  pub plan-length-first : planLength p .verdict ≡ firstThatApplies (planRules p)
+  unfolding planLength
+  plan-length-first =
+      plan-then (dataBefore (p .places) (p .count))
+      ∙ ap (λ (b : Bool). andThen (firstThatApplies (planRules p)) (choose (not b) (refuse 15 0) Accepted)) (eq-eqb (dataBefore (p .places) (p .count)) _ refl)
+      ∙ then-accepted (firstThatApplies (planRules p))
+    where
+      then-accepted : (v : Verdict) → andThen v Accepted ≡ v
+      then-accepted Accepted = refl
+      then-accepted (Refused r) = refl
 
 -- ---- reading a roll
 

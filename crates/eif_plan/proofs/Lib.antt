@@ -1,3 +1,4 @@
 pub mod Types
 pub mod Size
 pub mod Verdict
+pub mod Planned

@@ -12,7 +12,7 @@ use Rattle.eif.specs.Plan.{sizeFault, packedAt, dataBefore, plainSize}
 use Rattle.eif.specs.declared.Place.{Place}
 use Rattle.eif.specs.declared.Plan.{Plan}
 use Rattle.octets.proofs.Over.{le-or-lt}
-use Rattle.eif_plan.specs.Size.{limited, imageSize}
+use Rattle.eif_plan.specs.Size.{limited, imageSize, dataSize}
 
 pub limited-over : (n : ℕ) → sizeLimit < n → 0 ≡ limited n
 unfolding limited
@@ -37,13 +37,25 @@ module _ (p : Plan) where
   unfolding imageSize
   image-limited h = simp (le-ltb _ _ h)
 
+  pub data-none : imageSize p ≡ 0 → 0 ≡ dataSize p
+  unfolding dataSize
+  data-none e = simp e
+
+  pub data-some : (imageSize p ≡ 0 → ⊥) → dataBefore (p .places) (p .count) ≡ dataSize p
+  unfolding dataSize
+  data-some h = simp (ne-eqb _ _ h)
+
+  -- a size that is not 0 is one of no more sections than places
+  pub size-few : (imageSize p ≡ 0 → ⊥) → p .count ≤ placeCount
+  size-few h = ⊎-elim (λ few. few) (λ many. absurd (h (sym (image-none many)))) (le-or-lt (p .count) placeCount)
+
 -- what an image's size tells, where the count is within the places
 module _ (p : Plan) (given r : ℕ) (few : p .count ≤ placeCount) (e : r ≡ imageSize p) where
   size-is : r ≡ limited (plainSize p)
   size-is = e ∙ sym (image-limited p few)
 
   -- no size is 0, so 0 says that it is over the limit
-  over : r ≡ 0 → sizeLimit < plainSize p
+  pub over : r ≡ 0 → sizeLimit < plainSize p
   over z =
       let b = packed-before (p .places) (p .count) in
       ⊎-elim

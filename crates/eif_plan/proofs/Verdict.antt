@@ -1,7 +1,7 @@
 -- The verdict on a plan: fields, types and sizes, one after the other.
 -- Assumes nothing.
 use Prim.Native.Nat.{ℕ, _<_, _≤_}
-use mathlib.Core.Path.{_≡_, refl, ap}
+use mathlib.Core.Path.{_≡_, refl, sym, ap, _∙_}
 use mathlib.Core.Bool.{Bool, true, false, not}
 use borrow.Author.Tests.{ne-eqb, le-leb, lt-leb, leb-true, not-false}
 use lib.Dec.{leb}
@@ -81,3 +81,10 @@ module _ (p : Plan) (given : ℕ) where
 
       pub by-none : sizeFault p given ≡ 0 → Accepted ≡ planVerdict p given
       by-none h = rw in-parts (simp (fields, good, h))
+
+-- of two lengths of data, where the rules on sizes say the same
+pub by-same-sizes : (p : Plan) (a b : ℕ) → sizeFault p a ≡ sizeFault p b → planVerdict p a ≡ planVerdict p b
+by-same-sizes p a b e =
+    in-parts p a
+    ∙ ap (λ (n : ℕ). andThen (wholeVerdict (fieldFault p)) (andThen (typesVerdict (p .version) (plannedKind (p .places)) (p .count)) (wholeVerdict n))) e
+    ∙ sym (in-parts p b)

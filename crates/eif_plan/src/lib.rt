@@ -1,13 +1,13 @@
-// Judging a plan of an image by the paper's rules 4, 5, 9 to 12, 1 and 15, before a byte is written.
+// Judging a plan of an image by the rules 4, 5, 9 to 12, 1 and 15 (FORMAT.md, Writing an image), before a byte is written.
 ghost use mathlib.Core.Path.{_≡_};
 ghost use Prim.Native.Nat.{_<_, _≤_};
 ghost use lib.ListN.{length};
 ghost use Rattle.eif.specs.Numbers.{placeCount};
 ghost use Rattle.eif.specs.Rules.{typeFault};
-ghost use Rattle.eif.specs.Plan.{packedAt, fieldFault, sizeFault, planVerdict};
+ghost use Rattle.eif.specs.Plan.{packedAt, fieldFault, sizeFault, planVerdict, planLength};
 ghost use Rattle.type_rules.specs.Kinds.{kindIn};
 ghost use Rattle.eif_plan.specs.Types.{kindsOf, typesVerdict};
-ghost use Rattle.eif_plan.specs.Size.{limited, imageSize};
+ghost use Rattle.eif_plan.specs.Size.{limited, imageSize, dataSize};
 use eif::Header;
 use eif::PLACES;
 use eif::Place;
@@ -16,6 +16,7 @@ use eif::Refusal;
 use eif::SectionHeader;
 use eif::SectionType;
 use eif::Verdict;
+use eif::Written;
 
 // ---- the header's fields
 
@@ -121,17 +122,27 @@ pub fn image_size(plan: Plan) -> u64
     packed_size(places, count)
 }
 
-// The rules 1 and 15. An image is its header, a header for each section, and the data.
+// How much data the image of a plan has, or 0 where the plan has no image of a size within the limit. An image is its header,
+// a header for each section, and the data.
+fn data_size(plan: Plan) -> u64
+    ensures { λ r. ⌜ r ≡ dataSize plan ⌝ }
+{
+    let size = image_size(plan);
+    if size == 0 {
+        return 0;
+    }
+    size - Header::SIZE as u64 - SectionHeader::SIZE as u64 * plan.count as u64
+}
+
+// The rules 1 and 15.
 fn size_fault(plan: Plan, given: u64) -> u8
     requires { ⌜ plan .count ≤ placeCount ⌝ }
     ensures { λ r. ⌜ r ≡ sizeFault plan given ⌝ }
 {
-    let size = image_size(plan);
-    if size == 0 {
+    if image_size(plan) == 0 {
         return Refusal::IMAGE_TOO_LONG;
     }
-    let heads = SectionHeader::SIZE as u64 * plan.count as u64;
-    if given != size - Header::SIZE as u64 - heads {
+    if given != data_size(plan) {
         return Refusal::DATA_LENGTH_DIFFERS;
     }
     0
@@ -159,4 +170,18 @@ pub fn judge(plan: Plan, given: u64) -> Verdict
         return Verdict::refuse(sizes, 0);
     }
     Verdict::Accepted
+}
+
+// How long the image of a plan is, or the writer's refusal of the plan.
+pub fn length(plan: Plan) -> Written
+    ensures { λ r. ⌜ r ≡ planLength plan ⌝ }
+{
+    let verdict = judge(plan, data_size(plan));
+    let Verdict::Accepted = verdict else {
+        return Written { verdict, length: 0 };
+    };
+    Written {
+        verdict,
+        length: image_size(plan),
+    }
 }

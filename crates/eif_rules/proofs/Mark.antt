@@ -1,11 +1,13 @@
--- The ramdisk mark of a section list: built place by place, its ones are the ramdisks, and its lowest one is the first.
+-- The ramdisk mark of a section list: built place by place, each bit tells whether its section is a ramdisk, its ones are the
+-- ramdisks, and its lowest one is the first.
 -- Assumes nothing.
-use Prim.Native.Nat.{ℕ, suc, _+_, _*_, _/_, _%_, _<_, _≤_}
-use mathlib.Core.Path.{_≡_, refl, ap, ap₂, _∙_}
+use Prim.Native.Nat.{ℕ, zero, suc, _+_, _*_, _/_, _%_, _^_, _<_, _≤_}
+use mathlib.Core.Path.{_≡_, refl, sym, ap, ap₂, _∙_}
 use mathlib.Core.Bool.{Bool, true, false}
 use mathlib.Core.List.{List, [], _∷_}
 use native.Mathlib.Omega.{arith}
-use borrow.Author.Tests.{eq-eqb, ne-eqb}
+use native.Mathlib.Nat.{div-one, div-div-eq-div-mul, pow-succ'}
+use borrow.Author.Tests.{eq-eqb, ne-eqb, eqb-true}
 use lib.Dec.{eqb}
 use lib.ListN.{length, getD, drop, drop-of-length-le}
 use lib.Seq.{drop-cons}
@@ -40,6 +42,40 @@ low b m h = omega arith
 
 rest : (b m : ℕ) → b < 2 → (b + 2 * m) / 2 ≡ m
 rest b m h = omega arith
+
+-- ---- each bit
+
+nothing : (i : ℕ) → 0 / 2 ^ i % 2 ≡ 0
+nothing zero = refl
+nothing (suc i) = ap (λ (n : ℕ). 0 / n % 2) (pow-succ' 2 i) ∙ ap (λ (n : ℕ). n % 2) (sym (div-div-eq-div-mul 0 2 (2 ^ i))) ∙ nothing i
+
+-- bit i of the mark, of any i: past the list there is no section, and the bit is 0
+pub mark-bit : (l : List Section) (i : ℕ) → markOf l / 2 ^ i % 2 ≡ ramdiskBit (getD l i blankSection)
+unfolding markOf
+mark-bit [] i = nothing i
+mark-bit (x ∷ xs) zero =
+    ap (λ (n : ℕ). n % 2) (div-one (ramdiskBit x + 2 * markOf xs))
+    ∙ low (ramdiskBit x) (markOf xs) (bit-lt (eqb (x .kind) ramdisk))
+mark-bit (x ∷ xs) (suc i) =
+    let n : ℕ = ramdiskBit x + 2 * markOf xs in
+    ap (λ (k : ℕ). n / k % 2) (pow-succ' 2 i)
+    ∙ ap (λ (k : ℕ). k % 2) (sym (div-div-eq-div-mul n 2 (2 ^ i)))
+    ∙ ap (λ (k : ℕ). k / 2 ^ i % 2) (rest (ramdiskBit x) (markOf xs) (bit-lt (eqb (x .kind) ramdisk)))
+    ∙ mark-bit xs i
+
+bit-one : (x : Section) → (ramdiskBit x ≡ 1 → x .kind ≡ ramdisk) × (x .kind ≡ ramdisk → ramdiskBit x ≡ 1)
+bit-one x = (λ e. eqb-true _ _ (one→ (eqb (x .kind) ramdisk) e), λ e. simp (eq-eqb _ _ e))
+  where
+    one→ : (b : Bool) → _≡_ {A = ℕ} (choose b 1 0) 1 → b ≡ true
+    one→ true e = refl
+    one→ false e = absurd (omega arith)
+
+-- bit i is one exactly when section i is a ramdisk
+pub mark-one-exactly : (l : List Section) (i : ℕ) → (markOf l / 2 ^ i % 2 ≡ 1 → getD l i blankSection .kind ≡ ramdisk) × (getD l i blankSection .kind ≡ ramdisk → markOf l / 2 ^ i % 2 ≡ 1)
+mark-one-exactly l i =
+    (λ e. bit-one (getD l i blankSection) .0 (sym (mark-bit l i) ∙ e), λ e. mark-bit l i ∙ bit-one (getD l i blankSection) .1 e)
+
+-- ---- all ones, and the lowest
 
 pub ones-mark : (l : List Section) → ones (markOf l) ≡ ramdiskCount l
 unfolding markOf ones ramdiskCount

@@ -12,6 +12,7 @@ ghost use Rattle.octets.specs.Over.{over};
 ghost use Rattle.eif_rules.proofs.Accept.{Inside};
 ghost use Rattle.eif_streams.specs.Listed.{listed, InImage};
 use eif::Copied;
+use eif::DataLength;
 use eif::PLACES;
 use eif::Refusal;
 use eif::Section;
@@ -156,13 +157,16 @@ pub fn length(image: &[u8], stream: Stream) -> StreamLength
     let reading = eif_reader::read(image);
     let verdict = reading.verdict;
     let Verdict::Accepted = verdict else {
-        return StreamLength { verdict, length: 0 };
+        return StreamLength {
+            verdict,
+            length: DataLength(0),
+        };
     };
     let sections = reading.sections;
     let list = sections_of(stream, sections, reading.ramdisks);
     StreamLength {
         verdict,
-        length: total(image, list),
+        length: DataLength(total(image, list)),
     }
 }
 

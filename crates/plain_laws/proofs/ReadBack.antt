@@ -23,38 +23,10 @@ use Rattle.eif_rules.proofs.Table.{filled-same}
 use Rattle.eif_rules.proofs.View.{no-fault, fault-order}
 use Rattle.eif_rules.proofs.Accept.{→accepted}
 use Rattle.eif_rules.proofs.Reading.{reading-accepted}
+use Rattle.plain_laws.specs.Packed.{packedSection, packedSections, packedReading}
 use Rattle.plain_laws.proofs.PlanRules.{Planned}
 use Rattle.plain_laws.proofs.Shape.{packed-le, packed-zero, length-plain}
 use Rattle.plain_laws.proofs.Written.{Fits, read-magic, read-version, read-flags, read-memory, read-cpus, read-count, read-offset, read-size, read-kind, read-section-flags, read-own-size, read-start, read-end, read-sum}
-
--- ---- what is to be read
-
--- section i of places, packed
-abbrev pub packedSection : List Place → ℕ → Section
-packedSection l i =
-    record {
-      kind = plannedKind l i;
-      flags = placeAt l i .flags;
-      position = record { 0 = packedAt l i + sectionHeaderSize };
-      length = record { 0 = plannedSize l i };
-    }
-
-abbrev pub packedSections : Plan → List Section
-packedSections p = filled (packedSection (p .places)) blankSection placeCount (p .count)
-
--- the plan's fields, its used places with their packed positions, unused places blank
-abbrev pub packedReading : Plan → Reading
-packedReading p =
-    record {
-      verdict = Accepted;
-      version = p .version;
-      flags = p .flags;
-      memory = p .memory;
-      cpus = p .cpus;
-      count = p .count;
-      sections = packedSections p;
-      ramdisks = markOf (packedSections p);
-    }
 
 -- ---- it is accepted
 

@@ -1,7 +1,9 @@
--- Demand 2 of the writer and the reader together. Of plans it is assumed only that the numbers that no rule judges fit their
--- fields, and of data and images that they are bytes. Assumes nothing.
+-- Demand 2 (PROMISES.md) of the writer and the reader together: what is written of a plan that is not refused is plain, and is read
+-- back as the plan and its data; what is read of a plain image is written as that image; plans that differ only past the count have
+-- one plain image. Where a law needs it, it says that images and data are bytes and that a plan's numbers that no rule judges fit
+-- their fields, as they do in every slice and plan of the code. Assumes nothing.
 use Prim.Native.Nat.{ℕ, _<_, _≤_}
-use mathlib.Core.Path.{_≡_, refl, sym, ap, ap₂, _∙_}
+use mathlib.Core.Path.{_≡_, refl, sym, ap, ap₂, subst, _∙_}
 use mathlib.Core.List.{List}
 use native.Mathlib.Omega.{arith}
 use borrow.Author.Tests.{le-ltb}
@@ -20,13 +22,14 @@ use Rattle.eif.specs.declared.Verdict.{Verdict}
 use Rattle.eif.specs.declared.Verdict.the-variants.{Accepted}
 use Rattle.eif_rules.proofs.Table.{filled-at}
 use Rattle.eif_rules.proofs.Reading.{reading-accepted}
+use Rattle.plain_laws.specs.Packed.{packedSection, packedReading, SamePlan}
 use Rattle.plain_laws.proofs.PlanRules.{Planned, planned→}
 use Rattle.plain_laws.proofs.Written.{Fits, read-data}
-use Rattle.plain_laws.proofs.ReadBack.{packedSection, packedReading, plain-accepted, reads-back, long}
+use Rattle.plain_laws.proofs.ReadBack.{plain-accepted, reads-back, long}
 use Rattle.plain_laws.proofs.Joined.{join-same, pieces-joined}
 use Rattle.plain_laws.proofs.WriteBack.{plan, given, joined-is, plain-again, length-plan}
 use Rattle.plain_laws.proofs.Plainness.{is-plain, plan-accepted, plan-fits, bytes-given}
-use Rattle.plain_laws.proofs.SamePlan.{SamePlan, size-of-same, verdict-of-same, image-of-same}
+use Rattle.plain_laws.proofs.SamePlan.{size-of-same, verdict-of-same, image-of-same}
 
 -- ---- what is written is read back
 
@@ -126,6 +129,32 @@ write-read s w pl =
     let r = reading-accepted s (pl .accepted) in
     let j = joined-is s (pl .accepted) in
     rw (r, j) (record { not-refused = plan-accepted s (pl .accepted); image = plain-again s w pl; answer = answered s w pl; output = put-out s w pl })
+
+-- ---- plain exactly when written
+
+-- a plan that the writer does not refuse, and data, whose plain image is s
+pub record WrittenFrom (s : List ℕ) : Type 0 where
+  pub plan : Plan
+  pub given : List ℕ
+  pub fits : Fits plan
+  pub bytes : AreBytes given
+  pub not-refused : planVerdict plan (length given) ≡ Accepted
+  pub image : plainImage plan given ≡ s
+
+-- An image is plain exactly when it is the plain image of some plan that the writer does not refuse.
+pub plain-exactly-when : (s : List ℕ) → AreBytes s → (Plain s → WrittenFrom s) × (WrittenFrom s → Plain s)
+plain-exactly-when s w = (
+  λ pl.
+      record {
+        plan = plan s;
+        given = given s;
+        fits = plan-fits s (pl .accepted) w;
+        bytes = bytes-given s (pl .accepted) w;
+        not-refused = plan-accepted s (pl .accepted);
+        image = plain-again s w pl;
+      },
+  λ f. subst Plain (f .image) (plain-is-plain (f .plan) (f .given) (f .not-refused) (f .bytes)),
+)
 
 -- ---- the one plain image
 

@@ -17,18 +17,10 @@ use Rattle.eif.specs.Layout.{magicNumber, sectionHeaderSize}
 use Rattle.eif.specs.Plan.{entries, placeAt, plannedKind, plannedSize, packedAt, dataBefore, plainSize, fieldFault, sizeFault, planFault, planVerdict, fixedFields, offsetTable, sizeTable, headerBytes, pieceAt, sectionHeader, sectionBytes, bodyBytes, plainImage}
 use Rattle.eif.specs.declared.Place.{Place}
 use Rattle.eif.specs.declared.Plan.{Plan}
+use Rattle.plain_laws.specs.Packed.{SamePlan}
 use Rattle.eif_rules.proofs.Types.{order-same, missing-same}
 use Rattle.eif_rules.proofs.Table.{filled-same}
 use Rattle.eif_rules.proofs.Verdicts.{then-same, walk-same}
-
--- two plans agree in every field and in their used places
-pub record SamePlan (p q : Plan) : Type 0 where
-  pub version : p .version ≡ q .version
-  pub flags : p .flags ≡ q .flags
-  pub memory : p .memory ≡ q .memory
-  pub cpus : p .cpus ≡ q .cpus
-  pub count : p .count ≡ q .count
-  pub used : (i : ℕ) → i < p .count → placeAt (p .places) i ≡ placeAt (q .places) i
 
 -- ---- lists of places with the same first ones
 

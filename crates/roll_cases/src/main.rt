@@ -123,7 +123,7 @@ fn put_record(roll: &mut [u8], at: u16, kind: u16, lent: &[u8]) {
     octets::copy(roll, from + RecordHead::SIZE, lent);
 }
 
-// The 42 bytes that the paper prints.
+// The 42 bytes that FORMAT.md, The boot roll, prints.
 const WORKED: [u8; 42] = [
     0x01,
     0x00,

@@ -1,5 +1,5 @@
--- Demand 3: what a boot roll tells of its image. Images and rolls are byte strings where it is said; an accepted image is one
--- whose reading is accepted. Assumes nothing.
+-- Demand 3 (PROMISES.md): what a boot roll tells of its image. Images and rolls are byte strings where it is said; an accepted
+-- image is one whose reading is accepted. Assumes nothing.
 use Prim.Native.Nat.{ℕ, _+_, _<_, _≤_}
 use mathlib.Core.Path.{_≡_, refl, sym, ap, _∙_}
 use mathlib.Core.Logic.{_⊎_, ⊎-elim}
@@ -23,12 +23,13 @@ use Rattle.eif.specs.declared.Refusal.{Refusal}
 use Rattle.eif.specs.declared.RollReading.{RollReading}
 use Rattle.eif.specs.declared.Verdict.{Verdict}
 use Rattle.eif.specs.declared.Verdict.the-variants.{Accepted, Refused}
+use Rattle.roll_laws.specs.Listing.{listFrom, listingOf, foundIn}
 use Rattle.roll_laws.proofs.Prefix.{prefix-same}
 use Rattle.roll_laws.proofs.Positions.{sizes, kinds}
 use Rattle.roll_laws.proofs.RollRules.{→roll}
 use Rattle.roll_laws.proofs.ImageOfRoll.{ImageOf, image-of-roll}
 use Rattle.roll_laws.proofs.RollOfImage.{image-fit, image-few, roll-whole, shorter}
-use Rattle.roll_laws.proofs.Listing.{listFrom, listingOf, foundIn, found-from, listing-is}
+use Rattle.roll_laws.proofs.Listing.{found-from, listing-is}
 
 -- ---- two rolls
 
@@ -89,6 +90,26 @@ list-of-image s ok =
 
 pub list-of-roll : (t : List ℕ) (i : ImageOf t) → readRoll t ≡ listingOf (recordsOf (i .image))
 list-of-roll t i = ap readRoll (sym (i .roll)) ∙ list-of-image (i .image) (i .accepted) .reading
+
+-- The roll's reader gives the list of any roll it accepts.
+pub record ListOf (t : List ℕ) : Type 0 where
+  -- an accepted image whose roll it is
+  pub of : ImageOf t
+  -- the answer is that image's list, none is left out, and the bytes at its positions are the sections' data
+  pub reading : readRoll t ≡ listingOf (recordsOf (of .image))
+  pub few : length (recordsOf (of .image)) ≤ placeCount
+  pub found : map (foundIn t) (listFrom 0 (recordsOf (of .image))) ≡ recordsOf (of .image)
+
+pub list-of-accepted : (t : List ℕ) → AreBytes t → readRoll t .verdict ≡ Accepted → ListOf t
+list-of-accepted t w ok =
+    let i = image-of-roll t w ok in
+    let l = list-of-image (i .image) (i .accepted) in
+    record {
+      of = i;
+      reading = list-of-roll t i;
+      few = l .few;
+      found = ap (λ (x : List ℕ). map (foundIn x) (listFrom 0 (recordsOf (i .image)))) (sym (i .roll)) ∙ l .found;
+    }
 
 -- Whatever bytes the roll's reader is handed, it accepts them exactly when they are the roll of some accepted image.
 pub accepted-exactly-when : (t : List ℕ) → AreBytes t → (readRoll t .verdict ≡ Accepted → ImageOf t) × (ImageOf t → readRoll t .verdict ≡ Accepted)

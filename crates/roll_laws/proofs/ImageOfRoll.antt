@@ -30,7 +30,8 @@ use Rattle.plain_laws.proofs.Shape.{packed-suc, packed-zero, bytes-plain}
 use Rattle.plain_laws.proofs.PlanRules.{Planned}
 use Rattle.plain_laws.proofs.Written.{Fits, read-data}
 use Rattle.plain_laws.proofs.Joined.{bytes-joined, piece-is, length-joined}
-use Rattle.plain_laws.proofs.ReadBack.{packedSection, plain-accepted, sections-back}
+use Rattle.plain_laws.specs.Packed.{packedSection}
+use Rattle.plain_laws.proofs.ReadBack.{plain-accepted, sections-back}
 use Rattle.roll_laws.proofs.RollRules.{Whole, roll→}
 use Rattle.roll_laws.proofs.Positions.{first-record, next-record, first-size, next-size}
 

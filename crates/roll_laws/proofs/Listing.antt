@@ -1,4 +1,4 @@
--- The list of an image's roll, said from the records alone; reading the roll gives it, and the bytes it points at are the data.
+-- Reading a roll gives the list of its records, and the bytes that the list points at are their data.
 -- Assumes nothing.
 use Prim.Native.Nat.{ℕ, zero, suc, _+_, _-_, _<_, _≤_}
 use mathlib.Core.Path.{_≡_, refl, sym, ap, ap₂, _∙_}
@@ -11,27 +11,10 @@ use Rattle.eif.specs.Numbers.{placeCount}
 use Rattle.eif.specs.Table.{filled}
 use Rattle.eif.specs.Roll.{Record, recordHeadSize, rollOf, recordAt, recordSize, recordKind, listedAt, blankRecord, acceptedRoll}
 use Rattle.eif.specs.declared.RollRecord.{RollRecord}
-use Rattle.eif.specs.declared.RollReading.{RollReading}
 use Rattle.eif_rules.proofs.Table.{filled-none}
+use Rattle.roll_laws.specs.Listing.{listFrom, listingOf, foundIn}
 use Rattle.roll_laws.proofs.Positions.{first-record, next-record, blank, head-past}
 use Rattle.roll_laws.proofs.RollRules.{listed}
-
--- ---- the list
-
--- the records of a roll from a position on: the type, the position of the data, right after the head, and its length
-abbrev pub listFrom : ℕ → List Record → List RollRecord
-listFrom at [] = []
-listFrom at (r ∷ rs) =
-    record { kind = r .kind; position = record { 0 = at + recordHeadSize }; length = record { 0 = length (r .bytes) } }
-    ∷ listFrom (at + recordHeadSize + length (r .bytes)) rs
-
--- the answer: the number of records, and their list from the roll's start, unused places blank
-abbrev pub listingOf : List Record → RollReading
-listingOf rs = acceptedRoll (length rs) (listFrom 0 rs ++ replicate (placeCount - length rs) blankRecord)
-
--- the type that a list gives, and the bytes of a roll that it points at
-abbrev pub foundIn : List ℕ → RollRecord → Record
-foundIn t x = record { kind = x .kind; bytes = take (x .length .0) (drop (x .position .0) t) }
 
 -- ---- what it points at
 

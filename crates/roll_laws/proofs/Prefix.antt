@@ -1,4 +1,5 @@
--- No roll is the beginning of another: a roll that begins a second one has its records.
+-- No roll is the proper beginning of another: where the roll of some records, with any bytes after it, is the roll of others, the
+-- records are the same.
 -- Assumes nothing.
 use Prim.Native.Nat.{ℕ, _^_, _<_}
 use mathlib.Core.Path.{_≡_, refl, sym, ap, ap₂, _∙_}

@@ -168,7 +168,7 @@ fn refused(verdict: Verdict) -> RollReading
     }
 }
 
-// The list of records that a roll holds, or the first refusal in the paper's order.
+// The list of records that a roll holds, or the first refusal in the order of FORMAT.md, The boot roll.
 pub fn read(roll: &[u8]) -> RollReading
     ensures { λ r. ⌜ r ≡ readRoll (now (roll .entry)) ⌝ }
 {

@@ -1,4 +1,4 @@
--- The three answers of writing a roll: the answer and the output together.
+-- The answers of a roll's length, and of writing a roll: there the answer and the output together.
 -- Assumes nothing.
 use Prim.Native.Nat.{ℕ, _<_, _≤_}
 use mathlib.Core.Path.{_≡_}
@@ -9,7 +9,7 @@ use Rattle.octets.specs.Over.{over}
 use Rattle.eif.specs.Numbers.{outputTooShort}
 use Rattle.eif.specs.Answers.{refuse}
 use Rattle.eif.specs.Reading.{verdictOf}
-use Rattle.eif.specs.Roll.{rollBytes, rollAnswer, rollOutput, rollVerdict}
+use Rattle.eif.specs.Roll.{rollBytes, rollAnswer, rollOutput, rollLength, rollVerdict}
 use Rattle.eif.specs.declared.Refusal.{Refusal}
 use Rattle.eif.specs.declared.Written.{Written}
 use Rattle.eif.specs.declared.Verdict.{Verdict}
@@ -17,6 +17,15 @@ use Rattle.eif.specs.declared.Verdict.the-variants.{Accepted, Refused}
 
 abbrev pub written : Verdict → ℕ → Written
 written verdict size = record { verdict = verdict; length = size }
+
+module _ (s : List ℕ) where
+  pub length-refused : (r : Refusal) → verdictOf s ≡ Refused r → written (Refused r) 0 ≡ rollLength s
+  unfolding rollLength
+  length-refused r e = simp e
+
+  pub length-accepted : verdictOf s ≡ Accepted → written Accepted (length (rollBytes s)) ≡ rollLength s
+  unfolding rollLength
+  length-accepted e = simp e
 
 module _ (s d : List ℕ) where
   -- the answer is w, and the output is e

@@ -6,7 +6,7 @@ ghost use mathlib.Core.Path.{_≡_};
 ghost use Prim.Native.Nat.{_+_, _≤_};
 ghost use lib.ListN.{length};
 ghost use Rattle.octets.specs.Over.{over};
-ghost use Rattle.eif.specs.Roll.{recordHeadSize, headOf, inRoll, rollAnswer, rollOutput};
+ghost use Rattle.eif.specs.Roll.{recordHeadSize, headOf, inRoll, rollAnswer, rollOutput, rollLength};
 ghost use Rattle.eif_rules.proofs.Table.{All};
 ghost use Rattle.eif_rules.proofs.Accept.{Inside};
 ghost use Rattle.roll_writer.specs.Write.{partOf, partSize, rollFor, sizeFor, sizeBound};
@@ -119,5 +119,21 @@ pub fn write(image: &[u8], out: &mut [u8]) -> Written
     Written {
         verdict,
         length: size as u64,
+    }
+}
+
+// How long the roll of an image is, or the image's refusal.
+pub fn length(image: &[u8]) -> Written
+    ensures { λ r. ⌜ r ≡ rollLength (now (image .entry)) ⌝ }
+{
+    let reading = eif_reader::read(image);
+    let verdict = reading.verdict;
+    let sections = reading.sections;
+    let Verdict::Accepted = verdict else {
+        return Written { verdict, length: 0 };
+    };
+    Written {
+        verdict,
+        length: roll_size(sections) as u64,
     }
 }

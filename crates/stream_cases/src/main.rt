@@ -64,7 +64,7 @@ fn length(label: &[u8], image: &[u8], stream: Stream) {
     text(b": ");
     answer(verdict);
     text(b", ");
-    number(length.length);
+    number(length.length.0);
     text(b"\n");
 }
 
@@ -72,7 +72,7 @@ fn length(label: &[u8], image: &[u8], stream: Stream) {
 fn whole_of(name: &[u8], image: &[u8], stream: Stream) {
     let mut out = [b'.'; 26];
     text(name);
-    number(eif_streams::length(image, stream).length);
+    number(eif_streams::length(image, stream).length.0);
     text(b" ");
     eif_streams::copy(image, stream, StreamPosition(0), &mut out);
     in_brackets(&out);

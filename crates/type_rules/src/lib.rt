@@ -1,5 +1,5 @@
-// The rules on section types, shared by image, plan and boot roll: a caller lends the types of the sections that stand
-// before, or of all sections, in file order.
+// The rules on section types: 12 for image, plan and boot roll, 10 and 11 for plan and boot roll. The image reader judges 10 and
+// 11 in its own walk (`eif_judge`). A caller lends the types of the sections that stand before, or of all sections, in file order.
 ghost use mathlib.Core.Path.{_≡_};
 ghost use lib.ListN.{length};
 ghost use Rattle.eif.specs.Rules.{seen, orderFault, missing};

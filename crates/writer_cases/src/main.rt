@@ -1,4 +1,4 @@
-// Runs the paper's cases of writing an image, one line each: what was asked for, and the writer's answer. Output buffers are
+// Runs cases of writing an image, one line each: what was asked for, and the writer's answer. Output buffers are
 // filled with a pattern first, so that a byte that should stay is seen to stay.
 use eif::DataLength;
 use eif::Place;
@@ -211,7 +211,7 @@ fn one_at_a_time() {
     refused_data(b"data one byte long", worked(), b"Kab");
 }
 
-// The one that comes first in the paper's order is the answer.
+// The one that comes first in the order of FORMAT.md, Writing an image, is the answer.
 fn two_at_once() {
     refused(
         b"4 and 5",

@@ -42,7 +42,7 @@ returns-2 c =
     ap₂ (λ (v : Verdict) (m : ℕ). answer v m) t n ∙ length-accepted s (a .stream) (accepted s (w .read .result) (w .read .ensures) t)
   where
     answer : Verdict → ℕ → StreamLength
-    answer v m = record { verdict = v; length = m }
+    answer v m = record { verdict = v; length = record { 0 = m } }
 
 pub length-spec : {M : Type 1} → statement M
 length-spec =

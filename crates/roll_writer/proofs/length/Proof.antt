@@ -1,0 +1,42 @@
+-- `roll_writer::length` meets its contract: the image's refusal, or the size of the roll of its sections. Assumes nothing.
+use Prim.Native.Nat.{ℕ}
+use mathlib.Core.Path.{sym, ap₂, _∙_}
+use mathlib.Core.List.{List}
+use borrow.Author.Needs.{needs}
+use denote.Ref.{now}
+use Rattle.eif.specs.declared.Verdict.{Verdict}
+use Rattle.roll_writer.proofs.Reading.{verdict-is, accepted, length-is, bounded}
+use Rattle.roll_writer.proofs.Answers.{written, length-refused, length-accepted}
+use Rattle.roll_writer.proofs.length.Statement.{statement}
+use Rattle.roll_writer.proofs.length.Tie as tie
+
+returns : tie.Need-returns
+returns c =
+    let w = c .before .before .before in
+    let s = now (w .before .before .args .image) in
+    let t = c .enum-told2 .given in
+    rw (t .1) (length-refused s (t .0 .0) (sym (verdict-is s (w .read .result) (w .read .ensures)) ∙ t .1))
+
+roll-size-requires : tie.Need-roll-size-requires
+roll-size-requires c κs =
+    let w = c .before .before .before in
+    bounded (now (w .before .before .args .image)) (w .read .result) (w .read .ensures) (c .enum-told .given .1)
+
+returns-2 : tie.Need-returns-2
+returns-2 c =
+    let w = c .before .before .before .before in
+    let s = now (w .before .before .args .image) in
+    let t = c .before .enum-told .given .1 in
+    ap₂ (λ (v : Verdict) (m : ℕ). written v m) t (c .roll-size .ensures ∙ length-is s (w .read .result) (w .read .ensures) t)
+    ∙ length-accepted s (accepted s (w .read .result) (w .read .ensures) t)
+
+pub length-spec : {M : Type 1} → statement M
+length-spec =
+    tie.close
+    (tie.spec
+    (λ c κs. search needs)
+    (λ c. search needs)
+    (λ c. search needs)
+    returns
+    roll-size-requires
+    returns-2)
