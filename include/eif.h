@@ -1,32 +1,56 @@
+/* SPDX-License-Identifier: Apache-2.0 */
 /*
  * Reader, writer and boot rolls of enclave image files (EIF).
  *
- * The C interface to a static library, libeif_c.a, whose every function is proved to meet
- * document 01. It links into x86-64 programs.
+ * The C interface to a static library, libeif_c.a, whose every function is proved to meet the rules
+ * of docs/FORMAT.md, which is cited below by section. It links into x86-64 programs. Of other
+ * libraries it needs memcpy and memset alone.
  *
  * Every function takes any bytes and any numbers, returns, and keeps nothing between calls. Calls
- * from several threads do not disturb each other.
+ * from several threads do not disturb each other. A call takes at most EIF_STACK_KIB of stack and
+ * no heap.
  *
  * What a caller owes is what C cannot say in a type:
  *   - a pointer and its length describe bytes that stay as they are during the call, but for those
- *     that the call itself writes;
- *   - a pointer is never null, also where its length is 0 (then it may point anywhere);
+ *     that the call itself writes. Where the length is 0, any pointer will do, null too;
  *   - the output buffer overlaps no input.
  *
  * Each answer begins with a number: 0 where the call is accepted, and otherwise the first of the
- * numbers below that applies, in document 01's order. Beside a refusal
+ * numbers below that applies, in the order that FORMAT.md gives for the call. Beside a refusal
  *   - no byte of the output buffer has changed;
  *   - index is the index of the section or record for 6 to 11, 16 and 17, and 0 for the others;
- *   - all else in the answer is 0, but first_ramdisk, which is 32 for "no ramdisk".
+ *   - all else in the answer is 0, but first_ramdisk, which is EIF_NO_RAMDISK.
+ *
+ * Answers have no padding, and their reserved fields are 0: equal answers are equal by memcmp.
+ *
+ * Each stream or roll call on an image reads the whole image again, checksum included: copy with a
+ * large buffer rather than often.
  */
 #ifndef EIF_H
 #define EIF_H
+
+#if !defined(__x86_64__) && !defined(_M_X64)
+#error "libeif_c.a is for x86-64"
+#endif
 
 #include <stddef.h>
 #include <stdint.h>
 
 #ifdef __cplusplus
 extern "C" {
+#endif
+
+/* The version of this header and of its archive. */
+#define EIF_VERSION_MAJOR 0
+#define EIF_VERSION_MINOR 1
+#define EIF_VERSION_PATCH 0
+#define EIF_VERSION "0.1.0"
+
+/* An answer that is not looked at is a mistake, and a compiler that can says so. */
+#if defined(__GNUC__) || defined(__clang__)
+#define EIF_MUST_USE __attribute__((warn_unused_result))
+#else
+#define EIF_MUST_USE
 #endif
 
 /* The longest image in bytes. A buffer of this length takes any image, roll or stream. */
@@ -37,54 +61,73 @@ extern "C" {
 #define EIF_HEADER_LENGTH 548
 #define EIF_SECTION_HEADER_LENGTH 12
 
+/* Length of a roll record's head, which stands before its data. A roll has a head and the data for
+ * each section of type 1, 2 or 3, and one head more, its end record. */
+#define EIF_RECORD_HEAD_LENGTH 10
+
 /* The most sections of an image, and the most records of a roll beside its end record. */
 #define EIF_MAX_SECTIONS 32
 
-/* Answer numbers. */
+/* What first_ramdisk is where there is no ramdisk, and beside a refusal. */
+#define EIF_NO_RAMDISK 32
+
+/* The most stack that a call takes, in KiB (1,024 bytes): measured, not proved. */
+#define EIF_STACK_KIB 12
+
+/* Answer numbers (FORMAT.md, Answer numbers). eif_meaning gives their words. */
 enum eif_number {
-    /* The call is accepted. */
     EIF_ACCEPTED = 0,
-    /* Image longer than 16,777,216 bytes; also of the image that a plan or a roll stands for. */
-    EIF_IMAGE_TOO_LONG = 1,
-    /* Image shorter than 548 bytes. */
+    EIF_IMAGE_TOO_LONG = 1, /* also of the image that a plan or a roll stands for */
     EIF_IMAGE_TOO_SHORT = 2,
-    /* Wrong magic: the first four bytes are not 2e 65 69 66. */
     EIF_WRONG_MAGIC = 3,
-    /* Version not 2, 3 or 4. */
     EIF_WRONG_VERSION = 4,
-    /* Number of sections not 2 to 32, or a roll with a 33rd record. */
-    EIF_WRONG_COUNT = 5,
-    /* Section starts before the end of the one before it (548 for the first). */
+    EIF_WRONG_COUNT = 5, /* also of a roll with a 33rd record */
     EIF_STARTS_EARLY = 6,
-    /* Offset + 12 + size is more than the file length. */
     EIF_ENDS_LATE = 7,
-    /* Size in the section header differs from the table. */
     EIF_SIZES_DIFFER = 8,
-    /* Type not allowed in this version. */
     EIF_TYPE_NOT_ALLOWED = 9,
-    /* Ramdisk with no kernel earlier in the file. */
     EIF_RAMDISK_BEFORE_KERNEL = 10,
-    /* Second kernel, command line, signature or metadata. */
     EIF_TYPE_REPEATED = 11,
-    /* Kernel or command line missing, or metadata missing in version 4. */
     EIF_SECTION_MISSING = 12,
-    /* Checksum differs. */
     EIF_CHECKSUM_DIFFERS = 13,
-    /* Output buffer too short. */
     EIF_OUTPUT_TOO_SHORT = 14,
-    /* Data length differs from the plan's sum of lengths. */
     EIF_DATA_LENGTH_DIFFERS = 15,
-    /* Roll ends inside a record, or before its end record. */
     EIF_RECORD_CUT = 16,
-    /* Roll record of type above 3, or type 0 with a length not 0. */
     EIF_RECORD_TYPE_WRONG = 17,
-    /* Bytes after the end record. */
     EIF_BYTES_AFTER_END = 18,
-    /* Stream position past the stream's end. */
     EIF_PAST_STREAM_END = 19
 };
 
-/* Section types. */
+/* What an answer number means, in words. */
+static inline const char *eif_meaning(uint8_t number) {
+    switch (number) {
+    case EIF_ACCEPTED: return "accepted";
+    case EIF_IMAGE_TOO_LONG: return "image longer than 16,777,216 bytes";
+    case EIF_IMAGE_TOO_SHORT: return "image shorter than 548 bytes";
+    case EIF_WRONG_MAGIC: return "wrong magic";
+    case EIF_WRONG_VERSION: return "version not 2, 3 or 4";
+    case EIF_WRONG_COUNT: return "number of sections not 2 to 32";
+    case EIF_STARTS_EARLY:
+        return "section starts before the end of the one before it (548 for the first)";
+    case EIF_ENDS_LATE: return "offset + 12 + size is more than the file length";
+    case EIF_SIZES_DIFFER: return "size in the section header differs from the table";
+    case EIF_TYPE_NOT_ALLOWED: return "type not allowed in this version";
+    case EIF_RAMDISK_BEFORE_KERNEL: return "ramdisk with no kernel earlier in the file";
+    case EIF_TYPE_REPEATED: return "second kernel, command line, signature or metadata";
+    case EIF_SECTION_MISSING:
+        return "kernel or command line missing, or metadata missing in version 4";
+    case EIF_CHECKSUM_DIFFERS: return "checksum differs";
+    case EIF_OUTPUT_TOO_SHORT: return "output buffer too short";
+    case EIF_DATA_LENGTH_DIFFERS: return "data length differs from the plan's sum of lengths";
+    case EIF_RECORD_CUT: return "roll ends inside a record, or before its end record";
+    case EIF_RECORD_TYPE_WRONG: return "roll record of type above 3, or type 0 with a length not 0";
+    case EIF_BYTES_AFTER_END: return "bytes after the end record";
+    case EIF_PAST_STREAM_END: return "stream position past the stream's end";
+    default: return "unknown number";
+    }
+}
+
+/* Section types (FORMAT.md, Sections). */
 enum eif_section_type {
     EIF_KERNEL = 1,       /* exactly one */
     EIF_COMMAND_LINE = 2, /* exactly one */
@@ -92,6 +135,18 @@ enum eif_section_type {
     EIF_SIGNATURE = 4,    /* at most one, from version 3 */
     EIF_METADATA = 5      /* exactly one in version 4, none before */
 };
+
+/* The name of a section type. */
+static inline const char *eif_section_name(uint16_t type) {
+    switch (type) {
+    case EIF_KERNEL: return "kernel";
+    case EIF_COMMAND_LINE: return "command line";
+    case EIF_RAMDISK: return "ramdisk";
+    case EIF_SIGNATURE: return "signature";
+    case EIF_METADATA: return "metadata";
+    default: return "unknown type";
+    }
+}
 
 /* Numbers that must not be mixed up, each a struct of its own, so that a compiler refuses one in
  * the place of another. */
@@ -120,6 +175,7 @@ typedef struct eif_data_length {
 typedef struct eif_section {
     uint16_t type;
     uint16_t flags;
+    uint32_t reserved;
     eif_file_position position; /* of the data; the section's header stands in the 12 bytes before */
     eif_data_length length;
 } eif_section;
@@ -144,21 +200,25 @@ typedef struct eif_plan {
 /* What an image holds. */
 typedef struct eif_reading {
     uint8_t number; /* EIF_ACCEPTED, or 1 to 13 */
-    uint64_t index;
+    uint8_t reserved;
     uint16_t version;
     uint16_t flags;
+    uint16_t count;
+    uint64_t index;
     uint64_t default_mem;
     uint64_t default_cpus;
-    uint16_t count;
     uint32_t ramdisk_mark;  /* bit i is one exactly when section i is a ramdisk */
     uint32_t ramdisk_count; /* the number of ones in the mark */
-    uint32_t first_ramdisk; /* the lowest one in the mark, 32 where there is none */
+    uint32_t first_ramdisk; /* the lowest one in the mark; EIF_NO_RAMDISK where there is none, so also
+                             * beside a refusal, where the mark is 0 */
+    uint32_t reserved_after;
     eif_section sections[EIF_MAX_SECTIONS]; /* in file order, then zeros */
 } eif_reading;
 
 /* A length, or a refusal. */
 typedef struct eif_answer {
     uint8_t number;
+    uint8_t reserved[7];
     uint64_t index;
     uint64_t length; /* 0 beside a refusal */
 } eif_answer;
@@ -166,6 +226,8 @@ typedef struct eif_answer {
 /* A record of an accepted roll. */
 typedef struct eif_roll_record {
     uint16_t type;
+    uint16_t reserved;
+    uint32_t reserved_after;
     eif_roll_position position; /* of the data */
     eif_data_length length;
 } eif_roll_record;
@@ -173,46 +235,53 @@ typedef struct eif_roll_record {
 /* What a roll lists. The end record is not listed. */
 typedef struct eif_roll_reading {
     uint8_t number; /* EIF_ACCEPTED, or one of 1, 5, 10 to 12 and 16 to 18 */
+    uint8_t reserved[7];
     uint64_t index;
     uint64_t count;
     eif_roll_record records[EIF_MAX_SECTIONS]; /* in order, then zeros */
 } eif_roll_reading;
 
-/* Reads an image. Refusals: 1 to 13. */
-eif_reading eif_read(const uint8_t *image, size_t image_length);
+/* Reads an image (FORMAT.md, Reading an image). Refusals: 1 to 13. */
+EIF_MUST_USE eif_reading eif_read(const uint8_t *image, size_t image_length);
 
-/* Writes the plain image of a plan over the start of out and answers the image's length. data is the
- * sections' data joined in the plan's order. Bytes of out past the image stay.
- * Refusals, in this order: 4, 5, 9 to 11 for each section, 12, 1, 15, 14. */
-eif_answer eif_write(eif_plan plan, const uint8_t *data, size_t data_length, uint8_t *out,
-                     size_t out_length);
+/* The length of a plan's image. Refusals, in this order: 4, 5, 9 to 11 for each section, 12, 1. */
+EIF_MUST_USE eif_answer eif_plan_length(eif_plan plan);
 
-/* The number of bytes of a measured stream. Refusals: the image's own.
+/* Writes the plain image of a plan over the start of out and answers the image's length (FORMAT.md,
+ * Writing an image). data is the sections' data joined in the plan's order. Bytes of out past the
+ * image stay. Refusals: those of eif_plan_length, then 15, 14. */
+EIF_MUST_USE eif_answer eif_write(eif_plan plan, const uint8_t *data, size_t data_length,
+                                  uint8_t *out, size_t out_length);
+
+/* The number of bytes of a measured stream (FORMAT.md, Measured streams). Refusals: the image's own.
  *   whole  kernel, command line, then every ramdisk in file order
  *   boot   kernel, command line, and the first ramdisk if there is one
  *   app    the ramdisks but the first, in file order */
-eif_answer eif_whole_length(const uint8_t *image, size_t image_length);
-eif_answer eif_boot_length(const uint8_t *image, size_t image_length);
-eif_answer eif_app_length(const uint8_t *image, size_t image_length);
+EIF_MUST_USE eif_answer eif_whole_length(const uint8_t *image, size_t image_length);
+EIF_MUST_USE eif_answer eif_boot_length(const uint8_t *image, size_t image_length);
+EIF_MUST_USE eif_answer eif_app_length(const uint8_t *image, size_t image_length);
 
 /* Copies a measured stream, from stream position from on, to the start of out, and answers how many
  * bytes were copied: as many as both out and the rest of the stream have. Later bytes of out stay.
  * Refusals: the image's own, then 19. */
-eif_answer eif_copy_whole(const uint8_t *image, size_t image_length, eif_stream_position from,
-                          uint8_t *out, size_t out_length);
-eif_answer eif_copy_boot(const uint8_t *image, size_t image_length, eif_stream_position from,
-                         uint8_t *out, size_t out_length);
-eif_answer eif_copy_app(const uint8_t *image, size_t image_length, eif_stream_position from,
-                        uint8_t *out, size_t out_length);
+EIF_MUST_USE eif_answer eif_copy_whole(const uint8_t *image, size_t image_length,
+                                       eif_stream_position from, uint8_t *out, size_t out_length);
+EIF_MUST_USE eif_answer eif_copy_boot(const uint8_t *image, size_t image_length,
+                                      eif_stream_position from, uint8_t *out, size_t out_length);
+EIF_MUST_USE eif_answer eif_copy_app(const uint8_t *image, size_t image_length,
+                                     eif_stream_position from, uint8_t *out, size_t out_length);
 
-/* Writes the boot roll of an image over the start of out and answers the roll's length, which is less
- * than the image's. Bytes of out past the roll stay. Refusals: the image's own, then 14. */
-eif_answer eif_roll_write(const uint8_t *image, size_t image_length, uint8_t *out,
-                          size_t out_length);
+/* The length of an image's boot roll, which is less than the image's. Refusals: the image's own. */
+EIF_MUST_USE eif_answer eif_roll_length(const uint8_t *image, size_t image_length);
+
+/* Writes the boot roll of an image over the start of out and answers the roll's length (FORMAT.md, The
+ * boot roll). Bytes of out past the roll stay. Refusals: the image's own, then 14. */
+EIF_MUST_USE eif_answer eif_roll_write(const uint8_t *image, size_t image_length, uint8_t *out,
+                                       size_t out_length);
 
 /* Reads a boot roll, which is accepted exactly when it is the roll of some accepted image.
- * Refusals: for each record 16 (header cut), 17, 5, 16 (data cut), 10, 11; then 18, 12, 1. */
-eif_roll_reading eif_roll_read(const uint8_t *roll, size_t roll_length);
+ * Refusals: for each record 16 (head cut), 17, 5, 16 (data cut), 10, 11; then 18, 12, 1. */
+EIF_MUST_USE eif_roll_reading eif_roll_read(const uint8_t *roll, size_t roll_length);
 
 #ifdef __cplusplus
 }

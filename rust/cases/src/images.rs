@@ -1,4 +1,4 @@
-//! Document 01's images, with their answers.
+//! Images, with their answers.
 
 use crate::layout::*;
 
@@ -67,8 +67,8 @@ fn of_types(version: u16, types: &[u16]) -> Vec<u8> {
     Layout::new(version, sections.collect()).image()
 }
 
-/// The lines of "Run by a program" that read one small image, then those rules of the document that a
-/// reader easily gets wrong.
+/// Each rule of FORMAT.md, "Reading an image", at its boundary, and those that a reader easily gets
+/// wrong.
 pub fn image_cases() -> Vec<ImageCase> {
     let mut cases = Vec::new();
     let mut case = |name, image, number, index| {

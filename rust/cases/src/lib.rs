@@ -1,4 +1,4 @@
-//! Document 01's examples as data, for the tests of the library and of the twin.
+//! The examples of docs/FORMAT.md as data, for the tests of the library and of the twin.
 //!
 //! What builds the examples judges nothing and has a checksum of its own, bit by bit, so a test
 //! never trusts what it tests.

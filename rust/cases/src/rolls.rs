@@ -1,4 +1,4 @@
-//! Document 01's roll and its neighbours, R1 to R11.
+//! The worked roll of FORMAT.md and its neighbours, R1 to R11.
 
 /// Length of a record's header.
 pub const RECORD_HEADER: usize = 10;
@@ -17,7 +17,7 @@ pub type Row = (u16, u64, u64);
 
 /// A roll and what reading it answers.
 pub struct RollCase {
-    /// The document's name of the case.
+    /// FORMAT.md's name of the case.
     pub name: &'static str,
     /// Its bytes.
     pub roll: Vec<u8>,

@@ -2,10 +2,7 @@
 
 use crate::{Call, Output, PlanInput, Rng, Tally};
 use eif::raw::{self, Answer, Reading, RollReading};
-use eif::{
-    DataLength, FilePosition, Refusal, RollPosition, RollRecord, Section, SectionType, Stream,
-    StreamPosition,
-};
+use eif::{DataLength, FilePosition, Refusal, RollPosition, SectionType, Stream, StreamPosition};
 use eif_twin as twin;
 use std::fmt::{self, Debug, Display};
 
@@ -52,14 +49,13 @@ fn twin_pair(refusal: twin::Refusal) -> (u8, u64) {
 fn twin_answer(answer: Result<u64, twin::Refusal>) -> Answer {
     match answer.map_err(twin_pair) {
         Ok(length) => Answer {
-            number: 0,
-            index: 0,
             length,
+            ..Answer::default()
         },
         Err((number, index)) => Answer {
             number,
             index,
-            length: 0,
+            ..Answer::default()
         },
     }
 }
@@ -76,18 +72,17 @@ fn twin_reading(answer: &Result<twin::Reading, twin::Refusal>) -> Reading {
             }
         }
     };
-    let mut sections = [Section::default(); 32];
+    let mut sections = [raw::Section::default(); 32];
     for (to, from) in sections.iter_mut().zip(&reading.sections) {
-        *to = Section {
+        *to = raw::Section {
             section_type: SectionType(from.kind),
             flags: from.flags,
             position: FilePosition(from.position as u64),
             length: DataLength(from.length as u64),
+            ..raw::Section::default()
         };
     }
     Reading {
-        number: 0,
-        index: 0,
         version: reading.version,
         flags: reading.flags,
         default_mem: reading.default_mem,
@@ -97,6 +92,7 @@ fn twin_reading(answer: &Result<twin::Reading, twin::Refusal>) -> Reading {
         ramdisk_count: reading.ramdisk_count() as u32,
         first_ramdisk: reading.first_ramdisk().unwrap_or(32) as u32,
         sections,
+        ..Reading::default()
     }
 }
 
@@ -111,19 +107,19 @@ fn twin_roll_reading(answer: &Result<Vec<twin::Record>, twin::Refusal>) -> RollR
             }
         }
     };
-    let mut records = [RollRecord::default(); 32];
+    let mut records = [raw::RollRecord::default(); 32];
     for (to, from) in records.iter_mut().zip(list) {
-        *to = RollRecord {
+        *to = raw::RollRecord {
             section_type: SectionType(from.kind),
             position: RollPosition(from.position as u64),
             length: DataLength(from.length as u64),
+            ..raw::RollRecord::default()
         };
     }
     RollReading {
-        number: 0,
-        index: 0,
         count: list.len() as u64,
         records,
+        ..RollReading::default()
     }
 }
 
@@ -159,6 +155,24 @@ fn compare_output(
     answer.number
 }
 
+/// Holds a length to the twin's, by the C interface and the Rust interface. Answers the answer number.
+fn compare_length(
+    input: &Input,
+    what: &str,
+    c: Answer,
+    rust: Result<usize, Refusal>,
+    twin: Result<usize, twin::Refusal>,
+) -> u8 {
+    same(
+        input,
+        what,
+        c,
+        twin_answer(twin.map(|length| length as u64)),
+    );
+    same(input, what, rust.map_err(pair), twin.map_err(twin_pair));
+    c.number
+}
+
 /// Reads an image, takes its streams and writes its roll.
 pub fn compare_image(rng: &mut Rng, ordinal: u64, image: &[u8], tally: &mut Tally) {
     let input = &Input {
@@ -178,17 +192,22 @@ pub fn compare_image(rng: &mut Rng, ordinal: u64, image: &[u8], tally: &mut Tall
         compare_stream(rng, input, stream, tally);
     }
 
-    let roll_length = match &twin_answer {
-        Ok(reading) => {
-            let listed = reading.sections.iter().filter(|s| s.kind <= 3);
-            listed.map(|s| 10 + s.length).sum::<usize>() + 10
-        }
-        Err(_) => 60,
-    };
+    let roll_length = twin::roll_length(image);
+    let number = compare_length(
+        input,
+        "roll length",
+        raw::roll_length(image),
+        eif::roll_length(image),
+        roll_length,
+    );
+    tally.add(Call::RollLength, number);
     let number = compare_output(
         input,
         "roll write",
-        (rng.output_length(roll_length), rng.next() as u8),
+        (
+            rng.output_length(roll_length.unwrap_or(60)),
+            rng.next() as u8,
+        ),
         |out| raw::roll_write(image, out),
         |out| eif::write_roll(image, out),
         |out| twin::write_roll(image, out),
@@ -228,15 +247,14 @@ fn compare_stream(rng: &mut Rng, input: &Input, stream: Stream, tally: &mut Tall
         Stream::App => (twin::Stream::App, raw::app_length(image)),
     };
     let length = twin::stream_length(image, twin_stream);
-    same(input, "stream length", answer, twin_answer(length));
-    let view = eif::stream_length(image, stream);
-    same(
+    let number = compare_length(
         input,
         "stream length",
-        view.map(|length| length.0).map_err(pair),
-        length.map_err(twin_pair),
+        answer,
+        eif::stream_length(image, stream).map(|length| length.0 as usize),
+        length.map(|length| length as usize),
     );
-    tally.add(Call::Length, answer.number);
+    tally.add(Call::Length, number);
 
     let length = length.unwrap_or(20);
     let from = match rng.below(6) {
@@ -295,6 +313,14 @@ pub fn compare_plan(rng: &mut Rng, ordinal: u64, given: &PlanInput, tally: &mut 
         default_cpus: plan.default_cpus,
         places: places.take(usize::from(plan.count)).copied().collect(),
     };
+    let number = compare_length(
+        input,
+        "plan length",
+        raw::plan_length(plan),
+        eif::plan_length(&rust_plan),
+        twin::plan_length(&twin_plan),
+    );
+    tally.add(Call::PlanLength, number);
     let number = compare_output(
         input,
         "write",

@@ -1,7 +1,7 @@
 //! Inputs for the tests of the proved library, and what holds its answers to the twin's.
 //!
 //! `tests/differential.rs` compares the two on generated inputs, `tests/demands.rs` tries the demands
-//! themselves, and `tests/document.rs` runs document 01's examples.
+//! themselves, and `tests/format.rs` runs the examples of docs/FORMAT.md.
 #![forbid(unsafe_code)]
 #![deny(missing_docs)]
 

@@ -8,12 +8,16 @@ use std::ops::AddAssign;
 pub enum Call {
     /// Reading an image.
     Read,
+    /// The length of a plan's image.
+    PlanLength,
     /// Writing an image.
     Write,
     /// The length of a stream.
     Length,
     /// Copying a stream.
     Copy,
+    /// The length of an image's roll.
+    RollLength,
     /// Writing a roll.
     RollWrite,
     /// Reading a roll.
@@ -22,20 +26,23 @@ pub enum Call {
 
 impl Call {
     /// All of them.
-    pub const ALL: [Call; 6] = [
+    pub const ALL: [Call; 8] = [
         Call::Read,
+        Call::PlanLength,
         Call::Write,
         Call::Length,
         Call::Copy,
+        Call::RollLength,
         Call::RollWrite,
         Call::RollRead,
     ];
 
-    /// The numbers that document 01 lets this call answer.
+    /// The numbers that FORMAT.md lets this call answer.
     pub fn numbers(self) -> Vec<u8> {
         let image = 0..=13;
         match self {
-            Call::Read | Call::Length => image.collect(),
+            Call::Read | Call::Length | Call::RollLength => image.collect(),
+            Call::PlanLength => vec![0, 1, 4, 5, 9, 10, 11, 12],
             Call::Write => vec![0, 1, 4, 5, 9, 10, 11, 12, 14, 15],
             Call::Copy => image.chain([19]).collect(),
             Call::RollWrite => image.chain([14]).collect(),
@@ -47,7 +54,7 @@ impl Call {
 /// A count for each call and number.
 #[derive(Clone, Debug, Default)]
 pub struct Tally {
-    counts: [[u64; 20]; 6],
+    counts: [[u64; 20]; 8],
     inputs: u64,
 }
 

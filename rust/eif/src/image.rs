@@ -1,9 +1,11 @@
 //! Reading an image.
 
-use crate::{raw, DataLength, FilePosition, Place, Plan, Refusal, SectionType};
+use crate::{
+    raw, Architecture, DataLength, FilePosition, Place, Plan, Refusal, SectionType, MAX_SECTIONS,
+    SECTION_HEADER_LENGTH,
+};
 
 /// A section of an accepted image.
-#[repr(C)]
 #[derive(Clone, Copy, Debug, Default, PartialEq, Eq)]
 pub struct Section {
     /// Its type.
@@ -16,14 +18,22 @@ pub struct Section {
     pub length: DataLength,
 }
 
+impl Section {
+    /// Where its header begins in the file, which is what the image's table says of it.
+    pub fn offset(&self) -> FilePosition {
+        FilePosition(self.position.0.saturating_sub(SECTION_HEADER_LENGTH as u64))
+    }
+}
+
 /// An accepted image: its bytes, borrowed, and what they hold.
 #[derive(Clone, Debug)]
 pub struct Image<'a> {
     bytes: &'a [u8],
     reading: raw::Reading,
+    sections: [Section; MAX_SECTIONS],
 }
 
-/// Reads an image.
+/// Reads an image (FORMAT.md, Reading an image).
 ///
 /// ```
 /// // A zero-filled file of 548 bytes has the wrong magic.
@@ -32,13 +42,14 @@ pub struct Image<'a> {
 ///
 /// # Errors
 ///
-/// The first of 1 to 13 that applies, in document 01's order of reading.
+/// The first of 1 to 13 that applies, in the order of reading.
 pub fn read(image: &[u8]) -> Result<Image<'_>, Refusal> {
     let reading = raw::read(image);
     Refusal::check(reading.number, reading.index)?;
     Ok(Image {
         bytes: image,
         reading,
+        sections: reading.sections.map(Section::from),
     })
 }
 
@@ -58,6 +69,11 @@ impl<'a> Image<'a> {
         self.reading.flags
     }
 
+    /// The processor that the flags tell.
+    pub fn architecture(&self) -> Architecture {
+        Architecture::of_flags(self.flags())
+    }
+
     /// The header's default_mem, carried and not judged.
     pub fn default_mem(&self) -> u64 {
         self.reading.default_mem
@@ -70,16 +86,56 @@ impl<'a> Image<'a> {
 
     /// The sections in file order, 2 to 32 of them.
     pub fn sections(&self) -> &[Section] {
-        &self.reading.sections[..usize::from(self.reading.count)]
+        &self.sections[..usize::from(self.reading.count)]
     }
 
     /// The data of section `index`.
     ///
     /// # Panics
     ///
-    /// Where there is no such section.
+    /// Where there is no such section; [`get`](Image::get) does not.
     pub fn section_data(&self, index: usize) -> &'a [u8] {
-        let section = self.sections()[index];
+        self.data_of(self.sections()[index])
+    }
+
+    /// Section `index` and its data, if there is such a section.
+    pub fn get(&self, index: usize) -> Option<(Section, &'a [u8])> {
+        let section = *self.sections().get(index)?;
+        Some((section, self.data_of(section)))
+    }
+
+    /// The sections with their data, in file order.
+    pub fn iter(&self) -> impl DoubleEndedIterator<Item = (Section, &'a [u8])> + '_ {
+        let sections = self.sections().iter();
+        sections.map(|&section| (section, self.data_of(section)))
+    }
+
+    /// The data of the sections of one type, in file order.
+    pub fn data_of_type(&self, wanted: SectionType) -> impl Iterator<Item = &'a [u8]> + '_ {
+        let wanted = move |(section, _): &(Section, _)| section.section_type == wanted;
+        self.iter().filter(wanted).map(|(_, data)| data)
+    }
+
+    /// The kernel's data. Every accepted image has one kernel.
+    pub fn kernel(&self) -> &'a [u8] {
+        self.only(SectionType::KERNEL)
+    }
+
+    /// The command line's data. Every accepted image has one command line.
+    pub fn command_line(&self) -> &'a [u8] {
+        self.only(SectionType::COMMAND_LINE)
+    }
+
+    /// The data of the ramdisks, in file order.
+    pub fn ramdisks(&self) -> impl Iterator<Item = &'a [u8]> + '_ {
+        self.data_of_type(SectionType::RAMDISK)
+    }
+
+    fn only(&self, section_type: SectionType) -> &'a [u8] {
+        self.data_of_type(section_type).next().unwrap_or_default()
+    }
+
+    fn data_of(&self, section: Section) -> &'a [u8] {
         &self.bytes[section.position.0 as usize..][..section.length.0 as usize]
     }
 
@@ -95,8 +151,8 @@ impl<'a> Image<'a> {
 
     /// The index of the first ramdisk.
     pub fn first_ramdisk(&self) -> Option<usize> {
-        let first = self.reading.first_ramdisk as usize;
-        (first < self.sections().len()).then_some(first)
+        let first = self.reading.first_ramdisk;
+        (first != raw::NO_RAMDISK).then_some(first as usize)
     }
 
     /// The plan with this image's fields and sections. Where the image is plain, [`write`](crate::write)
@@ -118,8 +174,7 @@ impl<'a> Image<'a> {
 
     /// The data of all sections, joined in file order.
     pub fn joined_data(&self) -> Vec<u8> {
-        let sections = 0..self.sections().len();
-        let data: Vec<&[u8]> = sections.map(|index| self.section_data(index)).collect();
+        let data: Vec<&[u8]> = self.iter().map(|(_, data)| data).collect();
         data.concat()
     }
 }

@@ -1,23 +1,23 @@
 //! Reader, writer and boot rolls of enclave image files (EIF).
 //!
 //! This crate is the safe Rust interface to a static library whose every function is proved to meet
-//! document 01. Nothing is judged here: bytes and numbers go to the library as they are, and its
-//! answer comes back as a [`Result`].
+//! the rules of docs/FORMAT.md, which is cited by section. Nothing is judged here: bytes and numbers go
+//! to the library as they are, and its answer comes back as a [`Result`].
 //!
 //! | call | what it does |
 //! |---|---|
 //! | [`read`] | accepts or refuses an image and lists its sections |
-//! | [`write()`] | writes the plain image of a [`Plan`] |
-//! | [`stream_length`], [`copy_stream`] | the three measured streams |
-//! | [`write_roll`], [`read_roll`] | the boot roll |
+//! | [`write()`], [`plan_length`], [`write_to_vec`] | the plain image of a [`Plan`] |
+//! | [`copy_stream`], [`stream_length`], [`stream_to_vec`] | the three measured streams |
+//! | [`write_roll`], [`roll_length`], [`roll_to_vec`], [`read_roll`] | the boot roll |
 //!
-//! Every call takes any bytes and any numbers. A [`Refusal`] has document 01's first number that
-//! applies, and then no byte of an output buffer has changed. An accepted call changes only the bytes
-//! that it reports.
+//! Every call takes any bytes and any numbers. A [`Refusal`] has the first answer number that applies,
+//! in the order that FORMAT.md gives for the call, and then no byte of an output buffer has changed. An
+//! accepted call changes only the bytes that it reports.
 //!
 //! # Example
 //!
-//! Document 01's worked example: kernel `4b`, command line `61` and one empty ramdisk.
+//! The worked example of FORMAT.md: kernel `4b`, command line `61` and one empty ramdisk.
 //!
 //! ```
 //! use eif::{DataLength, Place, Plan, SectionType, Stream, StreamPosition};
@@ -37,8 +37,12 @@
 //! let image = eif::read(&bytes)?;
 //! assert_eq!(image.version(), 2);
 //! assert_eq!(image.sections().len(), 3);
-//! assert_eq!(image.section_data(1), [0x61]);
-//! assert_eq!(image.first_ramdisk(), Some(2));
+//! assert_eq!(image.kernel(), [0x4b]);
+//! assert_eq!(image.command_line(), [0x61]);
+//! assert_eq!(image.ramdisks().collect::<Vec<_>>(), [[]]);
+//! for (section, data) in image.iter() {
+//!     assert_eq!(section.length.0, data.len() as u64);
+//! }
 //!
 //! let mut roll = [0; 42];
 //! assert_eq!(eif::write_roll(&bytes, &mut roll)?, 42);
@@ -74,11 +78,13 @@ mod roll;
 mod stream;
 
 pub use image::{read, Image, Section};
-pub use numbers::{DataLength, FilePosition, RollPosition, SectionType, StreamPosition};
-pub use plan::{write, Place, Plan};
+pub use numbers::{
+    Architecture, DataLength, FilePosition, RollPosition, SectionType, StreamPosition, UnknownName,
+};
+pub use plan::{plan_length, write, write_to_vec, Place, Plan};
 pub use refusal::{Reason, Refusal};
-pub use roll::{read_roll, write_roll, Roll, RollRecord};
-pub use stream::{copy_stream, stream_length, Stream};
+pub use roll::{read_roll, roll_length, roll_to_vec, write_roll, Roll, RollRecord};
+pub use stream::{copy_stream, stream_length, stream_to_vec, Stream};
 
 /// The longest image, in bytes. A buffer of this length takes any image, roll or stream.
 pub const MAX_IMAGE_LENGTH: usize = 16_777_216;
@@ -86,3 +92,12 @@ pub const MAX_IMAGE_LENGTH: usize = 16_777_216;
 /// The most sections that an image can have, and the most records that a roll can have beside its
 /// end record.
 pub const MAX_SECTIONS: usize = 32;
+
+/// The length of an image's header.
+pub const HEADER_LENGTH: usize = 548;
+
+/// The length of a section's header, which stands before its data.
+pub const SECTION_HEADER_LENGTH: usize = 12;
+
+/// The length of a roll record's head, which stands before its data.
+pub const RECORD_HEAD_LENGTH: usize = 10;

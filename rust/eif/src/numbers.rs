@@ -53,17 +53,105 @@ impl SectionType {
     pub const SIGNATURE: SectionType = SectionType(4);
     /// Exactly one in version 4, none before.
     pub const METADATA: SectionType = SectionType(5);
+
+    /// The types that have a name, in the order of their numbers.
+    pub const ALL: [SectionType; 5] = [
+        SectionType::KERNEL,
+        SectionType::COMMAND_LINE,
+        SectionType::RAMDISK,
+        SectionType::SIGNATURE,
+        SectionType::METADATA,
+    ];
+
+    /// The type's name, if it is one of [`ALL`](SectionType::ALL).
+    pub fn name(self) -> Option<&'static str> {
+        match self {
+            SectionType::KERNEL => Some("kernel"),
+            SectionType::COMMAND_LINE => Some("command line"),
+            SectionType::RAMDISK => Some("ramdisk"),
+            SectionType::SIGNATURE => Some("signature"),
+            SectionType::METADATA => Some("metadata"),
+            _ => None,
+        }
+    }
 }
 
 impl fmt::Display for SectionType {
     fn fmt(&self, f: &mut fmt::Formatter<'_>) -> fmt::Result {
-        match *self {
-            SectionType::KERNEL => f.write_str("kernel"),
-            SectionType::COMMAND_LINE => f.write_str("command line"),
-            SectionType::RAMDISK => f.write_str("ramdisk"),
-            SectionType::SIGNATURE => f.write_str("signature"),
-            SectionType::METADATA => f.write_str("metadata"),
-            SectionType(number) => write!(f, "type {number}"),
+        match self.name() {
+            Some(name) => f.pad(name),
+            None => f.pad(&format!("type {}", self.0)),
         }
     }
 }
+
+/// The processor that an image is for, as the lowest bit of the header's flags tells (FORMAT.md, The
+/// header).
+///
+/// ```
+/// use eif::Architecture;
+///
+/// assert_eq!(Architecture::of_flags(0xfffe), Architecture::X86_64);
+/// assert_eq!(Architecture::of_flags(1), Architecture::Aarch64);
+/// assert_eq!(Architecture::Aarch64.flags(), 1);
+/// assert_eq!("aarch64".parse(), Ok(Architecture::Aarch64));
+/// ```
+#[derive(Clone, Copy, Debug, Default, PartialEq, Eq, Hash)]
+pub enum Architecture {
+    /// Bit 0 is 0.
+    #[default]
+    X86_64,
+    /// Bit 0 is 1.
+    Aarch64,
+}
+
+impl Architecture {
+    /// Both.
+    pub const ALL: [Architecture; 2] = [Architecture::X86_64, Architecture::Aarch64];
+
+    /// The architecture that these flags tell.
+    pub fn of_flags(flags: u16) -> Architecture {
+        Architecture::ALL[usize::from(flags & 1)]
+    }
+
+    /// Flags that tell this architecture, the other bits 0.
+    pub fn flags(self) -> u16 {
+        self as u16
+    }
+
+    /// Its name.
+    pub fn name(self) -> &'static str {
+        match self {
+            Architecture::X86_64 => "x86_64",
+            Architecture::Aarch64 => "aarch64",
+        }
+    }
+}
+
+impl fmt::Display for Architecture {
+    fn fmt(&self, f: &mut fmt::Formatter<'_>) -> fmt::Result {
+        f.pad(self.name())
+    }
+}
+
+/// The names that can be parsed are those of [`Architecture::ALL`].
+impl std::str::FromStr for Architecture {
+    type Err = UnknownName;
+
+    fn from_str(name: &str) -> Result<Self, UnknownName> {
+        let mut known = Architecture::ALL.into_iter();
+        known.find(|known| known.name() == name).ok_or(UnknownName)
+    }
+}
+
+/// A name that stands for no [`Architecture`] or [`Stream`](crate::Stream).
+#[derive(Clone, Copy, Debug, PartialEq, Eq)]
+pub struct UnknownName;
+
+impl fmt::Display for UnknownName {
+    fn fmt(&self, f: &mut fmt::Formatter<'_>) -> fmt::Result {
+        f.pad("unknown name")
+    }
+}
+
+impl std::error::Error for UnknownName {}

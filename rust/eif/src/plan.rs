@@ -58,7 +58,17 @@ impl Plan {
     }
 }
 
-/// Writes the plain image of `plan` over the start of `out` and answers the image's length.
+/// The length of the image of `plan`.
+///
+/// # Errors
+///
+/// The first of 4, 5, 9 to 12 and 1 that applies, in the order of writing.
+pub fn plan_length(plan: &Plan) -> Result<usize, Refusal> {
+    raw::plan_length(plan.to_raw()).accepted_part()
+}
+
+/// Writes the plain image of `plan` over the start of `out` and answers the image's length (FORMAT.md,
+/// Writing an image).
 ///
 /// `data` is the sections' data joined in the plan's order. Bytes of `out` past the image stay.
 ///
@@ -70,8 +80,35 @@ impl Plan {
 ///
 /// # Errors
 ///
-/// The first of 4, 5, 9 to 12, 1, 15 and 14 that applies, in document 01's order of writing. `out` is
-/// then unchanged.
+/// The first of 4, 5, 9 to 12, 1, 15 and 14 that applies, in the order of writing. `out` is then
+/// unchanged.
 pub fn write(plan: &Plan, data: &[u8], out: &mut [u8]) -> Result<usize, Refusal> {
     raw::write(plan.to_raw(), data, out).accepted_part()
+}
+
+/// The plain image of `plan`, with `data` as the sections' data joined in the plan's order.
+///
+/// ```
+/// use eif::{DataLength, Place, Plan, SectionType};
+///
+/// let plan = Plan {
+///     version: 2,
+///     places: vec![
+///         Place::new(SectionType::KERNEL, DataLength(4)),
+///         Place::new(SectionType::COMMAND_LINE, DataLength(5)),
+///     ],
+///     ..Plan::default()
+/// };
+/// let bytes = eif::write_to_vec(&plan, b"kernquiet")?;
+/// assert_eq!(eif::read(&bytes)?.command_line(), b"quiet");
+/// # Ok::<(), eif::Refusal>(())
+/// ```
+///
+/// # Errors
+///
+/// The first of 4, 5, 9 to 12, 1 and 15 that applies, in the order of writing.
+pub fn write_to_vec(plan: &Plan, data: &[u8]) -> Result<Vec<u8>, Refusal> {
+    let mut image = vec![0; plan_length(plan)?];
+    write(plan, data, &mut image)?;
+    Ok(image)
 }

@@ -5,10 +5,28 @@
 //! pointer and length be a slice's and that an output overlap no input, which the types here see to.
 
 use crate::{
-    DataLength, FilePosition, Place, RollPosition, RollRecord, Section, SectionType,
-    StreamPosition, MAX_SECTIONS,
+    DataLength, FilePosition, Place, RollPosition, SectionType, StreamPosition, MAX_SECTIONS,
 };
 use std::mem::{offset_of, size_of};
+
+/// What [`Reading::first_ramdisk`] is where there is no ramdisk, and beside a refusal.
+pub const NO_RAMDISK: u32 = 32;
+
+/// A section of an accepted image.
+#[repr(C)]
+#[derive(Clone, Copy, Debug, Default, PartialEq, Eq)]
+pub struct Section {
+    /// Its type.
+    pub section_type: SectionType,
+    /// Its flags.
+    pub flags: u16,
+    /// Always 0.
+    pub reserved: u32,
+    /// Where its data begin in the file.
+    pub position: FilePosition,
+    /// How many bytes of data it has.
+    pub length: DataLength,
+}
 
 /// What [`read`] answers.
 #[repr(C)]
@@ -16,24 +34,28 @@ use std::mem::{offset_of, size_of};
 pub struct Reading {
     /// The answer number, 0 where the image is accepted.
     pub number: u8,
-    /// The index beside a refusal.
-    pub index: u64,
+    /// Always 0.
+    pub reserved: u8,
     /// The header's version.
     pub version: u16,
     /// The header's flags.
     pub flags: u16,
+    /// How many sections there are.
+    pub count: u16,
+    /// The index beside a refusal.
+    pub index: u64,
     /// The header's default_mem.
     pub default_mem: u64,
     /// The header's default_cpus.
     pub default_cpus: u64,
-    /// How many sections there are.
-    pub count: u16,
     /// Bit i is one exactly when section i is a ramdisk.
     pub ramdisk_mark: u32,
     /// How many sections are ramdisks.
     pub ramdisk_count: u32,
-    /// The index of the first ramdisk, 32 where there is none.
+    /// The index of the first ramdisk, [`NO_RAMDISK`] where there is none, so also beside a refusal.
     pub first_ramdisk: u32,
+    /// Always 0.
+    pub reserved_after: u32,
     /// The sections in file order, then zeros.
     pub sections: [Section; MAX_SECTIONS],
 }
@@ -62,10 +84,28 @@ pub struct Plan {
 pub struct Answer {
     /// The answer number, 0 for acceptance.
     pub number: u8,
+    /// Always 0.
+    pub reserved: [u8; 7],
     /// The index beside a refusal.
     pub index: u64,
     /// The length, 0 beside a refusal.
     pub length: u64,
+}
+
+/// A record of an accepted roll.
+#[repr(C)]
+#[derive(Clone, Copy, Debug, Default, PartialEq, Eq)]
+pub struct RollRecord {
+    /// The section's type.
+    pub section_type: SectionType,
+    /// Always 0.
+    pub reserved: u16,
+    /// Always 0.
+    pub reserved_after: u32,
+    /// Where the data begin in the roll.
+    pub position: RollPosition,
+    /// How many bytes of data there are.
+    pub length: DataLength,
 }
 
 /// What [`roll_read`] answers.
@@ -74,6 +114,8 @@ pub struct Answer {
 pub struct RollReading {
     /// The answer number, 0 where the roll is accepted.
     pub number: u8,
+    /// Always 0.
+    pub reserved: [u8; 7],
     /// The index beside a refusal.
     pub index: u64,
     /// How many records there are, the end record not counted.
@@ -82,25 +124,49 @@ pub struct RollReading {
     pub records: [RollRecord; MAX_SECTIONS],
 }
 
-// The layout that eif.h gives to a C compiler.
+// The layout that eif.h gives to a C compiler. Each size is the sum of the fields' sizes, so an answer
+// has no padding.
 const _: () = {
     assert!(size_of::<SectionType>() == 2);
     assert!(size_of::<FilePosition>() == 8 && size_of::<RollPosition>() == 8);
     assert!(size_of::<DataLength>() == 8 && size_of::<StreamPosition>() == 8);
-    assert!(
-        size_of::<Section>() == 24 && size_of::<Place>() == 16 && size_of::<RollRecord>() == 24
-    );
-    assert!(size_of::<Answer>() == 24);
+    assert!(size_of::<Section>() == 2 + 2 + 4 + 8 + 8);
+    assert!(size_of::<RollRecord>() == 2 + 2 + 4 + 8 + 8);
+    assert!(size_of::<Answer>() == 1 + 7 + 8 + 8);
+    assert!(size_of::<Reading>() == 1 + 1 + 3 * 2 + 3 * 8 + 4 * 4 + MAX_SECTIONS * 24);
+    assert!(offset_of!(Reading, sections) == 48);
+    assert!(size_of::<RollReading>() == 1 + 7 + 8 + 8 + MAX_SECTIONS * 24);
+    assert!(size_of::<Place>() == 16);
     assert!(size_of::<Plan>() == 544 && offset_of!(Plan, places) == 32);
-    assert!(size_of::<Reading>() == 824 && offset_of!(Reading, sections) == 56);
-    assert!(size_of::<RollReading>() == 792 && offset_of!(RollReading, records) == 24);
 };
+
+impl From<Section> for crate::Section {
+    fn from(section: Section) -> Self {
+        crate::Section {
+            section_type: section.section_type,
+            flags: section.flags,
+            position: section.position,
+            length: section.length,
+        }
+    }
+}
+
+impl From<RollRecord> for crate::RollRecord {
+    fn from(record: RollRecord) -> Self {
+        crate::RollRecord {
+            section_type: record.section_type,
+            position: record.position,
+            length: record.length,
+        }
+    }
+}
 
 mod c {
     use super::{Answer, Plan, Reading, RollReading, StreamPosition};
 
     extern "C" {
         pub fn eif_read(image: *const u8, image_length: usize) -> Reading;
+        pub fn eif_plan_length(plan: Plan) -> Answer;
         pub fn eif_write(
             plan: Plan,
             data: *const u8,
@@ -132,6 +198,7 @@ mod c {
             out: *mut u8,
             out_length: usize,
         ) -> Answer;
+        pub fn eif_roll_length(image: *const u8, image_length: usize) -> Answer;
         pub fn eif_roll_write(
             image: *const u8,
             image_length: usize,
@@ -146,6 +213,12 @@ mod c {
 pub fn read(image: &[u8]) -> Reading {
     // SAFETY: pointer and length are those of a slice, here and below.
     unsafe { c::eif_read(image.as_ptr(), image.len()) }
+}
+
+/// `eif_plan_length`.
+pub fn plan_length(plan: Plan) -> Answer {
+    // SAFETY: there is no pointer.
+    unsafe { c::eif_plan_length(plan) }
 }
 
 /// `eif_write`.
@@ -214,6 +287,12 @@ pub fn copy_app(image: &[u8], from: StreamPosition, out: &mut [u8]) -> Answer {
     }
 }
 
+/// `eif_roll_length`.
+pub fn roll_length(image: &[u8]) -> Answer {
+    // SAFETY: as for `read`.
+    unsafe { c::eif_roll_length(image.as_ptr(), image.len()) }
+}
+
 /// `eif_roll_write`.
 pub fn roll_write(image: &[u8], out: &mut [u8]) -> Answer {
     // SAFETY: as for `write`.
@@ -236,5 +315,103 @@ impl Answer {
     pub(crate) fn accepted_part(self) -> Result<usize, crate::Refusal> {
         // A part of a slice is no longer than a usize can say.
         self.accepted().map(|length| length as usize)
+    }
+}
+
+#[cfg(test)]
+mod tests {
+    use super::*;
+    use std::ptr::{null, null_mut};
+    use std::slice;
+
+    /// The bytes of an answer.
+    fn bytes_of<T: Copy>(answer: &T) -> &[u8] {
+        // SAFETY: used below for the answers alone, which have no padding, as asserted above.
+        unsafe { slice::from_raw_parts((answer as *const T).cast(), size_of::<T>()) }
+    }
+
+    /// A kernel and a command line of no bytes.
+    fn smallest() -> Plan {
+        let mut plan = Plan {
+            version: 2,
+            count: 2,
+            ..Plan::default()
+        };
+        plan.places[0].section_type = SectionType::KERNEL;
+        plan.places[1].section_type = SectionType::COMMAND_LINE;
+        plan
+    }
+
+    #[test]
+    fn a_null_pointer_with_length_0_is_nothing() {
+        let start = StreamPosition(0);
+        // SAFETY: every length is 0.
+        unsafe {
+            assert_eq!(c::eif_read(null(), 0), read(&[]));
+            let write = c::eif_write(smallest(), null(), 0, null_mut(), 0);
+            assert_eq!(write.number, 14);
+            for length in [
+                c::eif_whole_length,
+                c::eif_boot_length,
+                c::eif_app_length,
+                c::eif_roll_length,
+            ] {
+                assert_eq!(length(null(), 0).number, 2);
+            }
+            for copy in [c::eif_copy_whole, c::eif_copy_boot, c::eif_copy_app] {
+                assert_eq!(copy(null(), 0, start, null_mut(), 0).number, 2);
+            }
+            assert_eq!(c::eif_roll_write(null(), 0, null_mut(), 0).number, 2);
+            assert_eq!(c::eif_roll_read(null(), 0), roll_read(&[]));
+        }
+    }
+
+    #[test]
+    fn a_null_output_of_length_0_takes_nothing() {
+        let mut image = [0; 572];
+        assert_eq!(write(smallest(), &[], &mut image).length, 572);
+        let from = StreamPosition(0);
+        // SAFETY: the image is a slice's, and the outputs' lengths are 0.
+        unsafe {
+            let (start, length) = (image.as_ptr(), image.len());
+            let whole = c::eif_copy_whole(start, length, from, null_mut(), 0);
+            assert_eq!(whole, Answer::default());
+            let roll = c::eif_roll_write(start, length, null_mut(), 0);
+            assert_eq!(roll.number, 14);
+        }
+    }
+
+    #[test]
+    fn equal_answers_have_equal_bytes() {
+        let mut image = [0; 600];
+        let written = write(smallest(), &[], &mut image);
+        let again = write(smallest(), &[], &mut [0; 572]);
+        assert_eq!(bytes_of(&written), bytes_of(&again));
+        let image = &image[..written.length as usize];
+        let copy = image.to_vec();
+        assert_eq!(bytes_of(&read(image)), bytes_of(&read(&copy)));
+        let mut roll = [0; 30];
+        assert_eq!(roll_write(image, &mut roll).length, 30);
+        let copy = roll.to_vec();
+        assert_eq!(bytes_of(&roll_read(&roll)), bytes_of(&roll_read(&copy)));
+    }
+
+    #[test]
+    fn reserved_fields_are_0() {
+        let mut image = [0; 572];
+        let written = write(smallest(), &[], &mut image);
+        let refused = write(smallest(), &[], &mut []);
+        assert_eq!([written.reserved, refused.reserved], [[0; 7]; 2]);
+        for reading in [read(&image), read(&[])] {
+            assert_eq!((reading.reserved, reading.reserved_after), (0, 0));
+            assert!(reading.sections.iter().all(|s| s.reserved == 0));
+        }
+        let mut roll = [0; 30];
+        assert_eq!(roll_write(&image, &mut roll).reserved, [0; 7]);
+        for reading in [roll_read(&roll), roll_read(&[])] {
+            assert_eq!(reading.reserved, [0; 7]);
+            let reserved = |r: &RollRecord| (r.reserved, r.reserved_after);
+            assert!(reading.records.iter().all(|r| reserved(r) == (0, 0)));
+        }
     }
 }

@@ -3,119 +3,111 @@
 use std::error::Error;
 use std::fmt;
 
-/// Document 01's answer numbers.
-///
-/// ```
-/// use eif::Reason;
-///
-/// assert_eq!(Reason::ChecksumDiffers as u8, 13);
-/// assert_eq!(Reason::ChecksumDiffers.meaning(), "checksum differs");
-/// ```
-#[non_exhaustive]
-#[repr(u8)]
-#[derive(Clone, Copy, Debug, PartialEq, Eq, PartialOrd, Ord, Hash)]
-pub enum Reason {
-    /// Image longer than 16,777,216 bytes.
-    ImageTooLong = 1,
-    /// Image shorter than 548 bytes.
-    ImageTooShort = 2,
-    /// Wrong magic.
-    WrongMagic = 3,
-    /// Version not 2, 3 or 4.
-    WrongVersion = 4,
-    /// Number of sections not 2 to 32.
-    WrongCount = 5,
-    /// Section starts before the end of the one before it (548 for the first).
-    StartsEarly = 6,
-    /// Offset + 12 + size is more than the file length.
-    EndsLate = 7,
-    /// Size in the section header differs from the table.
-    SizesDiffer = 8,
-    /// Type not allowed in this version.
-    TypeNotAllowed = 9,
-    /// Ramdisk with no kernel earlier in the file.
-    RamdiskBeforeKernel = 10,
-    /// Second kernel, command line, signature or metadata.
-    TypeRepeated = 11,
-    /// Kernel or command line missing, or metadata missing in version 4.
-    SectionMissing = 12,
-    /// Checksum differs.
-    ChecksumDiffers = 13,
-    /// Output buffer too short.
-    OutputTooShort = 14,
-    /// Data length differs from the plan's sum of lengths.
-    DataLengthDiffers = 15,
-    /// Roll ends inside a record, or before its end record.
-    RecordCut = 16,
-    /// Roll record of type above 3, or type 0 with a length not 0.
-    RecordTypeWrong = 17,
-    /// Bytes after the end record.
-    BytesAfterEnd = 18,
-    /// Stream position past the stream's end.
-    PastStreamEnd = 19,
+/// The table of answer numbers: number, name, meaning, what to do about it. The words stand here and
+/// nowhere else in the Rust code; a test of the command holds `eif.h` and the manual to them.
+macro_rules! reasons {
+    ($($number:literal $name:ident: $meaning:literal, $advice:literal;)*) => {
+        /// An answer number (FORMAT.md, Answer numbers).
+        ///
+        /// ```
+        /// use eif::Reason;
+        ///
+        /// assert_eq!(Reason::ChecksumDiffers as u8, 13);
+        /// assert_eq!(Reason::ChecksumDiffers.to_string(), "checksum differs");
+        /// assert_eq!(Reason::from_number(13), Some(Reason::ChecksumDiffers));
+        /// assert_eq!(Reason::from_number(0), None);
+        /// ```
+        #[non_exhaustive]
+        #[repr(u8)]
+        #[derive(Clone, Copy, Debug, PartialEq, Eq, PartialOrd, Ord, Hash)]
+        pub enum Reason {
+            $(#[doc = concat!("Number ", $number, ": ", $meaning, ".")] $name = $number,)*
+        }
+
+        impl Reason {
+            /// Every reason, in the order of their numbers.
+            pub const ALL: &'static [Reason] = &[$(Reason::$name),*];
+
+            /// The reason with this number. 0 is acceptance and has none.
+            pub fn from_number(number: u8) -> Option<Reason> {
+                match number {
+                    $($number => Some(Reason::$name),)*
+                    _ => None,
+                }
+            }
+
+            /// What the number means.
+            pub fn meaning(self) -> &'static str {
+                match self {
+                    $(Reason::$name => $meaning,)*
+                }
+            }
+
+            /// What whoever holds the file should do about it.
+            pub fn advice(self) -> &'static str {
+                match self {
+                    $(Reason::$name => $advice,)*
+                }
+            }
+        }
+    };
 }
 
-impl Reason {
-    /// Every reason, in the order of their numbers, which start at 1.
-    pub const ALL: [Reason; 19] = [
-        Reason::ImageTooLong,
-        Reason::ImageTooShort,
-        Reason::WrongMagic,
-        Reason::WrongVersion,
-        Reason::WrongCount,
-        Reason::StartsEarly,
-        Reason::EndsLate,
-        Reason::SizesDiffer,
-        Reason::TypeNotAllowed,
-        Reason::RamdiskBeforeKernel,
-        Reason::TypeRepeated,
-        Reason::SectionMissing,
-        Reason::ChecksumDiffers,
-        Reason::OutputTooShort,
-        Reason::DataLengthDiffers,
-        Reason::RecordCut,
-        Reason::RecordTypeWrong,
-        Reason::BytesAfterEnd,
-        Reason::PastStreamEnd,
-    ];
+reasons! {
+    1 ImageTooLong: "image longer than 16,777,216 bytes",
+        "ask for the file's size and fetch it again";
+    2 ImageTooShort: "image shorter than 548 bytes",
+        "fetch it again";
+    3 WrongMagic: "wrong magic",
+        "ask what was sent and fetch it again";
+    4 WrongVersion: "version not 2, 3 or 4",
+        "fetch it again; if the answer stays, ask the builder";
+    5 WrongCount: "number of sections not 2 to 32",
+        "fetch it again";
+    6 StartsEarly: "section starts before the end of the one before it (548 for the first)",
+        "fetch it again";
+    7 EndsLate: "offset + 12 + size is more than the file length",
+        "compare the sizes of both files and fetch it again";
+    8 SizesDiffer: "size in the section header differs from the table",
+        "fetch it again";
+    9 TypeNotAllowed: "type not allowed in this version",
+        "fetch it again; if the answer stays, ask the builder";
+    10 RamdiskBeforeKernel: "ramdisk with no kernel earlier in the file",
+        "do not use it; tell the builder";
+    11 TypeRepeated: "second kernel, command line, signature or metadata",
+        "do not use it; tell the builder";
+    12 SectionMissing: "kernel or command line missing, or metadata missing in version 4",
+        "do not use it; tell the builder";
+    13 ChecksumDiffers: "checksum differs",
+        "fetch it again";
+    14 OutputTooShort: "output buffer too short",
+        "nothing is wrong with the file; mend the calling program";
+    15 DataLengthDiffers: "data length differs from the plan's sum of lengths",
+        "mend the plan";
+    16 RecordCut: "roll ends inside a record, or before its end record",
+        "fetch the roll again";
+    17 RecordTypeWrong: "roll record of type above 3, or type 0 with a length not 0",
+        "fetch the roll again";
+    18 BytesAfterEnd: "bytes after the end record",
+        "fetch the roll again";
+    19 PastStreamEnd: "stream position past the stream's end",
+        "nothing is wrong with the file; mend the calling program";
+}
 
-    /// What document 01's table says of it.
-    pub fn meaning(self) -> &'static str {
-        match self {
-            Reason::ImageTooLong => "image longer than 16,777,216 bytes",
-            Reason::ImageTooShort => "image shorter than 548 bytes",
-            Reason::WrongMagic => "wrong magic",
-            Reason::WrongVersion => "version not 2, 3 or 4",
-            Reason::WrongCount => "number of sections not 2 to 32",
-            Reason::StartsEarly => {
-                "section starts before the end of the one before it (548 for the first)"
-            }
-            Reason::EndsLate => "offset + 12 + size is more than the file length",
-            Reason::SizesDiffer => "size in the section header differs from the table",
-            Reason::TypeNotAllowed => "type not allowed in this version",
-            Reason::RamdiskBeforeKernel => "ramdisk with no kernel earlier in the file",
-            Reason::TypeRepeated => "second kernel, command line, signature or metadata",
-            Reason::SectionMissing => {
-                "kernel or command line missing, or metadata missing in version 4"
-            }
-            Reason::ChecksumDiffers => "checksum differs",
-            Reason::OutputTooShort => "output buffer too short",
-            Reason::DataLengthDiffers => "data length differs from the plan's sum of lengths",
-            Reason::RecordCut => "roll ends inside a record, or before its end record",
-            Reason::RecordTypeWrong => "roll record of type above 3, or type 0 with a length not 0",
-            Reason::BytesAfterEnd => "bytes after the end record",
-            Reason::PastStreamEnd => "stream position past the stream's end",
-        }
+impl fmt::Display for Reason {
+    fn fmt(&self, f: &mut fmt::Formatter<'_>) -> fmt::Result {
+        f.pad(self.meaning())
     }
 }
 
-/// A refusal: the first of document 01's numbers that applies, and where.
+/// A refusal: the first answer number that applies, and where.
 ///
 /// ```
 /// let refusal = eif::read(&[0; 547]).unwrap_err();
 /// assert_eq!(refusal.reason(), eif::Reason::ImageTooShort);
 /// assert_eq!((refusal.number(), refusal.index()), (2, 0));
 /// assert_eq!(refusal.to_string(), "refused 2 at 0: image shorter than 548 bytes");
+/// assert_eq!(refusal.reason().advice(), "fetch it again");
 /// ```
 #[derive(Clone, Copy, Debug, PartialEq, Eq, Hash)]
 pub struct Refusal {
@@ -128,14 +120,12 @@ impl Refusal {
     ///
     /// # Panics
     ///
-    /// Where the number is above 19, which the library does not answer.
+    /// Where the table above has no such number, which the library does not answer.
     pub(crate) fn check(number: u8, index: u64) -> Result<(), Refusal> {
-        match usize::from(number).checked_sub(1) {
-            None => Ok(()),
-            Some(place) => Err(Refusal {
-                reason: Reason::ALL[place],
-                index,
-            }),
+        match (number, Reason::from_number(number)) {
+            (0, _) => Ok(()),
+            (_, Some(reason)) => Err(Refusal { reason, index }),
+            (_, None) => panic!("the archive answers {number}, which this crate does not know"),
         }
     }
 
@@ -144,7 +134,7 @@ impl Refusal {
         self.reason
     }
 
-    /// The answer number, 1 to 19.
+    /// The answer number.
     pub fn number(&self) -> u8 {
         self.reason as u8
     }
@@ -158,7 +148,7 @@ impl Refusal {
 impl fmt::Display for Refusal {
     fn fmt(&self, f: &mut fmt::Formatter<'_>) -> fmt::Result {
         let (number, index) = (self.number(), self.index);
-        write!(f, "refused {number} at {index}: {}", self.reason.meaning())
+        write!(f, "refused {number} at {index}: {}", self.reason)
     }
 }
 
@@ -171,8 +161,8 @@ mod tests {
     #[test]
     fn numbers_and_reasons_agree() {
         assert_eq!(Refusal::check(0, 0), Ok(()));
-        for (place, reason) in Reason::ALL.into_iter().enumerate() {
-            assert_eq!(reason as usize, place + 1);
+        assert!(Reason::ALL.windows(2).all(|pair| pair[0] < pair[1]));
+        for &reason in Reason::ALL {
             let refusal = Refusal::check(reason as u8, 7).unwrap_err();
             assert_eq!(refusal.reason(), reason);
             assert_eq!(refusal.number(), reason as u8);

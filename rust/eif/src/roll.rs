@@ -1,9 +1,8 @@
 //! The boot roll: kernel, command line and ramdisks of an image, in file order.
 
-use crate::{raw, DataLength, Refusal, RollPosition, SectionType};
+use crate::{raw, DataLength, Refusal, RollPosition, SectionType, MAX_SECTIONS};
 
 /// A record of an accepted roll.
-#[repr(C)]
 #[derive(Clone, Copy, Debug, Default, PartialEq, Eq)]
 pub struct RollRecord {
     /// The section's type.
@@ -18,17 +17,43 @@ pub struct RollRecord {
 #[derive(Clone, Debug)]
 pub struct Roll<'a> {
     bytes: &'a [u8],
-    reading: raw::RollReading,
+    count: usize,
+    records: [RollRecord; MAX_SECTIONS],
 }
 
-/// Writes the roll of `image` over the start of `out` and answers the roll's length. Bytes of `out`
-/// past the roll stay. A roll is shorter than its image.
+/// The length of the roll of `image`, which is less than the image's. The image is read for it.
+///
+/// # Errors
+///
+/// The image's own refusal.
+pub fn roll_length(image: &[u8]) -> Result<usize, Refusal> {
+    raw::roll_length(image).accepted_part()
+}
+
+/// Writes the roll of `image` over the start of `out` and answers the roll's length (FORMAT.md, The boot
+/// roll). Bytes of `out` past the roll stay.
 ///
 /// # Errors
 ///
 /// The image's own refusal, then 14 where `out` is shorter than the roll. `out` is then unchanged.
 pub fn write_roll(image: &[u8], out: &mut [u8]) -> Result<usize, Refusal> {
     raw::roll_write(image, out).accepted_part()
+}
+
+/// The roll of `image`. The image is read twice.
+///
+/// ```
+/// // What is no image has no roll.
+/// assert_eq!(eif::roll_to_vec(b"short").unwrap_err().number(), 2);
+/// ```
+///
+/// # Errors
+///
+/// The image's own refusal.
+pub fn roll_to_vec(image: &[u8]) -> Result<Vec<u8>, Refusal> {
+    let mut roll = vec![0; roll_length(image)?];
+    write_roll(image, &mut roll)?;
+    Ok(roll)
 }
 
 /// Reads a roll. It is accepted exactly when it is the roll of some accepted image.
@@ -40,13 +65,14 @@ pub fn write_roll(image: &[u8], out: &mut [u8]) -> Result<usize, Refusal> {
 ///
 /// # Errors
 ///
-/// The first of 16, 17, 5, 10, 11, 18, 12 and 1 that applies, in document 01's order of reading a roll.
+/// The first of 16, 17, 5, 10, 11, 18, 12 and 1 that applies, in the order of reading a roll.
 pub fn read_roll(roll: &[u8]) -> Result<Roll<'_>, Refusal> {
     let reading = raw::roll_read(roll);
     Refusal::check(reading.number, reading.index)?;
     Ok(Roll {
         bytes: roll,
-        reading,
+        count: reading.count as usize,
+        records: reading.records.map(RollRecord::from),
     })
 }
 
@@ -58,16 +84,31 @@ impl<'a> Roll<'a> {
 
     /// The records in order, without the end record.
     pub fn records(&self) -> &[RollRecord] {
-        &self.reading.records[..self.reading.count as usize]
+        &self.records[..self.count]
     }
 
     /// The data of record `index`.
     ///
     /// # Panics
     ///
-    /// Where there is no such record.
+    /// Where there is no such record; [`get`](Roll::get) does not.
     pub fn record_data(&self, index: usize) -> &'a [u8] {
-        let record = self.records()[index];
+        self.data_of(self.records()[index])
+    }
+
+    /// Record `index` and its data, if there is such a record.
+    pub fn get(&self, index: usize) -> Option<(RollRecord, &'a [u8])> {
+        let record = *self.records().get(index)?;
+        Some((record, self.data_of(record)))
+    }
+
+    /// The records with their data, in order.
+    pub fn iter(&self) -> impl DoubleEndedIterator<Item = (RollRecord, &'a [u8])> + '_ {
+        let records = self.records().iter();
+        records.map(|&record| (record, self.data_of(record)))
+    }
+
+    fn data_of(&self, record: RollRecord) -> &'a [u8] {
         &self.bytes[record.position.0 as usize..][..record.length.0 as usize]
     }
 }

@@ -1,8 +1,17 @@
 //! The three measured streams.
 
-use crate::{raw, DataLength, Refusal, StreamPosition};
+use crate::{raw, DataLength, Refusal, StreamPosition, UnknownName};
+use std::fmt;
+use std::str::FromStr;
 
-/// A measured stream of an image.
+/// A measured stream of an image (FORMAT.md, Measured streams).
+///
+/// ```
+/// use eif::Stream;
+///
+/// assert_eq!(Stream::Boot.to_string(), "boot");
+/// assert_eq!("app".parse(), Ok(Stream::App));
+/// ```
 #[derive(Clone, Copy, Debug, PartialEq, Eq, Hash)]
 pub enum Stream {
     /// Kernel, command line, then every ramdisk in file order.
@@ -16,6 +25,31 @@ pub enum Stream {
 impl Stream {
     /// The three streams.
     pub const ALL: [Stream; 3] = [Stream::Whole, Stream::Boot, Stream::App];
+
+    /// Its name.
+    pub fn name(self) -> &'static str {
+        match self {
+            Stream::Whole => "whole",
+            Stream::Boot => "boot",
+            Stream::App => "app",
+        }
+    }
+}
+
+impl fmt::Display for Stream {
+    fn fmt(&self, f: &mut fmt::Formatter<'_>) -> fmt::Result {
+        f.pad(self.name())
+    }
+}
+
+/// The names that can be parsed are those of [`Stream::ALL`].
+impl FromStr for Stream {
+    type Err = UnknownName;
+
+    fn from_str(name: &str) -> Result<Self, UnknownName> {
+        let mut known = Stream::ALL.into_iter();
+        known.find(|known| known.name() == name).ok_or(UnknownName)
+    }
 }
 
 /// How many bytes a stream of `image` has.
@@ -52,4 +86,16 @@ pub fn copy_stream(
         Stream::App => raw::copy_app(image, from, out),
     };
     answer.accepted_part()
+}
+
+/// A stream of `image`, whole. The image is read twice.
+///
+/// # Errors
+///
+/// The image's own refusal.
+pub fn stream_to_vec(image: &[u8], stream: Stream) -> Result<Vec<u8>, Refusal> {
+    // A stream is a part of its image, so its length fits a usize.
+    let mut bytes = vec![0; stream_length(image, stream)?.0 as usize];
+    copy_stream(image, stream, StreamPosition(0), &mut bytes)?;
+    Ok(bytes)
 }

@@ -1,7 +1,7 @@
 //! Enclave image files in ordinary Rust.
 //!
-//! Written from document 01 alone, to be compared with the proved library: it gives the same answers
-//! and shares no code with it. It is also what the library's speed is measured against.
+//! Written from the rules alone (docs/FORMAT.md), to be compared with the proved library: it gives the
+//! same answers and shares no code with it. It is also what the library's speed is measured against.
 //!
 //! ```
 //! use eif_twin::{read_roll, Refusal};
@@ -21,7 +21,7 @@ mod stream;
 
 pub use crc32::Crc32;
 pub use image::{read, Reading, Section};
-pub use plan::{write, Place, Plan};
-pub use roll::{read_roll, write_roll, Record};
+pub use plan::{plan_length, write, Place, Plan};
+pub use roll::{read_roll, roll_length, write_roll, Record};
 pub use rules::Refusal;
 pub use stream::{copy_stream, stream_length, Stream};

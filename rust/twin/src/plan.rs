@@ -31,9 +31,8 @@ pub struct Plan {
     pub places: [Place; MAX_SECTIONS],
 }
 
-/// Writes the plain image of `plan`, with `data` as the sections' data joined, over the start of
-/// `out`. Answers the image's length.
-pub fn write(plan: &Plan, data: &[u8], out: &mut [u8]) -> Result<usize, Refusal> {
+/// The length of the plan's image.
+pub fn plan_length(plan: &Plan) -> Result<usize, Refusal> {
     if !known_version(plan.version) {
         return refuse(4, 0);
     }
@@ -56,10 +55,17 @@ pub fn write(plan: &Plan, data: &[u8], out: &mut [u8]) -> Result<usize, Refusal>
     if total > MAX_IMAGE as u128 {
         return refuse(1, 0);
     }
-    if sum != data.len() as u128 {
+    Ok(total as usize)
+}
+
+/// Writes the plain image of `plan`, with `data` as the sections' data joined, over the start of
+/// `out`. Answers the image's length.
+pub fn write(plan: &Plan, data: &[u8], out: &mut [u8]) -> Result<usize, Refusal> {
+    let total = plan_length(plan)?;
+    let places = &plan.places[..usize::from(plan.count)];
+    if total - HEADER - SECTION_HEADER * places.len() != data.len() {
         return refuse(15, 0);
     }
-    let total = total as usize;
     if out.len() < total {
         return refuse(14, 0);
     }

@@ -1,6 +1,6 @@
 //! The boot roll: kernel, command line and ramdisks in file order.
 
-use crate::image::read;
+use crate::image::{read, Reading, Section};
 use crate::rules::*;
 
 const RECORD_HEADER: usize = 10;
@@ -16,11 +16,25 @@ pub struct Record {
     pub length: usize,
 }
 
+/// The sections that a roll lists.
+fn listed(reading: &Reading) -> impl Iterator<Item = &Section> {
+    reading.sections.iter().filter(|s| s.kind <= RAMDISK)
+}
+
+fn length_of(reading: &Reading) -> usize {
+    let records = listed(reading).map(|s| RECORD_HEADER + s.length);
+    records.sum::<usize>() + RECORD_HEADER
+}
+
+/// The length of the roll of `image`.
+pub fn roll_length(image: &[u8]) -> Result<usize, Refusal> {
+    Ok(length_of(&read(image)?))
+}
+
 /// Writes the roll of `image` over the start of `out`. Answers the roll's length.
 pub fn write_roll(image: &[u8], out: &mut [u8]) -> Result<usize, Refusal> {
     let reading = read(image)?;
-    let listed = || reading.sections.iter().filter(|s| s.kind <= RAMDISK);
-    let length = listed().map(|s| RECORD_HEADER + s.length).sum::<usize>() + RECORD_HEADER;
+    let length = length_of(&reading);
     if out.len() < length {
         return refuse(14, 0);
     }
@@ -29,7 +43,7 @@ pub fn write_roll(image: &[u8], out: &mut [u8]) -> Result<usize, Refusal> {
         out[at..at + bytes.len()].copy_from_slice(bytes);
         at += bytes.len();
     };
-    for section in listed() {
+    for section in listed(&reading) {
         put(&(section.length as u64).to_le_bytes());
         put(&section.kind.to_le_bytes());
         put(section.data(image));

@@ -1,4 +1,4 @@
-//! Document 01's examples through the twin.
+//! The examples of docs/FORMAT.md through the twin.
 
 use eif_cases::{
     image_cases, image_of_length, roll_cases, stream_case, two_sections, worked_image, MAX_IMAGE,
@@ -79,6 +79,12 @@ fn the_worked_roll_is_written() {
     assert_eq!(write_roll(&worked_image(), &mut out), Ok(42));
     assert_eq!(out[..42], WORKED_ROLL);
     assert_eq!(out[42..], [0xaa; 8]);
+}
+
+#[test]
+fn lengths() {
+    assert_eq!(plan_length(&worked_plan()), Ok(586));
+    assert_eq!(roll_length(&worked_image()), Ok(42));
 }
 
 #[test]

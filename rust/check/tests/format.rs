@@ -1,4 +1,4 @@
-//! Document 01's examples through the library.
+//! The examples of docs/FORMAT.md through the library.
 
 use eif::raw::{self, Answer};
 use eif::{DataLength, Place, Plan, Refusal, SectionType, Stream, StreamPosition};
@@ -56,6 +56,22 @@ fn the_worked_roll_is_written() {
     assert_eq!(eif::write_roll(&worked_image(), &mut out), Ok(42));
     assert_eq!(out[..42], WORKED_ROLL);
     assert_eq!(out[42..], [0xaa; 8]);
+}
+
+#[test]
+fn lengths_are_told_before_writing() {
+    assert_eq!(eif::plan_length(&worked_plan()), Ok(586));
+    assert_eq!(
+        eif::write_to_vec(&worked_plan(), b"Ka").as_deref(),
+        Ok(&worked_image()[..])
+    );
+    let short = eif::write_to_vec(&worked_plan(), b"K");
+    assert_eq!(short.map_err(pair), Err((15, 0)));
+    assert_eq!(eif::roll_length(&worked_image()), Ok(42));
+    assert_eq!(
+        eif::roll_to_vec(&worked_image()).as_deref(),
+        Ok(&WORKED_ROLL[..])
+    );
 }
 
 #[test]
@@ -135,6 +151,33 @@ fn streams_hold_the_kernel_first() {
         assert_eq!(eif::copy_stream(&image, stream, from, &mut out[..2]), Ok(2));
         assert_eq!(out[..2], bytes[1..3]);
     }
+}
+
+#[test]
+fn parts_by_name_and_by_index() {
+    let (bytes, _) = stream_case();
+    let image = eif::read(&bytes).unwrap();
+    assert_eq!(
+        (image.kernel(), image.command_line()),
+        (&b"bb"[..], &b"aa"[..])
+    );
+    let ramdisks: Vec<&[u8]> = image.ramdisks().collect();
+    assert_eq!(ramdisks, [b"cc", b"ee", b"ff"]);
+    let (section, data) = image.get(3).unwrap();
+    assert_eq!(
+        (section.section_type, data),
+        (SectionType::METADATA, &b"dd"[..])
+    );
+    assert_eq!(section.offset().0 + 12, section.position.0);
+    assert!(image.get(6).is_none() && image.get(usize::MAX).is_none());
+    assert_eq!(image.iter().map(|(_, data)| data).last(), Some(&b"ff"[..]));
+    let roll = eif::roll_to_vec(&bytes).unwrap();
+    let roll = eif::read_roll(&roll).unwrap();
+    assert_eq!(roll.get(4).map(|(_, data)| data), Some(&b"ff"[..]));
+    assert!(roll.get(5).is_none());
+    assert_eq!(roll.iter().count(), 5);
+    let whole = eif::stream_to_vec(&bytes, Stream::Whole);
+    assert_eq!(whole.as_deref(), Ok(&b"bbaacceeff"[..]));
 }
 
 #[test]
