@@ -170,7 +170,10 @@ fn parts_by_name_and_by_index() {
     );
     assert_eq!(section.offset().0 + 12, section.position.0);
     assert!(image.get(6).is_none() && image.get(usize::MAX).is_none());
-    assert_eq!(image.iter().map(|(_, data)| data).last(), Some(&b"ff"[..]));
+    assert_eq!(
+        image.iter().next_back().map(|(_, data)| data),
+        Some(&b"ff"[..])
+    );
     let roll = eif::roll_to_vec(&bytes).unwrap();
     let roll = eif::read_roll(&roll).unwrap();
     assert_eq!(roll.get(4).map(|(_, data)| data), Some(&b"ff"[..]));

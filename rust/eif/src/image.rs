@@ -29,7 +29,14 @@ impl Section {
 #[derive(Clone, Debug)]
 pub struct Image<'a> {
     bytes: &'a [u8],
-    reading: raw::Reading,
+    version: u16,
+    flags: u16,
+    default_mem: u64,
+    default_cpus: u64,
+    ramdisk_mark: u32,
+    ramdisk_count: u32,
+    first_ramdisk: u32,
+    count: usize,
     sections: [Section; MAX_SECTIONS],
 }
 
@@ -48,7 +55,14 @@ pub fn read(image: &[u8]) -> Result<Image<'_>, Refusal> {
     Refusal::check(reading.number, reading.index)?;
     Ok(Image {
         bytes: image,
-        reading,
+        version: reading.version,
+        flags: reading.flags,
+        default_mem: reading.default_mem,
+        default_cpus: reading.default_cpus,
+        ramdisk_mark: reading.ramdisk_mark,
+        ramdisk_count: reading.ramdisk_count,
+        first_ramdisk: reading.first_ramdisk,
+        count: usize::from(reading.count),
         sections: reading.sections.map(Section::from),
     })
 }
@@ -61,12 +75,12 @@ impl<'a> Image<'a> {
 
     /// The header's version: 2, 3 or 4.
     pub fn version(&self) -> u16 {
-        self.reading.version
+        self.version
     }
 
     /// The header's flags, carried and not judged.
     pub fn flags(&self) -> u16 {
-        self.reading.flags
+        self.flags
     }
 
     /// The processor that the flags tell.
@@ -76,17 +90,17 @@ impl<'a> Image<'a> {
 
     /// The header's default_mem, carried and not judged.
     pub fn default_mem(&self) -> u64 {
-        self.reading.default_mem
+        self.default_mem
     }
 
     /// The header's default_cpus, carried and not judged.
     pub fn default_cpus(&self) -> u64 {
-        self.reading.default_cpus
+        self.default_cpus
     }
 
     /// The sections in file order, 2 to 32 of them.
     pub fn sections(&self) -> &[Section] {
-        &self.sections[..usize::from(self.reading.count)]
+        &self.sections[..self.count]
     }
 
     /// The data of section `index`.
@@ -141,17 +155,17 @@ impl<'a> Image<'a> {
 
     /// The ramdisk mark: bit i is one exactly when section i is a ramdisk.
     pub fn ramdisk_mark(&self) -> u32 {
-        self.reading.ramdisk_mark
+        self.ramdisk_mark
     }
 
     /// How many sections are ramdisks.
     pub fn ramdisk_count(&self) -> usize {
-        self.reading.ramdisk_count as usize
+        self.ramdisk_count as usize
     }
 
     /// The index of the first ramdisk.
     pub fn first_ramdisk(&self) -> Option<usize> {
-        let first = self.reading.first_ramdisk;
+        let first = self.first_ramdisk;
         (first != raw::NO_RAMDISK).then_some(first as usize)
     }
 

@@ -1,0 +1,56 @@
+//! `eif extract`: the data of one section.
+
+use super::Command;
+use crate::args::{Args, Options};
+use crate::output::{self, Output};
+use crate::status::{complain, Status, Trouble};
+use crate::{input, words};
+use std::ffi::OsStr;
+
+pub const COMMAND: Command = Command {
+    name: "extract",
+    summary: "write the data of one section",
+    help: "\
+usage: eif extract IMAGE INDEX [--output FILE] [--force]
+
+Writes the data of section INDEX, as eif show numbers the sections, from 0.
+
+  --output FILE   write to FILE, whole or not at all; otherwise to standard output
+  --force         replace FILE if it exists
+
+Exit status: 0 written, 1 the image is refused, 2 there is no such section, wrong
+usage, input or output trouble.
+",
+    options: Options {
+        flags: &[output::FLAG],
+        values: &[output::VALUE],
+    },
+    run,
+};
+
+fn run(args: Args) -> Result<Status, Trouble> {
+    let [image, index] = args.operands(["IMAGE", "INDEX"])?;
+    let index = number(index)?;
+    let output = Output::of(&args)?;
+    let input = input::read(image)?;
+    let image = match eif::read(&input.bytes) {
+        Ok(image) => image,
+        Err(refusal) => {
+            complain(&words::refusal(&input.name, &refusal));
+            return Ok(Status::Refused);
+        }
+    };
+    let Some((_, data)) = image.get(index) else {
+        let count = image.sections().len();
+        return Err(Trouble::usage(format!(
+            "no section {index}: the image has {count}, from 0 on"
+        )));
+    };
+    output.write(data).map(|()| Status::Fine)
+}
+
+fn number(word: &OsStr) -> Result<usize, Trouble> {
+    let word = word.to_string_lossy();
+    word.parse()
+        .map_err(|_| Trouble::usage(format!("INDEX is no number: {word}")))
+}

@@ -1,0 +1,37 @@
+//! The subcommands, each in a file of its own.
+//!
+//! A new one (registers, signature, assemble, stage) is a file here and a row in the table. A stricter
+//! reading is a flag `--strict` of `show` and `check`.
+
+use crate::args::{Args, Options};
+use crate::status::{Status, Trouble};
+
+mod check;
+mod compare;
+mod extract;
+mod pack;
+mod roll;
+mod show;
+mod stream;
+
+/// A subcommand.
+pub struct Command {
+    pub name: &'static str,
+    /// One line for the overview.
+    pub summary: &'static str,
+    /// What `--help` prints.
+    pub help: &'static str,
+    pub options: Options,
+    pub run: fn(Args) -> Result<Status, Trouble>,
+}
+
+/// All of them, in the order of the overview.
+pub const COMMANDS: [Command; 7] = [
+    show::COMMAND,
+    check::COMMAND,
+    compare::COMMAND,
+    roll::COMMAND,
+    pack::COMMAND,
+    extract::COMMAND,
+    stream::COMMAND,
+];

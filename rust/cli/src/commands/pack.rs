@@ -1,0 +1,143 @@
+//! `eif pack`: an image from its parts, in the order given.
+
+use super::Command;
+use crate::args::{Args, Options};
+use crate::output::{self, Output};
+use crate::status::{complain, Status, Trouble};
+use crate::{input, words};
+use eif::{Architecture, DataLength, Place, Plan, SectionType};
+use std::ffi::{OsStr, OsString};
+use std::os::unix::ffi::OsStringExt;
+
+pub const COMMAND: Command = Command {
+    name: "pack",
+    summary: "pack an image from its parts, in the order given",
+    help: "\
+usage: eif pack --kernel FILE --cmdline TEXT --ramdisk FILE [--ramdisk FILE ..]
+                --output FILE [--force] [--metadata FILE]
+                [--arch x86_64|aarch64] [--format 2|3|4]
+
+Packs an image: kernel, command line, metadata if given, then the ramdisks in the
+order in which they are named, never sorted.
+
+  --kernel FILE     the kernel
+  --cmdline TEXT    the kernel's command line, as it is
+  --ramdisk FILE    a ramdisk; give it once for each
+  --metadata FILE   the metadata, which format 4 must have
+  --arch NAME       x86_64, unless this says aarch64
+  --format NUMBER   the format's version: 4 with --metadata and otherwise 3,
+                    unless this says another
+  --output FILE     write to FILE, whole or not at all; - is standard output
+  --force           replace FILE if it exists
+
+Exit status: 0 written, 1 refused, 2 wrong usage, input or output trouble.
+",
+    options: Options {
+        flags: &[output::FLAG],
+        values: &[
+            "--kernel",
+            "--cmdline",
+            "--ramdisk",
+            "--metadata",
+            "--arch",
+            "--format",
+            output::VALUE,
+        ],
+    },
+    run,
+};
+
+/// The parts as the command line names them.
+struct Parts {
+    kernel: OsString,
+    command_line: OsString,
+    ramdisks: Vec<OsString>,
+    metadata: Option<OsString>,
+    flags: u16,
+    version: u16,
+}
+
+fn run(args: Args) -> Result<Status, Trouble> {
+    args.operands([])?;
+    let output_name = args.needed(output::VALUE)?;
+    let parts = named_parts(&args)?;
+    let output = Output::of(&args)?;
+    let sections = read_sections(&parts)?;
+    let plan = plan(&parts, &sections);
+    let data: Vec<&[u8]> = sections.iter().map(|(_, data)| &data[..]).collect();
+    match eif::write_to_vec(&plan, &data.concat()) {
+        Ok(image) => output.write(&image).map(|()| Status::Fine),
+        Err(refusal) => {
+            complain(&words::about(&output_name, &format!("{refusal}\n")));
+            Ok(Status::Refused)
+        }
+    }
+}
+
+fn named_parts(args: &Args) -> Result<Parts, Trouble> {
+    let metadata = args.one("--metadata")?;
+    let parts = Parts {
+        kernel: args.needed("--kernel")?,
+        command_line: args.needed("--cmdline")?,
+        ramdisks: args.all("--ramdisk"),
+        flags: architecture(args)?.flags(),
+        version: version(args)?.unwrap_or(if metadata.is_some() { 4 } else { 3 }),
+        metadata,
+    };
+    if parts.ramdisks.is_empty() {
+        return Err(Trouble::usage("--ramdisk is missing"));
+    }
+    let files = [&parts.kernel].into_iter().chain(&parts.ramdisks);
+    input::one_standard_input(files.chain(&parts.metadata))?;
+    Ok(parts)
+}
+
+fn architecture(args: &Args) -> Result<Architecture, Trouble> {
+    let Some(name) = args.one("--arch")? else {
+        return Ok(Architecture::default());
+    };
+    let name = name.to_string_lossy();
+    name.parse()
+        .map_err(|_| Trouble::usage(format!("no architecture {name}: x86_64 or aarch64")))
+}
+
+/// The number given; whether there is such a format is for the library to say.
+fn version(args: &Args) -> Result<Option<u16>, Trouble> {
+    let Some(word) = args.one("--format")? else {
+        return Ok(None);
+    };
+    let word = word.to_string_lossy();
+    let number = word.parse().map(Some);
+    number.map_err(|_| Trouble::usage(format!("--format is no number: {word}")))
+}
+
+/// The sections in the order of the image.
+fn read_sections(parts: &Parts) -> Result<Vec<(SectionType, Vec<u8>)>, Trouble> {
+    let file = |section_type, name: &OsStr| Ok((section_type, input::read(name)?.bytes));
+    let mut sections = vec![
+        file(SectionType::KERNEL, &parts.kernel)?,
+        (
+            SectionType::COMMAND_LINE,
+            parts.command_line.clone().into_vec(),
+        ),
+    ];
+    if let Some(name) = &parts.metadata {
+        sections.push(file(SectionType::METADATA, name)?);
+    }
+    for name in &parts.ramdisks {
+        sections.push(file(SectionType::RAMDISK, name)?);
+    }
+    Ok(sections)
+}
+
+fn plan(parts: &Parts, sections: &[(SectionType, Vec<u8>)]) -> Plan {
+    let place = |(section_type, data): &(SectionType, Vec<u8>)| {
+        Place::new(*section_type, DataLength(data.len() as u64))
+    };
+    Plan {
+        version: parts.version,
+        flags: parts.flags,
+        places: sections.iter().map(place).collect(),
+        ..Plan::default()
+    }
+}

@@ -1,0 +1,41 @@
+//! `eif roll`: the boot roll of an image.
+
+use super::Command;
+use crate::args::{Args, Options};
+use crate::output::{self, Output};
+use crate::status::{complain, Status, Trouble};
+use crate::{input, words};
+
+pub const COMMAND: Command = Command {
+    name: "roll",
+    summary: "write the boot roll of an image",
+    help: "\
+usage: eif roll IMAGE [--output FILE] [--force]
+
+Writes the boot roll of an image: its kernel, command line and ramdisks in file
+order, with their lengths and bytes. eif show and eif compare read it.
+
+  --output FILE   write to FILE, whole or not at all; otherwise to standard output
+  --force         replace FILE if it exists
+
+Exit status: 0 written, 1 the image is refused, 2 input or output trouble.
+",
+    options: Options {
+        flags: &[output::FLAG],
+        values: &[output::VALUE],
+    },
+    run,
+};
+
+fn run(args: Args) -> Result<Status, Trouble> {
+    let [image] = args.operands(["IMAGE"])?;
+    let output = Output::of(&args)?;
+    let image = input::read(image)?;
+    match eif::roll_to_vec(&image.bytes) {
+        Ok(roll) => output.write(&roll).map(|()| Status::Fine),
+        Err(refusal) => {
+            complain(&words::refusal(&image.name, &refusal));
+            Ok(Status::Refused)
+        }
+    }
+}

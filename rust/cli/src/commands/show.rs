@@ -1,0 +1,162 @@
+//! `eif show`: what an image or a roll holds.
+
+use super::Command;
+use crate::args::{Args, Options};
+use crate::content::{self, Content, Neither};
+use crate::json::{self, Object};
+use crate::status::{Status, Trouble};
+use crate::{input, output, words};
+use eif::{Image, RollRecord, Section, SectionType};
+use std::ffi::OsStr;
+
+pub const COMMAND: Command = Command {
+    name: "show",
+    summary: "show what an image or a roll holds",
+    help: "\
+usage: eif show [--json] FILE..
+
+Shows each file: of an image its header fields and a row for each section in file
+order (index, type, offset of the section in the file, size of its data); of a
+boot roll a row for each record (index, type, position of its data, size). Of a
+file that is refused: the answer number, where, what it means and what to do.
+
+  --json    one object for each file, one a line; the manual lists the keys
+
+Exit status: 0 all are accepted, 1 one is refused, 2 one cannot be read.
+",
+    options: Options {
+        flags: &["--json"],
+        values: &[],
+    },
+    run,
+};
+
+type Answer<'a> = Result<Content<'a>, Neither>;
+
+fn run(args: Args) -> Result<Status, Trouble> {
+    let names = args.some_operands("FILE")?;
+    input::one_standard_input(names)?;
+    let form = if args.has("--json") { object } else { text };
+    let mut worst = Status::Fine;
+    for name in names {
+        let status = match input::read(name) {
+            Ok(input) => {
+                let answer = content::read(&input.bytes);
+                output::print(&form(name, &answer))?;
+                answer.map_or(Status::Refused, |_| Status::Fine)
+            }
+            Err(trouble) => trouble.report(),
+        };
+        worst = worst.max(status);
+    }
+    Ok(worst)
+}
+
+fn text(name: &OsStr, answer: &Answer) -> Vec<u8> {
+    match answer {
+        Ok(Content::Image(image)) => words::about(name, &image_text(image)),
+        Ok(Content::Roll(roll)) => words::about(name, &roll_text(roll.records())),
+        Err(neither) => neither.lines(name),
+    }
+}
+
+fn image_text(image: &Image) -> String {
+    let mut text = format!(
+        "image\n  version       {}\n  flags         {:#06x} ({})\n  default_mem   {}\n  default_cpus  {}\n",
+        image.version(),
+        image.flags(),
+        image.architecture(),
+        image.default_mem(),
+        image.default_cpus(),
+    );
+    text += &row("index", "type", "offset", "size");
+    for (index, section) in image.sections().iter().enumerate() {
+        let Section {
+            section_type,
+            length,
+            ..
+        } = section;
+        text += &row(index, section_type, section.offset().0, length.0);
+    }
+    text
+}
+
+fn roll_text(records: &[RollRecord]) -> String {
+    let mut text = "boot roll\n".to_string() + &row("index", "type", "position", "size");
+    for (index, record) in records.iter().enumerate() {
+        text += &row(
+            index,
+            record.section_type,
+            record.position.0,
+            record.length.0,
+        );
+    }
+    text
+}
+
+fn row(
+    index: impl std::fmt::Display,
+    kind: impl std::fmt::Display,
+    place: impl std::fmt::Display,
+    size: impl std::fmt::Display,
+) -> String {
+    format!("  {index:>5}  {kind:12}  {place:>10}  {size:>10}\n")
+}
+
+fn object(name: &OsStr, answer: &Answer) -> Vec<u8> {
+    let object = Object::default().put("file", json::string(&name.to_string_lossy()));
+    let object = match answer {
+        Ok(Content::Image(image)) => image_members(object.put("accepted", true), image),
+        Ok(Content::Roll(roll)) => {
+            let records = roll.records().iter().enumerate();
+            let records = records.map(|(index, record)| record_object(index, record));
+            object
+                .put("accepted", true)
+                .put("records", json::list(records))
+        }
+        Err(neither) => {
+            let refusal = &neither.image;
+            object
+                .put("accepted", false)
+                .put("number", refusal.number())
+                .put("index", refusal.index())
+                .put("meaning", json::string(refusal.reason().meaning()))
+        }
+    };
+    (object.text() + "\n").into_bytes()
+}
+
+fn image_members(object: Object, image: &Image) -> Object {
+    let sections = image.sections().iter().enumerate();
+    let sections = sections.map(|(index, section)| section_object(index, section));
+    object
+        .put("version", image.version())
+        .put("flags", image.flags())
+        .put("architecture", json::string(image.architecture().name()))
+        .put("default_mem", image.default_mem())
+        .put("default_cpus", image.default_cpus())
+        .put("sections", json::list(sections))
+}
+
+fn section_object(index: usize, section: &Section) -> String {
+    typed_object(index, section.section_type)
+        .put("flags", section.flags)
+        .put("offset", section.offset().0)
+        .put("position", section.position.0)
+        .put("length", section.length.0)
+        .text()
+}
+
+fn record_object(index: usize, record: &RollRecord) -> String {
+    typed_object(index, record.section_type)
+        .put("position", record.position.0)
+        .put("length", record.length.0)
+        .text()
+}
+
+fn typed_object(index: usize, section_type: SectionType) -> Object {
+    Object::default()
+        .put("index", index)
+        .put("type", section_type.0)
+        .put("name", json::string(&section_type.to_string()))
+}

@@ -1,0 +1,53 @@
+//! `eif stream`: a measured stream of an image.
+
+use super::Command;
+use crate::args::{Args, Options};
+use crate::output::{self, Output};
+use crate::status::{complain, Status, Trouble};
+use crate::{input, words};
+use eif::Stream;
+use std::ffi::OsStr;
+
+pub const COMMAND: Command = Command {
+    name: "stream",
+    summary: "write one of an image's measured streams",
+    help: "\
+usage: eif stream IMAGE whole|boot|app [--output FILE] [--force]
+
+Writes the bytes of a measured stream of an image:
+    whole   kernel, command line, then every ramdisk in file order
+    boot    kernel, command line, and the first ramdisk if there is one
+    app     the ramdisks but the first, in file order
+
+  --output FILE   write to FILE, whole or not at all; otherwise to standard output
+  --force         replace FILE if it exists
+
+Exit status: 0 written, 1 the image is refused, 2 wrong usage, input or output
+trouble.
+",
+    options: Options {
+        flags: &[output::FLAG],
+        values: &[output::VALUE],
+    },
+    run,
+};
+
+fn run(args: Args) -> Result<Status, Trouble> {
+    let [image, stream] = args.operands(["IMAGE", "whole, boot or app"])?;
+    let stream = named(stream)?;
+    let output = Output::of(&args)?;
+    let image = input::read(image)?;
+    match eif::stream_to_vec(&image.bytes, stream) {
+        Ok(bytes) => output.write(&bytes).map(|()| Status::Fine),
+        Err(refusal) => {
+            complain(&words::refusal(&image.name, &refusal));
+            Ok(Status::Refused)
+        }
+    }
+}
+
+fn named(name: &OsStr) -> Result<Stream, Trouble> {
+    let name = name.to_string_lossy();
+    name.parse()
+        .map_err(|_| Trouble::usage(format!("no stream {name}: whole, boot or app")))
+}

@@ -1,0 +1,35 @@
+//! Words that subcommands share. What a refusal means and what to do about it are the library's words.
+
+use eif::Refusal;
+use std::ffi::OsStr;
+use std::os::unix::ffi::OsStrExt;
+
+/// A file's name as it is printed: its bytes, with `?` for those that would begin a line of their own or
+/// steer a terminal.
+pub fn shown(name: &OsStr) -> Vec<u8> {
+    let printed = |&byte: &u8| if byte.is_ascii_control() { b'?' } else { byte };
+    name.as_bytes().iter().map(printed).collect()
+}
+
+/// `NAME: text`.
+pub fn about(name: &OsStr, text: &str) -> Vec<u8> {
+    [&shown(name)[..], b": ", text.as_bytes()].concat()
+}
+
+/// A refusal and what to do about it, two lines.
+pub fn refusal(name: &OsStr, refusal: &Refusal) -> Vec<u8> {
+    about(name, &format!("{refusal}\n{}", advice(refusal)))
+}
+
+/// The line on what to do about a refusal.
+pub fn advice(refusal: &Refusal) -> String {
+    format!("  what to do: {}\n", refusal.reason().advice())
+}
+
+/// `1 byte`, `2 bytes`.
+pub fn bytes(count: u64) -> String {
+    match count {
+        1 => "1 byte".to_string(),
+        _ => format!("{count} bytes"),
+    }
+}
