@@ -1,0 +1,204 @@
+//! `eif show` and `eif check`.
+
+mod common;
+
+use common::json::{parse, Value};
+use common::Folder;
+use eif_cases::{image_cases, image_of_length, worked_image, Layout, Section, MAX_IMAGE};
+
+const SHOWN: &str = "\
+packed.eif: image
+  version       4
+  flags         0x0001 (aarch64)
+  default_mem   0
+  default_cpus  0
+  index  type              offset        size
+      0  kernel               548          10
+      1  command line         570           5
+      2  metadata             587           2
+      3  ramdisk              601           9
+      4  ramdisk              622          23
+";
+
+const ROLL_SHOWN: &str = "\
+roll: boot roll
+  index  type            position        size
+      0  kernel                10          10
+      1  command line          30           5
+      2  ramdisk               45           9
+      3  ramdisk               64          23
+";
+
+fn packed() -> Folder {
+    let folder = Folder::new();
+    folder.pack(
+        "packed.eif",
+        &["old", "new"],
+        "--metadata metadata --arch aarch64",
+    );
+    folder
+}
+
+/// A file with its checksum spoiled.
+fn damaged(folder: &Folder) {
+    let mut image = folder.get("packed.eif");
+    image[600] ^= 1;
+    folder.put("damaged.eif", image);
+}
+
+#[test]
+fn an_image_is_shown() {
+    let folder = packed();
+    folder.eif("show packed.eif").says(0, SHOWN);
+    let input = folder.get("packed.eif");
+    let by_pipe = folder.eif_with_input("show -", &input);
+    by_pipe.says(0, &SHOWN.replace("packed.eif", "-"));
+}
+
+#[test]
+fn a_roll_is_shown() {
+    let folder = packed();
+    folder.eif("roll packed.eif --output roll").says(0, "");
+    folder.eif("show roll").says(0, ROLL_SHOWN);
+}
+
+#[test]
+fn a_refusal_says_what_to_do() {
+    let folder = packed();
+    damaged(&folder);
+    let refused = "damaged.eif: refused 13 at 0: checksum differs\n  what to do: fetch it again\n";
+    folder.eif("show damaged.eif").says(1, refused);
+    let both = folder.eif("show damaged.eif packed.eif");
+    both.says(1, &format!("{refused}{SHOWN}"));
+}
+
+#[test]
+fn a_file_that_may_be_a_cut_roll_is_told_so() {
+    let folder = packed();
+    folder.eif("roll packed.eif --output roll").says(0, "");
+    let roll = folder.get("roll");
+    folder.put("cut", &roll[..roll.len() - 1]);
+    let ended = folder.eif("show cut");
+    let lines: Vec<&str> = ended.text().lines().collect();
+    assert_eq!(ended.status, 1);
+    assert_eq!(
+        lines[0],
+        "cut: refused 2 at 0: image shorter than 548 bytes"
+    );
+    let as_roll =
+        "  as a boot roll: refused 16 at 4: roll ends inside a record, or before its end record";
+    assert_eq!(lines[2], as_roll);
+}
+
+#[test]
+fn json_is_read_back() {
+    let folder = packed();
+    damaged(&folder);
+    folder.eif("roll packed.eif --output roll").says(0, "");
+    let ended = folder.eif("show --json packed.eif damaged.eif roll");
+    assert_eq!(ended.status, 1);
+    let objects: Vec<Value> = ended.text().lines().map(parse).collect();
+    let [image, refused, roll] = &objects[..] else {
+        panic!("{objects:?}");
+    };
+    let keys = "file accepted version flags architecture default_mem default_cpus sections";
+    assert_eq!(image.keys().join(" "), keys);
+    assert_eq!(*image.get("file"), Value::Text("packed.eif".into()));
+    assert_eq!(*image.get("accepted"), Value::Truth(true));
+    assert_eq!(*image.get("version"), Value::Number(4));
+    assert_eq!(*image.get("flags"), Value::Number(1));
+    assert_eq!(*image.get("architecture"), Value::Text("aarch64".into()));
+    let last = &image.get("sections").items()[4];
+    assert_eq!(
+        last.keys().join(" "),
+        "index type name flags offset position length"
+    );
+    let numbers = ["index", "type", "flags", "offset", "position", "length"];
+    let numbers = numbers.map(|key| last.get(key).clone());
+    assert_eq!(numbers, [4, 3, 0, 622, 634, 23].map(Value::Number));
+    assert_eq!(*last.get("name"), Value::Text("ramdisk".into()));
+
+    assert_eq!(
+        refused.keys().join(" "),
+        "file accepted number index meaning"
+    );
+    assert_eq!(*refused.get("accepted"), Value::Truth(false));
+    assert_eq!(*refused.get("number"), Value::Number(13));
+    assert_eq!(
+        *refused.get("meaning"),
+        Value::Text("checksum differs".into())
+    );
+
+    assert_eq!(roll.keys().join(" "), "file accepted records");
+    let first = &roll.get("records").items()[0];
+    assert_eq!(first.keys().join(" "), "index type name position length");
+}
+
+#[test]
+fn json_carries_the_largest_numbers_and_any_name() {
+    let folder = Folder::new();
+    let layout = Layout {
+        version: 2,
+        flags: u16::MAX,
+        default_mem: u64::MAX,
+        default_cpus: u64::MAX,
+        sections: vec![Section::new(1, b"k"), Section::new(2, b"")],
+    };
+    let name = "a \"name\"\\ with\n\u{1b}[31m \u{e9}";
+    folder.put(name, layout.image());
+    let ended = folder.run(["show", "--json", name]);
+    assert_eq!(ended.status, 0);
+    let object = parse(ended.text().trim_end());
+    assert_eq!(*object.get("file"), Value::Text(name.into()));
+    assert_eq!(*object.get("default_mem"), Value::Number(u64::MAX));
+    // A name cannot begin a line of its own or steer the terminal.
+    let ended = folder.run(["check", name]);
+    ended.says(0, "a \"name\"\\ with??[31m \u{e9}: accepted\n");
+}
+
+#[test]
+fn every_number_of_the_reader_is_told() {
+    let folder = Folder::new();
+    for case in image_cases() {
+        folder.put("case.eif", &case.image);
+        let ended = folder.eif("check case.eif");
+        let (number, index) = (case.number, case.index);
+        if number == 0 {
+            ended.says(0, "case.eif: accepted\n");
+        } else {
+            assert_eq!(ended.status, 1);
+            let start = format!("case.eif: refused {number} at {index}: ");
+            assert!(ended.text().starts_with(&start), "{}", case.name);
+        }
+    }
+}
+
+#[test]
+fn the_longest_image_and_one_byte_more() {
+    let folder = Folder::new();
+    folder.put("longest", image_of_length(MAX_IMAGE));
+    folder.put("longer", image_of_length(MAX_IMAGE + 1));
+    let lines = "longest: accepted\nlonger: refused 1 at 0: image longer than 16,777,216 bytes\n";
+    folder.eif("check longest longer").says(1, lines);
+    folder.eif("check --quiet longest").says(0, "");
+}
+
+#[test]
+fn input_without_end_ends() {
+    let refused = "/dev/zero: refused 1 at 0: image longer than 16,777,216 bytes\n";
+    Folder::new().eif("check /dev/zero").says(1, refused);
+}
+
+#[test]
+fn check_is_quiet_when_told() {
+    let folder = packed();
+    damaged(&folder);
+    let lines = "packed.eif: accepted\ndamaged.eif: refused 13 at 0: checksum differs\n";
+    folder.eif("check packed.eif damaged.eif").says(1, lines);
+    folder
+        .eif("check --quiet packed.eif damaged.eif")
+        .says(1, "");
+    folder.eif("check --quiet packed.eif").says(0, "");
+    let by_pipe = folder.eif_with_input("check -", &worked_image());
+    by_pipe.says(0, "-: accepted\n");
+}

@@ -1,0 +1,310 @@
+//! Wrong usage, and files and pipes that fail. Never a panic: `common` sees to that for every process.
+
+mod common;
+
+use common::{Ended, Folder};
+use std::ffi::OsStr;
+use std::fs::{self, File};
+use std::os::fd::OwnedFd;
+use std::os::unix::ffi::OsStrExt;
+use std::os::unix::fs::PermissionsExt;
+use std::os::unix::net::UnixStream;
+use std::process::Stdio;
+
+/// Every subcommand with files in the places of its inputs.
+const READERS: [&str; 7] = [
+    "show FILE",
+    "check FILE",
+    "compare FILE good",
+    "roll FILE",
+    "extract FILE 0",
+    "stream FILE whole",
+    "pack --kernel FILE --cmdline x --ramdisk good --output out",
+];
+
+fn with_good() -> Folder {
+    let folder = Folder::new();
+    folder.pack("good", &["old"], "");
+    folder
+}
+
+fn every_reader(folder: &Folder, name: &str, error: &str) {
+    let names = folder.names();
+    for words in READERS {
+        let ended = folder.eif(&words.replace("FILE", name));
+        ended.complains(2, &format!("eif: {name}: {error}\n"));
+    }
+    assert_eq!(folder.names(), names);
+}
+
+#[test]
+fn no_such_file() {
+    every_reader(
+        &with_good(),
+        "gone",
+        "No such file or directory (os error 2)",
+    );
+}
+
+#[test]
+fn a_folder() {
+    let folder = with_good();
+    fs::create_dir(folder.path("folder")).unwrap();
+    every_reader(&folder, "folder", "Is a directory (os error 21)");
+}
+
+#[test]
+fn a_file_that_may_not_be_read() {
+    let folder = with_good();
+    folder.put("secret", b"");
+    let nobody = fs::Permissions::from_mode(0o000);
+    fs::set_permissions(folder.path("secret"), nobody).unwrap();
+    if File::open(folder.path("secret")).is_ok() {
+        eprintln!("skipped: this user reads every file");
+        return;
+    }
+    every_reader(&folder, "secret", "Permission denied (os error 13)");
+}
+
+/// Also for a user that may read every file.
+#[test]
+fn a_file_that_cannot_be_read() {
+    let name = "/proc/self/mem";
+    every_reader(&with_good(), name, "Input/output error (os error 5)");
+}
+
+#[test]
+fn an_empty_file() {
+    let folder = with_good();
+    folder.put("empty", b"");
+    let refused = "empty: refused 2 at 0: image shorter than 548 bytes\n";
+    folder.eif("check empty").says(1, refused);
+    folder
+        .eif("check /dev/null")
+        .says(1, &refused.replace("empty", "/dev/null"));
+    assert_eq!(folder.eif("show empty").status, 1);
+    assert_eq!(folder.eif("compare empty good").status, 1);
+    assert_eq!(folder.eif("roll empty").status, 1);
+}
+
+#[test]
+fn the_other_files_are_still_looked_at() {
+    let folder = with_good();
+    let ended = folder.eif("check gone good");
+    assert_eq!((ended.status, ended.text()), (2, "good: accepted\n"));
+    assert!(ended.error.starts_with("eif: gone: "));
+    let ended = folder.eif("show --json gone good");
+    assert_eq!((ended.status, ended.text().lines().count()), (2, 1));
+}
+
+#[test]
+fn names_that_are_not_utf_8() {
+    let folder = with_good();
+    let name = OsStr::from_bytes(b"caf\xe9.eif");
+    folder.put(name, folder.get("good"));
+    let ended = folder.run([OsStr::new("check"), name]);
+    assert_eq!(
+        (ended.status, &ended.out[..]),
+        (0, &b"caf\xe9.eif: accepted\n"[..])
+    );
+    let ended = folder.run([OsStr::new("show"), OsStr::new("--json"), name]);
+    assert!(ended
+        .text()
+        .starts_with("{\"file\": \"caf\u{fffd}.eif\", \"accepted\": true"));
+    let output = OsStr::from_bytes(b"\xff.roll");
+    let words = ["roll", "good", "--output"].map(OsStr::new);
+    folder.run(words.into_iter().chain([output])).says(0, "");
+    assert_eq!(folder.get(output), folder.eif("roll good").out);
+    let gone = OsStr::from_bytes(b"\xfe");
+    assert_eq!(folder.run([OsStr::new("show"), gone]).status, 2);
+    assert_eq!(folder.run([gone]).status, 2);
+    assert_eq!(
+        folder
+            .run([OsStr::new("stream"), OsStr::new("good"), gone])
+            .status,
+        2
+    );
+}
+
+/// Runs the command with standard output on a device that is always full.
+fn to_full(folder: &Folder, words: &str) -> Ended {
+    let full = File::options().write(true).open("/dev/full").unwrap();
+    let mut command = folder.command(words.split_whitespace());
+    command.stdout(full).output().unwrap().into()
+}
+
+#[test]
+fn a_full_disk() {
+    let folder = with_good();
+    let names = folder.names();
+    let error = "No space left on device (os error 28)";
+    for words in [
+        "show good",
+        "show --json good",
+        "check good",
+        "compare good good",
+        "roll good",
+        "extract good 0",
+        "stream good whole",
+        "pack --kernel kernel --cmdline x --ramdisk old --output -",
+        "--help",
+        "--version",
+        "pack --help",
+    ] {
+        to_full(&folder, words).complains(2, &format!("eif: standard output: {error}\n"));
+    }
+    for words in ["roll good", "extract good 0", "stream good whole"] {
+        let ended = folder.eif(&format!("{words} --output /dev/full"));
+        ended.complains(2, &format!("eif: /dev/full: {error}\n"));
+    }
+    let pack = "pack --kernel kernel --cmdline x --ramdisk old --output /dev/full --force";
+    folder
+        .eif(pack)
+        .complains(2, &format!("eif: /dev/full: {error}\n"));
+    assert_eq!(folder.names(), names);
+}
+
+/// A file system that is really full, where one can be had: a file limit does for it.
+#[test]
+fn a_disk_that_fills_up_leaves_no_half_image() {
+    let folder = with_good();
+    folder.put("big", vec![7; 1 << 20]);
+    let names = folder.names();
+    let script = "trap '' XFSZ; ulimit -f 64; exec \"$0\" pack --kernel kernel --cmdline x --ramdisk big --output out";
+    let mut command = std::process::Command::new("sh");
+    command.args(["-c", script, env!("CARGO_BIN_EXE_eif")]);
+    let ended: Ended = command
+        .current_dir(folder.path(""))
+        .output()
+        .unwrap()
+        .into();
+    ended.complains(2, "eif: out: File too large (os error 27)\n");
+    assert_eq!(folder.names(), names);
+}
+
+#[test]
+fn an_output_that_cannot_be() {
+    let folder = with_good();
+    fs::create_dir(folder.path("folder")).unwrap();
+    let names = folder.names();
+    for (output, error) in [
+        ("gone/out", "No such file or directory (os error 2)"),
+        ("good/out", "Not a directory (os error 20)"),
+        ("folder", "Is a directory (os error 21)"),
+    ] {
+        let ended = folder.eif(&format!("roll good --output {output} --force"));
+        ended.complains(2, &format!("eif: {output}: {error}\n"));
+    }
+    let ended = folder.run(["roll", "good", "--output", ""]);
+    assert_eq!(ended.status, 2);
+    assert_eq!(folder.names(), names);
+}
+
+/// Whoever reads has stopped: no message, and no success.
+#[test]
+fn a_closed_pipe_ends_it_quietly() {
+    let folder = with_good();
+    for words in [
+        "show good good",
+        "check good",
+        "roll good",
+        "compare good good",
+        "--help",
+    ] {
+        let mut command = folder.command(words.split_whitespace());
+        let (reader, writer) = UnixStream::pair().unwrap();
+        drop(reader);
+        command.stdout(OwnedFd::from(writer));
+        let ended: Ended = command.output().unwrap().into();
+        ended.complains(2, "");
+    }
+}
+
+#[test]
+fn nothing_to_complain_to() {
+    let folder = with_good();
+    for words in ["check gone", "show", "roll gone"] {
+        let full = File::options().write(true).open("/dev/full").unwrap();
+        let mut command = folder.command(words.split_whitespace());
+        let ended: Ended = command.stderr(full).output().unwrap().into();
+        assert_eq!(ended.status, 2);
+    }
+}
+
+#[test]
+fn wrong_usage() {
+    let folder = with_good();
+    for (words, error) in [
+        ("", "which subcommand?"),
+        ("frobnicate", "no subcommand frobnicate"),
+        ("show", "FILE is missing"),
+        ("show --loud good", "no option --loud here"),
+        ("show --json=yes good", "--json takes no value"),
+        ("check -q good", "no option -q here"),
+        ("check - -", "- is named twice"),
+        ("compare good", "B is missing"),
+        ("compare good good good", "good is one too many"),
+        ("compare - -", "- is named twice"),
+        ("roll", "IMAGE is missing"),
+        ("roll good --output", "--output needs a value"),
+        ("roll good --output a --output b", "--output is given twice"),
+        ("extract good", "INDEX is missing"),
+        ("extract good one", "INDEX is no number: one"),
+        ("extract good -1", "no option -1 here"),
+        ("extract good 3", "no section 3: the image has 3, from 0 on"),
+        (
+            "extract good 99999999999999999999",
+            "INDEX is no number: 99999999999999999999",
+        ),
+        ("stream good", "whole, boot or app is missing"),
+        ("stream good all", "no stream all: whole, boot or app"),
+        ("pack", "--output is missing"),
+        ("pack --output out", "--kernel is missing"),
+        ("pack --output out --kernel good", "--cmdline is missing"),
+        (
+            "pack --output out --kernel good --cmdline x",
+            "--ramdisk is missing",
+        ),
+        (
+            "pack --output out --kernel - --cmdline x --ramdisk -",
+            "- is named twice",
+        ),
+        (
+            "pack --output out --kernel good --cmdline x --ramdisk good --arch arm",
+            "no architecture arm: x86_64 or aarch64",
+        ),
+        (
+            "pack --output out --kernel good --cmdline x --ramdisk good --format four",
+            "--format is no number: four",
+        ),
+        (
+            "pack --output out --kernel good --cmdline x --ramdisk good extra",
+            "extra is one too many",
+        ),
+    ] {
+        let ended = folder.eif(words);
+        ended.complains(2, &format!("eif: {error} (eif --help)\n"));
+    }
+    assert!(!folder.path("out").exists());
+}
+
+#[test]
+fn names_that_look_like_options() {
+    let folder = with_good();
+    folder.put("--json", folder.get("good"));
+    folder.eif("check -- --json").says(0, "--json: accepted\n");
+    folder
+        .eif("check ./--json good")
+        .says(0, "./--json: accepted\ngood: accepted\n");
+}
+
+#[test]
+fn standard_input_that_is_closed() {
+    let folder = with_good();
+    let script = "exec \"$0\" check - <&-";
+    let mut command = std::process::Command::new("sh");
+    command.args(["-c", script, env!("CARGO_BIN_EXE_eif")]);
+    command.stdin(Stdio::null()).current_dir(folder.path(""));
+    let ended: Ended = command.output().unwrap().into();
+    ended.says(1, "-: refused 2 at 0: image shorter than 548 bytes\n");
+}

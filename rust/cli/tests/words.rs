@@ -1,0 +1,243 @@
+//! Numbers and words stand once: header, Rust crate, command, manual and man page are held to each
+//! other.
+
+mod common;
+
+use common::{repository_text, Folder};
+use eif::{Reason, SectionType};
+use std::process::Command;
+
+/// `(NAME, VALUE)` of each `#define` of the header with a value.
+fn macros(header: &str) -> Vec<(&str, &str)> {
+    let lines = header
+        .lines()
+        .filter_map(|line| line.strip_prefix("#define "));
+    lines.filter_map(|line| line.split_once(' ')).collect()
+}
+
+#[track_caller]
+fn macro_value<'a>(header: &'a str, name: &str) -> &'a str {
+    let found = macros(header).into_iter().find(|(known, _)| *known == name);
+    found.unwrap_or_else(|| panic!("no {name}")).1
+}
+
+/// `(NAME, NUMBER)` of each row of one of the header's enums.
+fn enumerators<'a>(header: &'a str, name: &str) -> Vec<(&'a str, u16)> {
+    let (_, rest) = header.split_once(&format!("enum {name} {{")).expect(name);
+    let (rows, _) = rest.split_once("};").expect("the end of an enum");
+    let row = |line: &'a str| {
+        let (name, rest) = line.trim().split_once(" = ")?;
+        let digits = rest.split(|c: char| !c.is_ascii_digit()).next()?;
+        Some((name, digits.parse().ok()?))
+    };
+    rows.lines().filter_map(row).collect()
+}
+
+/// `(NAME, WORDS)` of each case of one of the header's functions that give words.
+fn cases<'a>(header: &'a str, function: &str) -> Vec<(&'a str, &'a str)> {
+    let (_, rest) = header.split_once(&format!("*{function}(")).expect(function);
+    let (body, _) = rest.split_once("\n}").expect("the end of a function");
+    let cases = body.split("case ").skip(1);
+    let case = |text: &'a str| Some((text.split_once(':')?.0, text.split('"').nth(1)?));
+    cases.filter_map(case).collect()
+}
+
+/// `IMAGE_TOO_LONG` of `ImageTooLong`.
+fn macro_name(reason: Reason) -> String {
+    let mut name = String::from("EIF");
+    for character in format!("{reason:?}").chars() {
+        if character.is_uppercase() {
+            name.push('_');
+        }
+        name.push(character.to_ascii_uppercase());
+    }
+    name
+}
+
+#[test]
+fn the_header_has_the_same_numbers_and_words() {
+    let header = repository_text("include/eif.h");
+    let numbers = enumerators(&header, "eif_number");
+    let words = cases(&header, "eif_meaning");
+    assert_eq!(
+        (numbers[0], words[0]),
+        (("EIF_ACCEPTED", 0), ("EIF_ACCEPTED", "accepted"))
+    );
+    let names: Vec<String> = Reason::ALL
+        .iter()
+        .map(|&reason| macro_name(reason))
+        .collect();
+    let reasons = || names.iter().map(|name| &name[..]).zip(Reason::ALL);
+    let expected: Vec<_> = reasons().map(|(name, &r)| (name, r as u16)).collect();
+    assert_eq!(numbers[1..], expected);
+    let expected: Vec<_> = reasons().map(|(name, r)| (name, r.meaning())).collect();
+    assert_eq!(words[1..], expected);
+}
+
+#[test]
+fn the_header_has_the_same_section_types() {
+    let header = repository_text("include/eif.h");
+    let numbers = enumerators(&header, "eif_section_type");
+    let words = cases(&header, "eif_section_name");
+    let named = |kind: SectionType| kind.name().expect("a name");
+    let name = |kind| format!("EIF_{}", named(kind).replace(' ', "_").to_uppercase());
+    let names = SectionType::ALL.map(name);
+    let types = || names.iter().map(|name| &name[..]).zip(SectionType::ALL);
+    assert_eq!(
+        numbers,
+        types()
+            .map(|(name, kind)| (name, kind.0))
+            .collect::<Vec<_>>()
+    );
+    assert_eq!(
+        words,
+        types()
+            .map(|(name, kind)| (name, named(kind)))
+            .collect::<Vec<_>>()
+    );
+}
+
+#[test]
+fn the_header_has_the_same_limits() {
+    let header = repository_text("include/eif.h");
+    for (name, value) in [
+        ("EIF_MAX_IMAGE_LENGTH", eif::MAX_IMAGE_LENGTH),
+        ("EIF_HEADER_LENGTH", eif::HEADER_LENGTH),
+        ("EIF_SECTION_HEADER_LENGTH", eif::SECTION_HEADER_LENGTH),
+        ("EIF_RECORD_HEAD_LENGTH", eif::RECORD_HEAD_LENGTH),
+        ("EIF_MAX_SECTIONS", eif::MAX_SECTIONS),
+        ("EIF_NO_RAMDISK", eif::raw::NO_RAMDISK as usize),
+    ] {
+        assert_eq!(macro_value(&header, name), value.to_string(), "{name}");
+    }
+}
+
+#[test]
+fn one_version() {
+    let header = repository_text("include/eif.h");
+    let version = env!("CARGO_PKG_VERSION");
+    assert_eq!(
+        macro_value(&header, "EIF_VERSION"),
+        format!("\"{version}\"")
+    );
+    let parts = ["MAJOR", "MINOR", "PATCH"];
+    let parts = parts.map(|part| macro_value(&header, &format!("EIF_VERSION_{part}")));
+    assert_eq!(parts.join("."), version);
+    Folder::new()
+        .eif("--version")
+        .says(0, &format!("eif {version}\n"));
+    let page = repository_text("docs/eif.1");
+    assert!(page.contains(&format!("\"eif {version}\"")), "docs/eif.1");
+}
+
+/// The rows of the manual's table of answer numbers, cell by cell.
+fn manual_rows() -> Vec<Vec<String>> {
+    let manual = repository_text("docs/MANUAL.md");
+    let (_, rest) = manual.split_once("| no. | meaning |").expect("the table");
+    let rows = rest
+        .lines()
+        .skip(2)
+        .take_while(|line| line.starts_with('|'));
+    let cells = |line: &str| -> Vec<String> {
+        let cells = line.trim_matches('|').split('|');
+        cells.map(|cell| cell.trim().to_string()).collect()
+    };
+    rows.map(cells).collect()
+}
+
+#[test]
+fn the_manual_has_the_same_words() {
+    let rows = manual_rows();
+    assert_eq!(rows.len(), Reason::ALL.len());
+    for (row, reason) in rows.iter().zip(Reason::ALL) {
+        let [number, meaning, _, advice] = &row[..] else {
+            panic!("{row:?}");
+        };
+        assert_eq!(*number, (*reason as u8).to_string());
+        assert_eq!(meaning, reason.meaning());
+        assert_eq!(advice, reason.advice());
+    }
+}
+
+/// The options in a text, each once, in order.
+fn options(text: &str) -> Vec<String> {
+    let words = text.split(|c: char| !(c == '-' || c.is_ascii_lowercase()));
+    let options = words.filter(|word| word.starts_with("--") && word.len() > 2);
+    let mut options: Vec<String> = options.map(str::to_string).collect();
+    options.sort();
+    options.dedup();
+    options
+}
+
+/// The subcommands, as `eif --help` lists them.
+fn subcommands(folder: &Folder) -> Vec<String> {
+    let help = folder.eif("--help");
+    assert_eq!(help.status, 0);
+    let rows = help
+        .text()
+        .lines()
+        .filter_map(|line| line.strip_prefix("  "));
+    let name = |row: &str| row.split_whitespace().next().map(str::to_string);
+    rows.filter_map(name).collect()
+}
+
+#[test]
+fn help_manual_and_man_page_have_the_same_subcommands_and_options() {
+    let folder = Folder::new();
+    let page = repository_text("docs/eif.1").replace("\\-", "-");
+    let manual = repository_text("docs/MANUAL.md");
+    let names = subcommands(&folder);
+    assert_eq!(
+        names.join(" "),
+        "show check compare roll pack extract stream"
+    );
+    for name in names {
+        let help = folder.run([&name[..], "--help"]);
+        assert_eq!(help.status, 0);
+        let text = help.text();
+        assert!(text.starts_with(&format!("usage: eif {name} ")));
+        assert_eq!(folder.run([&name[..], "-h"]).text(), text);
+        let (_, rest) = page
+            .split_once(&format!("\n.SS {name}\n"))
+            .expect("a part for it");
+        let part = rest.split("\n.S").next().unwrap_or(rest);
+        assert_eq!(options(part), options(text), "docs/eif.1, {name}");
+        assert!(
+            manual.contains(&format!("eif {name} ")),
+            "docs/MANUAL.md, {name}"
+        );
+    }
+}
+
+#[test]
+fn the_man_page_is_well_formed() {
+    let page = common::repository("docs/eif.1");
+    let mut groff = Command::new("groff");
+    groff.args(["-man", "-Tutf8", "-ww", "-z"]).arg(page);
+    let Ok(output) = groff.output() else {
+        eprintln!("skipped: no program `groff`");
+        return;
+    };
+    assert!(
+        output.status.success() && output.stderr.is_empty(),
+        "{output:?}"
+    );
+}
+
+/// No file of the product speaks of papers that are not in it.
+#[test]
+fn rules_are_cited_from_format() {
+    let files = [
+        "include/eif.h",
+        "README.md",
+        "docs/MANUAL.md",
+        "docs/eif.1",
+        "rust/README.md",
+    ];
+    for name in files {
+        let text = repository_text(name).to_lowercase();
+        for phrase in ["document 01", "the paper"] {
+            assert!(!text.contains(phrase), "{name}: {phrase}");
+        }
+    }
+}
