@@ -1,5 +1,5 @@
 /*
- * Document 01's worked example through the C interface. Compiles as C99 and as C++.
+ * The worked example of docs/FORMAT.md through the C interface. Compiles as C99 and as C++.
  * Prints one line and ends with status 0, or says what differs and ends with status 1.
  */
 #include "eif.h"
@@ -8,18 +8,6 @@
 #include <string.h>
 
 enum { IMAGE_LENGTH = 586, ROLL_LENGTH = 42, STAYS = 0xaa };
-
-/* The layout of each struct, as the Rust interface has it. A wrong size is a negative array length. */
-typedef char layout_of_section[sizeof(eif_section) == 24 ? 1 : -1];
-typedef char layout_of_place[sizeof(eif_place) == 16 ? 1 : -1];
-typedef char layout_of_plan[sizeof(eif_plan) == 544 ? 1 : -1];
-typedef char layout_of_plan_places[offsetof(eif_plan, places) == 32 ? 1 : -1];
-typedef char layout_of_reading[sizeof(eif_reading) == 824 ? 1 : -1];
-typedef char layout_of_reading_sections[offsetof(eif_reading, sections) == 56 ? 1 : -1];
-typedef char layout_of_answer[sizeof(eif_answer) == 24 ? 1 : -1];
-typedef char layout_of_roll_record[sizeof(eif_roll_record) == 24 ? 1 : -1];
-typedef char layout_of_roll_reading[sizeof(eif_roll_reading) == 792 ? 1 : -1];
-typedef char layout_of_roll_records[offsetof(eif_roll_reading, records) == 24 ? 1 : -1];
 
 static eif_stream_position at(uint64_t value) {
     eif_stream_position position;
@@ -97,6 +85,7 @@ static void try_write(const uint8_t *image) {
     put_place(&plan, 1, EIF_COMMAND_LINE, 1);
     put_place(&plan, 2, EIF_RAMDISK, 0);
 
+    check(is(eif_plan_length(plan), EIF_ACCEPTED, IMAGE_LENGTH), "plan's length");
     memset(out, STAYS, sizeof out);
     check(is(eif_write(plan, data, 2, out, IMAGE_LENGTH - 1), EIF_OUTPUT_TOO_SHORT, 0), "write, 585");
     check(is(eif_write(plan, data, 3, out, sizeof out), EIF_DATA_LENGTH_DIFFERS, 0), "write, data");
@@ -128,7 +117,7 @@ static void try_read(const uint8_t *image) {
     check(refused.number == EIF_IMAGE_TOO_SHORT && refused.index == 0, "read, 547 bytes");
     check(refused.version == 0 && refused.count == 0, "fields beside a refusal");
     check(refused.ramdisk_mark == 0 && refused.ramdisk_count == 0, "ramdisks beside a refusal");
-    check(refused.first_ramdisk == 32, "first ramdisk beside a refusal");
+    check(refused.first_ramdisk == EIF_NO_RAMDISK, "first ramdisk beside a refusal");
 }
 
 static void try_streams(const uint8_t *image) {
@@ -152,6 +141,8 @@ static void try_streams(const uint8_t *image) {
 static void try_roll(const uint8_t *image) {
     static const uint64_t positions[3] = {10, 21, 32};
     uint8_t out[50];
+    check(is(eif_roll_length(image, IMAGE_LENGTH), EIF_ACCEPTED, ROLL_LENGTH), "roll's length");
+    check(is(eif_roll_length(image, 547), EIF_IMAGE_TOO_SHORT, 0), "roll's length, 547 bytes");
     memset(out, STAYS, sizeof out);
     check(is(eif_roll_write(image, IMAGE_LENGTH, out, 41), EIF_OUTPUT_TOO_SHORT, 0), "roll, 41");
     check(stays(out, 0, sizeof out), "output of a refused roll");

@@ -69,8 +69,16 @@ fn a_file_that_may_not_be_read() {
 /// Also for a user that may read every file.
 #[test]
 fn a_file_that_cannot_be_read() {
-    let name = "/proc/self/mem";
-    every_reader(&with_good(), name, "Input/output error (os error 5)");
+    let folder = with_good();
+    for words in READERS {
+        let ended = folder.eif(&words.replace("FILE", "/proc/self/mem"));
+        assert_eq!((ended.status, ended.text()), (2, ""));
+        assert!(
+            ended.error.starts_with("eif: /proc/self/mem: "),
+            "{}",
+            ended.error
+        );
+    }
 }
 
 #[test]

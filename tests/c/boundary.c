@@ -1,0 +1,170 @@
+/*
+ * What eif.h promises of the boundary itself: layouts, null pointers with length 0, answers without
+ * padding, words. Compiles as C99 and as C++.
+ * Prints one line and ends with status 0, or says what differs and ends with status 1.
+ */
+#include "eif.h"
+
+#include <stdio.h>
+#include <string.h>
+
+/* The layout of each struct, as the Rust interface has it. A wrong size is a negative array length. */
+typedef char layout_of_section[sizeof(eif_section) == 24 ? 1 : -1];
+typedef char layout_of_place[sizeof(eif_place) == 16 ? 1 : -1];
+typedef char layout_of_plan[sizeof(eif_plan) == 544 ? 1 : -1];
+typedef char layout_of_plan_places[offsetof(eif_plan, places) == 32 ? 1 : -1];
+typedef char layout_of_reading[sizeof(eif_reading) == 48 + 32 * 24 ? 1 : -1];
+typedef char layout_of_reading_sections[offsetof(eif_reading, sections) == 48 ? 1 : -1];
+typedef char layout_of_answer[sizeof(eif_answer) == 24 ? 1 : -1];
+typedef char layout_of_roll_record[sizeof(eif_roll_record) == 24 ? 1 : -1];
+typedef char layout_of_roll_reading[sizeof(eif_roll_reading) == 24 + 32 * 24 ? 1 : -1];
+typedef char layout_of_roll_records[offsetof(eif_roll_reading, records) == 24 ? 1 : -1];
+
+enum { IMAGE_LENGTH = 585, ROLL_LENGTH = 41 };
+
+static int failures = 0;
+
+static void check(int holds, const char *what) {
+    if (!holds) {
+        printf("differs: %s\n", what);
+        failures++;
+    }
+}
+
+static eif_stream_position start(void) {
+    eif_stream_position position;
+    position.value = 0;
+    return position;
+}
+
+/* A kernel of one byte, an empty command line and an empty ramdisk, then the plan's count. */
+static eif_plan plan_of(uint16_t count) {
+    eif_plan plan;
+    memset(&plan, 0, sizeof plan);
+    plan.version = 2;
+    plan.count = count;
+    plan.places[0].type = EIF_KERNEL;
+    plan.places[0].length.value = 1;
+    plan.places[1].type = EIF_COMMAND_LINE;
+    plan.places[2].type = EIF_RAMDISK;
+    return plan;
+}
+
+/* What an empty C++ vector's data() may be. */
+static void try_null(const uint8_t *image) {
+    eif_plan empty = plan_of(2);
+    empty.places[0].length.value = 0;
+    check(eif_read(NULL, 0).number == EIF_IMAGE_TOO_SHORT, "read of null");
+    check(eif_whole_length(NULL, 0).number == EIF_IMAGE_TOO_SHORT, "whole length of null");
+    check(eif_boot_length(NULL, 0).number == EIF_IMAGE_TOO_SHORT, "boot length of null");
+    check(eif_app_length(NULL, 0).number == EIF_IMAGE_TOO_SHORT, "app length of null");
+    check(eif_roll_length(NULL, 0).number == EIF_IMAGE_TOO_SHORT, "roll length of null");
+    check(eif_copy_whole(NULL, 0, start(), NULL, 0).number == EIF_IMAGE_TOO_SHORT, "whole of null");
+    check(eif_copy_boot(NULL, 0, start(), NULL, 0).number == EIF_IMAGE_TOO_SHORT, "boot of null");
+    check(eif_copy_app(NULL, 0, start(), NULL, 0).number == EIF_IMAGE_TOO_SHORT, "app of null");
+    check(eif_roll_write(NULL, 0, NULL, 0).number == EIF_IMAGE_TOO_SHORT, "roll of null");
+    check(eif_roll_read(NULL, 0).number == EIF_RECORD_CUT, "roll read of null");
+    check(eif_write(empty, NULL, 0, NULL, 0).number == EIF_OUTPUT_TOO_SHORT, "write to null");
+
+    check(eif_copy_whole(image, IMAGE_LENGTH, start(), NULL, 0).number == EIF_ACCEPTED, "whole to null");
+    check(eif_copy_boot(image, IMAGE_LENGTH, start(), NULL, 0).number == EIF_ACCEPTED, "boot to null");
+    check(eif_copy_app(image, IMAGE_LENGTH, start(), NULL, 0).number == EIF_ACCEPTED, "app to null");
+    check(eif_roll_write(image, IMAGE_LENGTH, NULL, 0).number == EIF_OUTPUT_TOO_SHORT, "roll to null");
+}
+
+/* Leaves bytes on the stack, where the next call's answer is made. */
+static unsigned soil(unsigned char byte) {
+    volatile unsigned char bytes[16384];
+    unsigned sum = 0;
+    for (size_t i = 0; i < sizeof bytes; i++) {
+        bytes[i] = byte;
+    }
+    for (size_t i = 0; i < sizeof bytes; i++) {
+        sum += bytes[i];
+    }
+    return sum;
+}
+
+static int zero(const uint8_t *bytes, size_t length) {
+    for (size_t i = 0; i < length; i++) {
+        if (bytes[i] != 0) {
+            return 0;
+        }
+    }
+    return 1;
+}
+
+/* An accepted image or, with a shorter length, a refused one. */
+static void try_reading(const uint8_t *image, size_t length) {
+    static eif_reading one, other;
+    memset(&one, 0x55, sizeof one);
+    memset(&other, 0xaa, sizeof other);
+    soil(0x11);
+    one = eif_read(image, length);
+    soil(0xee);
+    other = eif_read(image, length);
+    check(memcmp(&one, &other, sizeof one) == 0, "equal readings by memcmp");
+    check(one.reserved == 0 && one.reserved_after == 0, "reserved of a reading");
+    for (unsigned i = 0; i < EIF_MAX_SECTIONS; i++) {
+        check(one.sections[i].reserved == 0, "reserved of a section");
+    }
+}
+
+static void try_roll_reading(const uint8_t *roll, size_t length) {
+    static eif_roll_reading one, other;
+    memset(&one, 0x55, sizeof one);
+    memset(&other, 0xaa, sizeof other);
+    soil(0x11);
+    one = eif_roll_read(roll, length);
+    soil(0xee);
+    other = eif_roll_read(roll, length);
+    check(memcmp(&one, &other, sizeof one) == 0, "equal roll readings by memcmp");
+    check(zero(one.reserved, sizeof one.reserved), "reserved of a roll reading");
+    for (unsigned i = 0; i < EIF_MAX_SECTIONS; i++) {
+        check(one.records[i].reserved == 0, "reserved of a record");
+        check(one.records[i].reserved_after == 0, "reserved after a record");
+    }
+}
+
+static void try_answer(const uint8_t *image, size_t length, uint8_t *out, size_t out_length) {
+    static eif_answer one, other;
+    memset(&one, 0x55, sizeof one);
+    memset(&other, 0xaa, sizeof other);
+    soil(0x11);
+    one = eif_roll_write(image, length, out, out_length);
+    soil(0xee);
+    other = eif_roll_write(image, length, out, out_length);
+    check(memcmp(&one, &other, sizeof one) == 0, "equal answers by memcmp");
+    check(zero(one.reserved, sizeof one.reserved), "reserved of an answer");
+}
+
+static void try_words(void) {
+    check(strcmp(eif_meaning(EIF_ACCEPTED), "accepted") == 0, "meaning of 0");
+    check(strcmp(eif_meaning(13), "checksum differs") == 0, "meaning of 13");
+    check(strcmp(eif_meaning(255), "unknown number") == 0, "meaning of 255");
+    check(strcmp(eif_section_name(EIF_COMMAND_LINE), "command line") == 0, "name of 2");
+    check(strcmp(eif_section_name(0), "unknown type") == 0, "name of 0");
+    check(strcmp(EIF_VERSION, "") != 0, "version");
+}
+
+int main(void) {
+    static const uint8_t data[1] = {0x4b};
+    uint8_t image[IMAGE_LENGTH], roll[ROLL_LENGTH];
+    eif_plan plan = plan_of(3);
+    check(eif_plan_length(plan).length == IMAGE_LENGTH, "plan's length");
+    check(eif_write(plan, data, sizeof data, image, sizeof image).number == EIF_ACCEPTED, "write");
+    check(eif_roll_write(image, sizeof image, roll, sizeof roll).number == EIF_ACCEPTED, "roll");
+    try_null(image);
+    try_reading(image, IMAGE_LENGTH);
+    try_reading(image, 547);
+    try_roll_reading(roll, ROLL_LENGTH);
+    try_roll_reading(roll, 9);
+    try_answer(image, IMAGE_LENGTH, roll, ROLL_LENGTH);
+    try_answer(image, IMAGE_LENGTH, roll, ROLL_LENGTH - 1);
+    try_words();
+    if (failures != 0) {
+        return 1;
+    }
+    printf("boundary: as promised\n");
+    return 0;
+}

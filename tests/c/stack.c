@@ -1,0 +1,117 @@
+/*
+ * How much stack each call takes, held to EIF_STACK_KIB. Each call runs on a stack of its own that was
+ * filled with a pattern; what is left of the pattern was not used.
+ * Prints a line for each call and ends with status 0, or says which takes more and ends with status 1.
+ */
+#define _XOPEN_SOURCE 700
+#include "eif.h"
+
+#include <stdio.h>
+#include <string.h>
+#include <ucontext.h>
+
+enum { STACK_LENGTH = 1 << 18, PATTERN = 0xa5, RAMDISKS = 30, DATA_LENGTH = 32 * 40 };
+
+static uint8_t stack[STACK_LENGTH];
+static ucontext_t here, there;
+
+static eif_plan plan;
+static uint8_t data[DATA_LENGTH];
+static uint8_t image[4096], out[4096], roll[4096];
+static size_t image_length, roll_length;
+static eif_stream_position start;
+
+/* Answers stand here, so that only the call's own stack counts. */
+static eif_reading reading;
+static eif_roll_reading roll_reading;
+static eif_answer answer;
+
+static void nothing(void) {}
+static void call_read(void) { reading = eif_read(image, image_length); }
+static void call_plan_length(void) { answer = eif_plan_length(plan); }
+static void call_write(void) { answer = eif_write(plan, data, sizeof data, out, sizeof out); }
+static void call_whole_length(void) { answer = eif_whole_length(image, image_length); }
+static void call_boot_length(void) { answer = eif_boot_length(image, image_length); }
+static void call_app_length(void) { answer = eif_app_length(image, image_length); }
+static void call_copy_whole(void) {
+    answer = eif_copy_whole(image, image_length, start, out, sizeof out);
+}
+static void call_copy_boot(void) {
+    answer = eif_copy_boot(image, image_length, start, out, sizeof out);
+}
+static void call_copy_app(void) {
+    answer = eif_copy_app(image, image_length, start, out, sizeof out);
+}
+static void call_roll_length(void) { answer = eif_roll_length(image, image_length); }
+static void call_roll_write(void) {
+    answer = eif_roll_write(image, image_length, out, sizeof out);
+}
+static void call_roll_read(void) { roll_reading = eif_roll_read(roll, roll_length); }
+
+/* The bytes of stack that a function takes, with what the switch to it takes. */
+static size_t used(void (*function)(void)) {
+    size_t left = 0;
+    memset(stack, PATTERN, sizeof stack);
+    getcontext(&there);
+    there.uc_stack.ss_sp = stack;
+    there.uc_stack.ss_size = sizeof stack;
+    there.uc_link = &here;
+    makecontext(&there, function, 0);
+    swapcontext(&here, &there);
+    while (left < sizeof stack && stack[left] == PATTERN) {
+        left++;
+    }
+    return sizeof stack - left;
+}
+
+/* The largest image in sections: kernel, command line and 30 ramdisks of 40 bytes. */
+static int prepare(void) {
+    memset(data, 0x5a, sizeof data);
+    plan.version = 2;
+    plan.count = 2 + RAMDISKS;
+    for (unsigned i = 0; i < 2 + RAMDISKS; i++) {
+        plan.places[i].type = (uint16_t)(i < 2 ? i + 1 : EIF_RAMDISK);
+        plan.places[i].length.value = 40;
+    }
+    answer = eif_write(plan, data, sizeof data, image, sizeof image);
+    image_length = (size_t)answer.length;
+    if (answer.number != EIF_ACCEPTED) {
+        return 0;
+    }
+    answer = eif_roll_write(image, image_length, roll, sizeof roll);
+    roll_length = (size_t)answer.length;
+    return answer.number == EIF_ACCEPTED;
+}
+
+int main(void) {
+    static const struct {
+        const char *name;
+        void (*function)(void);
+    } calls[] = {
+        {"eif_read", call_read},
+        {"eif_plan_length", call_plan_length},
+        {"eif_write", call_write},
+        {"eif_whole_length", call_whole_length},
+        {"eif_boot_length", call_boot_length},
+        {"eif_app_length", call_app_length},
+        {"eif_copy_whole", call_copy_whole},
+        {"eif_copy_boot", call_copy_boot},
+        {"eif_copy_app", call_copy_app},
+        {"eif_roll_length", call_roll_length},
+        {"eif_roll_write", call_roll_write},
+        {"eif_roll_read", call_roll_read},
+    };
+    int failures = 0;
+    size_t least = used(nothing);
+    if (!prepare()) {
+        printf("stack: no image to try\n");
+        return 1;
+    }
+    for (size_t i = 0; i < sizeof calls / sizeof calls[0]; i++) {
+        size_t bytes = used(calls[i].function) - least;
+        int fits = bytes <= (size_t)EIF_STACK_KIB * 1024;
+        printf("stack: %-16s %6zu bytes%s\n", calls[i].name, bytes, fits ? "" : ": too many");
+        failures += !fits || reading.number != 0 || roll_reading.number != 0 || answer.number != 0;
+    }
+    return failures != 0;
+}
