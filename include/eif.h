@@ -71,7 +71,8 @@ extern "C" {
 /* What first_ramdisk is where there is no ramdisk, and beside a refusal. */
 #define EIF_NO_RAMDISK 32
 
-/* The most stack that a call takes, in KiB (1,024 bytes): measured, not proved. */
+/* The most stack that a call takes, in KiB (1,024 bytes): measured, not proved, and without what the
+ * loader may take to find memcpy and memset at a first call. */
 #define EIF_STACK_KIB 12
 
 /* Answer numbers (FORMAT.md, Answer numbers). eif_meaning gives their words. */

@@ -239,6 +239,17 @@ fn compare_image_view(input: &Input, twin: &Result<twin::Reading, twin::Refusal>
     }
 }
 
+/// A position in, at the end of or past a stream of this length.
+fn any_position(rng: &mut Rng, length: u64) -> u64 {
+    match rng.below(6) {
+        0 | 1 => 0,
+        2 => rng.below(length as usize + 1) as u64,
+        3 => length,
+        4 => length + 1,
+        _ => rng.hostile(length),
+    }
+}
+
 fn compare_stream(rng: &mut Rng, input: &Input, stream: Stream, tally: &mut Tally) {
     let image = input.bytes;
     let (twin_stream, answer) = match stream {
@@ -257,13 +268,7 @@ fn compare_stream(rng: &mut Rng, input: &Input, stream: Stream, tally: &mut Tall
     tally.add(Call::Length, number);
 
     let length = length.unwrap_or(20);
-    let from = match rng.below(6) {
-        0 | 1 => 0,
-        2 => rng.below(length as usize + 1) as u64,
-        3 => length,
-        4 => length + 1,
-        _ => rng.hostile(length),
-    };
+    let from = any_position(rng, length);
     tally.add_input();
     let rest = length.saturating_sub(from) as usize;
     let number = compare_output(
@@ -281,6 +286,34 @@ fn compare_stream(rng: &mut Rng, input: &Input, stream: Stream, tally: &mut Tall
     tally.add(Call::Copy, number);
 }
 
+fn twin_plan(plan: &raw::Plan) -> twin::Plan {
+    let place = |place: eif::Place| twin::Place {
+        kind: place.section_type.0,
+        flags: place.flags,
+        length: place.length.0,
+    };
+    twin::Plan {
+        version: plan.version,
+        flags: plan.flags,
+        default_mem: plan.default_mem,
+        default_cpus: plan.default_cpus,
+        count: plan.count,
+        places: plan.places.map(place),
+    }
+}
+
+/// The Rust interface has as many places as the count says.
+fn rust_plan(plan: &raw::Plan) -> eif::Plan {
+    let places = plan.places.iter().chain(std::iter::repeat(&plan.places[0]));
+    eif::Plan {
+        version: plan.version,
+        flags: plan.flags,
+        default_mem: plan.default_mem,
+        default_cpus: plan.default_cpus,
+        places: places.take(usize::from(plan.count)).copied().collect(),
+    }
+}
+
 /// Writes a plan.
 pub fn compare_plan(rng: &mut Rng, ordinal: u64, given: &PlanInput, tally: &mut Tally) {
     let input = &Input {
@@ -291,28 +324,7 @@ pub fn compare_plan(rng: &mut Rng, ordinal: u64, given: &PlanInput, tally: &mut 
     };
     tally.add_input();
     let plan = given.plan;
-    let twin_place = |place: eif::Place| twin::Place {
-        kind: place.section_type.0,
-        flags: place.flags,
-        length: place.length.0,
-    };
-    let twin_plan = twin::Plan {
-        version: plan.version,
-        flags: plan.flags,
-        default_mem: plan.default_mem,
-        default_cpus: plan.default_cpus,
-        count: plan.count,
-        places: plan.places.map(twin_place),
-    };
-    // The Rust interface has as many places as the count says.
-    let places = plan.places.iter().chain(std::iter::repeat(&plan.places[0]));
-    let rust_plan = eif::Plan {
-        version: plan.version,
-        flags: plan.flags,
-        default_mem: plan.default_mem,
-        default_cpus: plan.default_cpus,
-        places: places.take(usize::from(plan.count)).copied().collect(),
-    };
+    let (twin_plan, rust_plan) = (twin_plan(&plan), rust_plan(&plan));
     let number = compare_length(
         input,
         "plan length",

@@ -1,6 +1,7 @@
 //! Options and operands of a subcommand.
 
 use crate::status::Trouble;
+use crate::words;
 use std::ffi::{OsStr, OsString};
 use std::os::unix::ffi::OsStrExt;
 
@@ -45,7 +46,7 @@ pub fn parse(options: &Options, words: &[OsString]) -> Result<Args, Trouble> {
             let value = value.ok_or_else(|| Trouble::usage(format!("{option} needs a value")))?;
             args.values.push((option, value));
         } else {
-            let name = name.to_string_lossy();
+            let name = words::shown_text(name);
             return Err(Trouble::usage(format!("no option {name} here")));
         }
     }
@@ -116,7 +117,7 @@ impl Args {
             return Err(Trouble::usage(format!("{missing} is missing")));
         }
         if let Some(extra) = self.operands.get(N) {
-            let extra = extra.to_string_lossy();
+            let extra = words::shown_text(extra);
             return Err(Trouble::usage(format!("{extra} is one too many")));
         }
         let mut operands = self.operands.iter();

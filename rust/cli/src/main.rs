@@ -42,7 +42,7 @@ fn run(words: &[OsString]) -> Result<Status, Trouble> {
     let Some(command) = COMMANDS.iter().find(|command| first == command.name) else {
         return Err(Trouble::usage(format!(
             "no subcommand {}",
-            first.to_string_lossy()
+            words::shown_text(first)
         )));
     };
     let args = args::parse(&command.options, rest)?;

@@ -11,6 +11,11 @@ pub fn shown(name: &OsStr) -> Vec<u8> {
     name.as_bytes().iter().map(printed).collect()
 }
 
+/// The same as text, for messages about the command line.
+pub fn shown_text(word: &OsStr) -> String {
+    String::from_utf8_lossy(&shown(word)).into_owned()
+}
+
 /// `NAME: text`.
 pub fn about(name: &OsStr, text: &str) -> Vec<u8> {
     [&shown(name)[..], b": ", text.as_bytes()].concat()

@@ -4,6 +4,7 @@ mod common;
 
 use common::json::{parse, Value};
 use common::Folder;
+use eif::Reason;
 use eif_cases::{image_cases, image_of_length, worked_image, Layout, Section, MAX_IMAGE};
 
 const SHOWN: &str = "\
@@ -90,17 +91,16 @@ fn a_file_that_may_be_a_cut_roll_is_told_so() {
     assert_eq!(lines[2], as_roll);
 }
 
+/// The object that `eif show --json` prints for a file.
+fn object(folder: &Folder, name: &str, status: i32) -> Value {
+    let ended = folder.run(["show", "--json", name]);
+    assert_eq!(ended.status, status);
+    parse(ended.text().trim_end())
+}
+
 #[test]
-fn json_is_read_back() {
-    let folder = packed();
-    damaged(&folder);
-    folder.eif("roll packed.eif --output roll").says(0, "");
-    let ended = folder.eif("show --json packed.eif damaged.eif roll");
-    assert_eq!(ended.status, 1);
-    let objects: Vec<Value> = ended.text().lines().map(parse).collect();
-    let [image, refused, roll] = &objects[..] else {
-        panic!("{objects:?}");
-    };
+fn json_of_an_image_is_read_back() {
+    let image = object(&packed(), "packed.eif", 0);
     let keys = "file accepted version flags architecture default_mem default_cpus sections";
     assert_eq!(image.keys().join(" "), keys);
     assert_eq!(*image.get("file"), Value::Text("packed.eif".into()));
@@ -109,29 +109,45 @@ fn json_is_read_back() {
     assert_eq!(*image.get("flags"), Value::Number(1));
     assert_eq!(*image.get("architecture"), Value::Text("aarch64".into()));
     let last = &image.get("sections").items()[4];
-    assert_eq!(
-        last.keys().join(" "),
-        "index type name flags offset position length"
-    );
+    let keys = "index type name flags offset position length";
+    assert_eq!(last.keys().join(" "), keys);
     let numbers = ["index", "type", "flags", "offset", "position", "length"];
     let numbers = numbers.map(|key| last.get(key).clone());
     assert_eq!(numbers, [4, 3, 0, 622, 634, 23].map(Value::Number));
     assert_eq!(*last.get("name"), Value::Text("ramdisk".into()));
+}
 
-    assert_eq!(
-        refused.keys().join(" "),
-        "file accepted number index meaning"
-    );
+#[test]
+fn json_of_a_refusal_is_read_back() {
+    let folder = packed();
+    damaged(&folder);
+    let refused = object(&folder, "damaged.eif", 1);
+    let keys = "file accepted number index meaning";
+    assert_eq!(refused.keys().join(" "), keys);
     assert_eq!(*refused.get("accepted"), Value::Truth(false));
     assert_eq!(*refused.get("number"), Value::Number(13));
-    assert_eq!(
-        *refused.get("meaning"),
-        Value::Text("checksum differs".into())
-    );
+    assert_eq!(*refused.get("index"), Value::Number(0));
+    let meaning = Value::Text("checksum differs".into());
+    assert_eq!(*refused.get("meaning"), meaning);
+}
 
+#[test]
+fn json_of_a_roll_is_read_back() {
+    let folder = packed();
+    folder.eif("roll packed.eif --output roll").says(0, "");
+    let roll = object(&folder, "roll", 0);
     assert_eq!(roll.keys().join(" "), "file accepted records");
     let first = &roll.get("records").items()[0];
     assert_eq!(first.keys().join(" "), "index type name position length");
+    assert_eq!(*first.get("position"), Value::Number(10));
+}
+
+#[test]
+fn json_has_one_line_a_file() {
+    let folder = packed();
+    damaged(&folder);
+    let ended = folder.eif("show --json packed.eif damaged.eif packed.eif");
+    assert_eq!((ended.status, ended.text().lines().count()), (1, 3));
 }
 
 #[test]
@@ -165,11 +181,15 @@ fn every_number_of_the_reader_is_told() {
         let (number, index) = (case.number, case.index);
         if number == 0 {
             ended.says(0, "case.eif: accepted\n");
-        } else {
-            assert_eq!(ended.status, 1);
-            let start = format!("case.eif: refused {number} at {index}: ");
-            assert!(ended.text().starts_with(&start), "{}", case.name);
+            continue;
         }
+        let reason = Reason::from_number(number).expect("a reason");
+        let (meaning, advice) = (reason.meaning(), reason.advice());
+        let line = format!("case.eif: refused {number} at {index}: {meaning}\n");
+        ended.says(1, &line);
+        let shown = folder.eif("show case.eif");
+        let lines = format!("{line}  what to do: {advice}\n");
+        assert!(shown.text().starts_with(&lines), "{}", shown.text());
     }
 }
 

@@ -239,61 +239,69 @@ fn nothing_to_complain_to() {
     }
 }
 
+/// Command lines and what is wrong with them.
+const WRONG: &[(&str, &str)] = &[
+    ("", "which subcommand?"),
+    ("frobnicate", "no subcommand frobnicate"),
+    ("show", "FILE is missing"),
+    ("show --loud good", "no option --loud here"),
+    ("show --json=yes good", "--json takes no value"),
+    ("check -q good", "no option -q here"),
+    ("check - -", "- is named twice"),
+    ("compare good", "B is missing"),
+    ("compare good good good", "good is one too many"),
+    ("compare - -", "- is named twice"),
+    ("roll", "IMAGE is missing"),
+    ("roll good --output", "--output needs a value"),
+    ("roll good --output a --output b", "--output is given twice"),
+    ("extract good", "INDEX is missing"),
+    ("extract good one", "INDEX is no number: one"),
+    ("extract good -1", "no option -1 here"),
+    (
+        "extract good 3",
+        "good: no section 3: there are 3, from 0 on",
+    ),
+    (
+        "extract good 99999999999999999999",
+        "INDEX is no number: 99999999999999999999",
+    ),
+    ("stream good", "whole, boot or app is missing"),
+    ("stream good all", "no stream all: whole, boot or app"),
+    ("pack", "--output is missing"),
+    ("pack --output out", "--kernel is missing"),
+    ("pack --output out --kernel good", "--cmdline is missing"),
+    (
+        "pack --output out --kernel good --cmdline x",
+        "--ramdisk is missing",
+    ),
+    (
+        "pack --output out --kernel - --cmdline x --ramdisk -",
+        "- is named twice",
+    ),
+    (
+        "pack --output out --kernel good --cmdline x --ramdisk good --arch arm",
+        "no architecture arm: x86_64 or aarch64",
+    ),
+    (
+        "pack --output out --kernel good --cmdline x --ramdisk good --format four",
+        "--format is no number: four",
+    ),
+    (
+        "pack --output out --kernel good --cmdline x --ramdisk good extra",
+        "extra is one too many",
+    ),
+];
+
 #[test]
 fn wrong_usage() {
     let folder = with_good();
-    for (words, error) in [
-        ("", "which subcommand?"),
-        ("frobnicate", "no subcommand frobnicate"),
-        ("show", "FILE is missing"),
-        ("show --loud good", "no option --loud here"),
-        ("show --json=yes good", "--json takes no value"),
-        ("check -q good", "no option -q here"),
-        ("check - -", "- is named twice"),
-        ("compare good", "B is missing"),
-        ("compare good good good", "good is one too many"),
-        ("compare - -", "- is named twice"),
-        ("roll", "IMAGE is missing"),
-        ("roll good --output", "--output needs a value"),
-        ("roll good --output a --output b", "--output is given twice"),
-        ("extract good", "INDEX is missing"),
-        ("extract good one", "INDEX is no number: one"),
-        ("extract good -1", "no option -1 here"),
-        ("extract good 3", "no section 3: the image has 3, from 0 on"),
-        (
-            "extract good 99999999999999999999",
-            "INDEX is no number: 99999999999999999999",
-        ),
-        ("stream good", "whole, boot or app is missing"),
-        ("stream good all", "no stream all: whole, boot or app"),
-        ("pack", "--output is missing"),
-        ("pack --output out", "--kernel is missing"),
-        ("pack --output out --kernel good", "--cmdline is missing"),
-        (
-            "pack --output out --kernel good --cmdline x",
-            "--ramdisk is missing",
-        ),
-        (
-            "pack --output out --kernel - --cmdline x --ramdisk -",
-            "- is named twice",
-        ),
-        (
-            "pack --output out --kernel good --cmdline x --ramdisk good --arch arm",
-            "no architecture arm: x86_64 or aarch64",
-        ),
-        (
-            "pack --output out --kernel good --cmdline x --ramdisk good --format four",
-            "--format is no number: four",
-        ),
-        (
-            "pack --output out --kernel good --cmdline x --ramdisk good extra",
-            "extra is one too many",
-        ),
-    ] {
+    for (words, error) in WRONG {
         let ended = folder.eif(words);
         ended.complains(2, &format!("eif: {error} (eif --help)\n"));
     }
     assert!(!folder.path("out").exists());
+    let ended = folder.run(["\u{1b}[2J\n"]);
+    ended.complains(2, "eif: no subcommand ?[2J? (eif --help)\n");
 }
 
 #[test]

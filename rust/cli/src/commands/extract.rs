@@ -43,14 +43,15 @@ fn run(args: Args) -> Result<Status, Trouble> {
     let Some((_, data)) = image.get(index) else {
         let count = image.sections().len();
         return Err(Trouble::usage(format!(
-            "no section {index}: the image has {count}, from 0 on"
+            "{}: no section {index}: there are {count}, from 0 on",
+            words::shown_text(&input.name)
         )));
     };
     output.write(data).map(|()| Status::Fine)
 }
 
 fn number(word: &OsStr) -> Result<usize, Trouble> {
-    let word = word.to_string_lossy();
+    let word = words::shown_text(word);
     word.parse()
         .map_err(|_| Trouble::usage(format!("INDEX is no number: {word}")))
 }

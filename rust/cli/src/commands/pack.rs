@@ -96,7 +96,7 @@ fn architecture(args: &Args) -> Result<Architecture, Trouble> {
     let Some(name) = args.one("--arch")? else {
         return Ok(Architecture::default());
     };
-    let name = name.to_string_lossy();
+    let name = words::shown_text(&name);
     name.parse()
         .map_err(|_| Trouble::usage(format!("no architecture {name}: x86_64 or aarch64")))
 }
@@ -106,7 +106,7 @@ fn version(args: &Args) -> Result<Option<u16>, Trouble> {
     let Some(word) = args.one("--format")? else {
         return Ok(None);
     };
-    let word = word.to_string_lossy();
+    let word = words::shown_text(&word);
     let number = word.parse().map(Some);
     number.map_err(|_| Trouble::usage(format!("--format is no number: {word}")))
 }

@@ -47,7 +47,7 @@ fn run(args: Args) -> Result<Status, Trouble> {
 }
 
 fn named(name: &OsStr) -> Result<Stream, Trouble> {
-    let name = name.to_string_lossy();
+    let name = words::shown_text(name);
     name.parse()
         .map_err(|_| Trouble::usage(format!("no stream {name}: whole, boot or app")))
 }
