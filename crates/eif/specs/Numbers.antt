@@ -106,3 +106,6 @@ bytesAfterEnd = 18
 
 abbrev pub pastStreamEnd : ℕ
 pastStreamEnd = 19
+
+abbrev pub messageTooLong : ℕ
+messageTooLong = 29

@@ -177,6 +177,8 @@ impl Refusal {
     pub const BYTES_AFTER_END: u8 = 18;
 
     pub const PAST_STREAM_END: u8 = 19;
+
+    pub const MESSAGE_TOO_LONG: u8 = 29;
 }
 
 pub enum Verdict {

@@ -1,5 +1,9 @@
 // The library's calls for programs in C and Rust: answers are flat structs with the answer number (0: accepted) and its index
 // instead of a verdict. A slice is a pointer and a length. include/eif.h declares these functions to C.
+//
+// The digest and the registers stand in measure.rt.
+mod measure;
+
 ghost use mathlib.Core.Path.{_≡_};
 ghost use mathlib.Core.List.{map};
 ghost use lib.ListN.{length};

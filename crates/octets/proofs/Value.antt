@@ -83,7 +83,7 @@ leValue-lt (b ∷ bs) a = rw pow-suc (let h = digits-lt (leValue-lt bs (a .1)) (
 
 -- ---- bytes of a number, and their value
 
-be-read : (a w n : ℕ) → beFrom a (beBytes w n) ≡ a * 256 ^ w + n % 256 ^ w
+pub be-read : (a w n : ℕ) → beFrom a (beBytes w n) ≡ a * 256 ^ w + n % 256 ^ w
 be-read a zero n = sym (ap (λ (x : ℕ). a * 1 + x) (mod-one n) ∙ add-zero (a * 1) ∙ mul-one a)
 be-read a (suc w) n =
     be-read (a * 256 + n / 256 ^ w % 256) w n

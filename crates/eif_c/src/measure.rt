@@ -1,0 +1,71 @@
+// SHA-384 fed in pieces, and the three registers of an image, for programs in C and Rust. A state is a value that the caller keeps.
+ghost use mathlib.Core.Path.{_≡_};
+ghost use Rattle.sha384.specs.State.{fresh, updated, finished};
+ghost use Rattle.eif_registers.specs.Rule.{registersAnswer};
+ghost use Rattle.eif_c.specs.Measure.{flatFed, flatDigest, flatRegisters};
+use eif_registers::Digest;
+use sha384::State;
+
+// The answer to a piece; beside a refusal, the state is as it was. `reserved` is 0.
+#[repr(C)]
+pub struct EifSha384Fed {
+    pub number: u8,
+    pub reserved: [u8; 7],
+    pub index: u64,
+    pub state: State,
+}
+
+// The registers 0, 1 and 2 of an image; beside a refusal, all zero. `reserved` is 0.
+#[repr(C)]
+pub struct EifRegisters {
+    pub number: u8,
+    pub reserved: [u8; 7],
+    pub index: u64,
+    pub registers: [Digest; 3],
+}
+
+// The state before the first byte.
+#[no_mangle]
+pub extern "C" fn eif_sha384_begin() -> State
+    ensures { λ r. ⌜ r ≡ fresh ⌝ }
+{
+    sha384::new()
+}
+
+#[no_mangle]
+pub extern "C" fn eif_sha384_update(state: State, piece: &[u8]) -> EifSha384Fed
+    ensures { λ r. ⌜ r ≡ flatFed (updated state (now (piece .entry))) ⌝ }
+{
+    let done = sha384::update(state, piece);
+    let verdict = done.verdict;
+    let after = done.state;
+    EifSha384Fed {
+        number: crate::number_of(verdict),
+        reserved: [0u8; 7],
+        index: crate::index_of(verdict),
+        state: after,
+    }
+}
+
+#[no_mangle]
+pub extern "C" fn eif_sha384_finish(state: State) -> Digest
+    ensures { λ r. ⌜ r ≡ flatDigest (finished state) ⌝ }
+{
+    let digest = sha384::finish(state);
+    Digest(digest)
+}
+
+#[no_mangle]
+pub extern "C" fn eif_registers(image: &[u8]) -> EifRegisters
+    ensures { λ r. ⌜ r ≡ flatRegisters (registersAnswer (now (image .entry))) ⌝ }
+{
+    let measured = eif_registers::registers(image);
+    let verdict = measured.verdict;
+    let registers = measured.registers;
+    EifRegisters {
+        number: crate::number_of(verdict),
+        reserved: [0u8; 7],
+        index: crate::index_of(verdict),
+        registers,
+    }
+}

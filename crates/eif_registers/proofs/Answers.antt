@@ -1,0 +1,53 @@
+-- The registers of an accepted image by the step over its reading; and the answers.
+-- Assumes nothing.
+use Prim.Native.Nat.{ℕ}
+use mathlib.Core.Path.{_≡_, refl, sym, ap, ap₂, _∙_}
+use mathlib.Core.List.{List, [], _∷_, _++_}
+use lib.ListN.{length, replicate}
+use Rattle.eif.specs.Numbers.{placeCount}
+use Rattle.eif.specs.Layout.{viewOf, countOf}
+use Rattle.eif.specs.Reading.{verdictOf, sectionsOf, sectionAt, blankSection, readImage}
+use Rattle.eif.specs.Stream.{streamSections, streamOf, joined}
+use Rattle.eif.specs.declared.Reading.{Reading}
+use Rattle.eif.specs.declared.Section.{Section}
+use Rattle.eif.specs.declared.Refusal.{Refusal}
+use Rattle.eif.specs.declared.Stream.{Stream}
+use Rattle.eif.specs.declared.Stream.the-variants.{Whole, Boot, App}
+use Rattle.eif.specs.declared.Verdict.{Verdict}
+use Rattle.eif.specs.declared.Verdict.the-variants.{Accepted, Refused}
+use Rattle.eif_rules.proofs.Table.{length-filled}
+use Rattle.eif_rules.proofs.Accept.{passes}
+use Rattle.eif_rules.proofs.Reading.{reading-accepted}
+use Rattle.eif_streams.proofs.Reading.{accepted}
+use Rattle.sha384_block.specs.Fips.{sha384}
+use Rattle.sha384.specs.State.{finished, fresh}
+use Rattle.eif_registers.specs.Rule.{registerFrom, registerOf, imageRegisters, noRegisters, asDigests, registersFor, registersAnswer, hashed, stepRegister, stepRegisters}
+use Rattle.eif_registers.specs.declared.Measurement.{Measurement}
+use Rattle.eif_registers.proofs.Hashed.{digest-joined, stream-fits}
+
+module _ (s : List ℕ) where
+  pub answer-refused : (r : Refusal) → verdictOf s ≡ Refused r → registersFor (Refused r) (replicate 48 0 ∷ replicate 48 0 ∷ replicate 48 0 ∷ []) ≡ registersAnswer s
+  unfolding registersAnswer noRegisters
+  answer-refused r e = simp e
+
+  module _ (ok : verdictOf s ≡ Accepted) where
+    register-is : (stream : Stream) → stepRegister s (sectionsOf s) stream ≡ registerOf s stream
+    unfolding stepRegister registerOf streamOf
+    register-is stream =
+        ap registerFrom (digest-joined s (streamSections stream (sectionsOf s)) (stream-fits s stream (sectionsOf s) (passes s ok .head .small) (length-filled (sectionAt s) blankSection placeCount (countOf s))))
+
+    registers-are : stepRegisters s (sectionsOf s) ≡ imageRegisters s
+    unfolding stepRegisters imageRegisters
+    registers-are = rw (register-is Whole, register-is Boot, register-is App)
+
+    pub answer-accepted : registersFor Accepted (imageRegisters s) ≡ registersAnswer s
+    unfolding registersAnswer
+    answer-accepted = simp ok
+
+    -- the step over the image's own reading
+    pub step-is : (r : Reading) → r ≡ readImage s → stepRegisters s (r .sections) ≡ imageRegisters s
+    step-is r is = ap (λ (x : Reading). stepRegisters s (x .sections)) (is ∙ reading-accepted s ok) ∙ registers-are
+
+-- three, one by one
+pub three : {A : Type 0} {x y z x₁ y₁ z₁ : A} → x ≡ x₁ → y ≡ y₁ → z ≡ z₁ → _≡_ {A = List A} (x ∷ y ∷ z ∷ []) (x₁ ∷ y₁ ∷ z₁ ∷ [])
+three p q r = cc

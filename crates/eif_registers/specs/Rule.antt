@@ -1,0 +1,59 @@
+-- The three registers of an image (FORMAT.md, Registers), and those of any sections of any bytes.
+-- Assumes nothing.
+use Prim.Native.Nat.{ℕ}
+use mathlib.Core.List.{List, [], _∷_, _++_}
+use lib.ListN.{replicate}
+use Rattle.eif.specs.Answers.{beside}
+use Rattle.eif.specs.Reading.{dataOf, verdictOf}
+use Rattle.eif.specs.Stream.{streamSections, streamOf}
+use Rattle.eif.specs.declared.Section.{Section}
+use Rattle.eif.specs.declared.Stream.{Stream}
+use Rattle.eif.specs.declared.Stream.the-variants.{Whole, Boot, App}
+use Rattle.eif.specs.declared.Verdict.{Verdict}
+use Rattle.sha384_block.specs.Fips.{sha384}
+use Rattle.sha384.specs.State.{fresh, updated, finished}
+use Rattle.sha384.specs.declared.State.{State}
+use Rattle.eif_registers.specs.declared.Digest.{Digest}
+use Rattle.eif_registers.specs.declared.Measurement.{Measurement}
+
+-- ---- the rule: SHA-384 of forty-eight zero bytes followed by the stream's SHA-384
+
+-- a register from the digest of its stream
+unfoldable pub registerFrom : List ℕ → List ℕ
+registerFrom digest = sha384 (replicate 48 0 ++ digest)
+
+unfoldable pub registerOf : List ℕ → Stream → List ℕ
+registerOf s stream = registerFrom (sha384 (streamOf s stream))
+
+-- registers 0, 1 and 2 of an image are those of Whole, Boot and App
+unfoldable pub imageRegisters : List ℕ → List (List ℕ)
+imageRegisters s = registerOf s Whole ∷ registerOf s Boot ∷ registerOf s App ∷ []
+
+-- all zero
+unfoldable pub noRegisters : List (List ℕ)
+noRegisters = replicate 3 (replicate 48 0)
+
+-- as the answer holds them
+abbrev pub asDigests : List (List ℕ) → List Digest
+asDigests [] = []
+asDigests (x ∷ xs) = record { 0 = x } ∷ asDigests xs
+
+abbrev pub registersFor : Verdict → List (List ℕ) → Measurement
+registersFor verdict registers = record { verdict = verdict; registers = asDigests registers }
+
+-- the image's refusal and all zero, or its registers
+unfoldable pub registersAnswer : List ℕ → Measurement
+registersAnswer s = registersFor (verdictOf s) (beside (verdictOf s) (imageRegisters s) noRegisters)
+
+-- ---- the step over an image already read, for any sections and any bytes, also where these are not of one image
+
+-- the state after the data of sections, one piece each
+unfoldable pub hashed : List ℕ → State → List Section → State
+hashed s st [] = st
+hashed s st (x ∷ xs) = hashed s (updated st (dataOf s x) .state) xs
+
+unfoldable pub stepRegister : List ℕ → List Section → Stream → List ℕ
+stepRegister s l stream = registerFrom (finished (hashed s fresh (streamSections stream l)))
+
+unfoldable pub stepRegisters : List ℕ → List Section → List (List ℕ)
+stepRegisters s l = stepRegister s l Whole ∷ stepRegister s l Boot ∷ stepRegister s l App ∷ []

@@ -1,0 +1,41 @@
+-- The answer to a piece, by whether the total would pass the limit.
+-- Assumes nothing.
+use Prim.Native.Nat.{ℕ, _+_, _-_, _<_, _≤_}
+use mathlib.Core.Path.{_≡_, refl, sym, ap, _∙_}
+use mathlib.Core.List.{List}
+use mathlib.Core.Bool.{Bool, true, false}
+use mathlib.Core.Logic.{⊎-elim}
+use native.Mathlib.Omega.{arith}
+use borrow.Author.Tests.{lt-ltb, le-ltb}
+use lib.Dec.{ltb}
+use lib.ListN.{length}
+use Rattle.octets.proofs.Over.{le-or-lt}
+use Rattle.eif.specs.Numbers.{messageTooLong}
+use Rattle.eif.specs.Answers.{refuse}
+use Rattle.eif.specs.declared.Verdict.{Verdict}
+use Rattle.eif.specs.declared.Verdict.the-variants.{Accepted}
+use Rattle.sha384.specs.State.{takeBytes, fillingOf, fed, totalLimit, updated}
+use Rattle.sha384.specs.declared.Filling.{Filling}
+use Rattle.sha384.specs.declared.State.{State}
+use Rattle.sha384.specs.declared.Updated.{Updated}
+
+-- a size compared with what is left below a limit
+pub left-over : (limit total size : ℕ) → total ≤ limit → ltb (limit - total) size ≡ ltb limit (total + size)
+left-over limit total size h =
+    ⊎-elim
+    (λ (g : total + size ≤ limit). le-ltb (limit - total) size (omega arith) ∙ sym (le-ltb limit (total + size) g))
+    (λ (g : limit < total + size). lt-ltb (limit - total) size (omega arith) ∙ sym (lt-ltb limit (total + size) g))
+    (le-or-lt (total + size) limit)
+
+module _ (st : State) (s : List ℕ) where
+  abbrev with : Verdict → State → Updated
+  with v x = record { verdict = v; state = x }
+
+  pub piece-refused : ltb totalLimit (st .total + length s) ≡ true → {v : Verdict} → v ≡ refuse messageTooLong 0 → with v st ≡ updated st s
+  unfolding updated
+  piece-refused h e = simp h (ap (λ (x : Verdict). with x st) e)
+
+  pub piece-taken : ltb totalLimit (st .total + length s) ≡ false → {m : Filling} → m ≡ takeBytes (fillingOf st) s
+      → with Accepted (record { words = m .words; block = m .block; total = st .total + length s }) ≡ updated st s
+  unfolding updated fed
+  piece-taken h e = simp h (ap (λ (x : Filling). with Accepted (record { words = x .words; block = x .block; total = st .total + length s })) e)

@@ -1,0 +1,220 @@
+// SHA-384 (FIPS 180-4), fed in pieces of any size.
+//
+// A state goes in by value and comes back: `new`, then `update` for each piece, then `finish`. A state may be kept and gone on from
+// more than once. Every public function is total: each contract holds for any state, and the laws of a state begun fresh are in
+// sha384_laws.
+ghost use mathlib.Core.Path.{_≡_};
+ghost use Prim.Native.Nat.{_+_, _<_, _≤_, min};
+ghost use lib.Dec.{ltb};
+ghost use lib.ListN.{length, take};
+ghost use Rattle.sha384_block.specs.Fips.{roundConstants, digestOf, padding, zerosFor};
+ghost use Rattle.sha384.specs.State.{noBytes, takeBytes, fresh, totalLimit, updated, finished};
+use eif::Refusal;
+use eif::Verdict;
+
+// The most bytes that one digest is of.
+pub const TOTAL_LIMIT: u64 = 0x1FFFFFFFFFFFFFFF;
+
+const BLOCK: usize = 128;
+
+// The hash value of the whole blocks so far, the bytes of the block that is being filled (the others zero), and how many bytes were
+// taken in all.
+#[repr(C)]
+pub struct State {
+    pub words: [u64; 8],
+    pub block: [u8; BLOCK],
+    pub total: u64,
+}
+
+// What a piece is answered with: beside a refusal, the state is as it was.
+pub struct Updated {
+    pub verdict: Verdict,
+    pub state: State,
+}
+
+// The same as a state, but for the total: how many bytes of the block are there.
+pub struct Filling {
+    pub words: [u64; 8],
+    pub block: [u8; BLOCK],
+    pub used: usize,
+}
+
+// ---- pieces
+
+fn lesser(a: usize, b: usize) -> usize
+    ensures { λ r. ⌜ r ≡ min a b ⌝ }
+{
+    if a < b { a } else { b }
+}
+
+// A block before its first byte.
+fn no_bytes() -> [u8; BLOCK]
+    ensures { λ r. ⌜ r ≡ noBytes ⌝ }
+{
+    [0u8; BLOCK]
+}
+
+// Bytes for which the block has room. A whole block is hashed where it lies.
+fn fill(from: Filling, part: &[u8], k: &[u64; 80]) -> Filling
+    requires { ⌜ (0 < length (now part)) × (from .used + length (now part) ≤ 128) ⌝ }
+    requires { ⌜ now k ≡ roundConstants ⌝ }
+    ensures { λ r. ⌜ r ≡ takeBytes from (now (part .entry)) ⌝ }
+{
+    let words = from.words;
+    let mut block = from.block;
+    let used = from.used;
+    let size = part.len();
+    if size == BLOCK {
+        let whole = sha384_block::compress(words, part, k);
+        let none = no_bytes();
+        return Filling {
+            words: whole,
+            block: none,
+            used: 0,
+        };
+    }
+    octets::copy(&mut block, used, part);
+    if used + size == BLOCK {
+        let full = sha384_block::compress(words, &block, k);
+        let next = no_bytes();
+        return Filling {
+            words: full,
+            block: next,
+            used: 0,
+        };
+    }
+    Filling {
+        words,
+        block,
+        used: used + size,
+    }
+}
+
+fn take_bytes(from: Filling, s: &[u8]) -> Filling
+    requires { ⌜ from .used < 128 ⌝ }
+    ensures { λ r. ⌜ r ≡ takeBytes from (now (s .entry)) ⌝ }
+{
+    let k = sha384_block::constants();
+    let mut m = from;
+    let mut i: usize = 0;
+    while i < s.len() {
+        let used = m.used;
+        let size = lesser(BLOCK - used, s.len() - i);
+        let end = i + size;
+        let next = fill(m, &s[i..end], &k);
+        m = next;
+        i = end;
+    }
+    m
+}
+
+// The state before the first byte.
+pub fn new() -> State
+    ensures { λ r. ⌜ r ≡ fresh ⌝ }
+{
+    let words = sha384_block::initial();
+    let block = no_bytes();
+    State {
+        words,
+        block,
+        total: 0,
+    }
+}
+
+// Whether a piece of so many bytes would carry the total past the limit; the sum itself could wrap.
+fn too_long(total: u64, size: u64) -> bool
+    ensures { λ r. ⌜ r ≡ ltb totalLimit (total + size) ⌝ }
+{
+    if TOTAL_LIMIT < total {
+        return true;
+    }
+    TOTAL_LIMIT - total < size
+}
+
+// The state after a piece; or a refusal, and the state as it was.
+pub fn update(state: State, piece: &[u8]) -> Updated
+    ensures { λ r. ⌜ r ≡ updated state (now (piece .entry)) ⌝ }
+{
+    let words = state.words;
+    let block = state.block;
+    let total = state.total;
+    let size = piece.len() as u64;
+    if too_long(total, size) {
+        return Updated {
+            verdict: Verdict::refuse(Refusal::MESSAGE_TOO_LONG, 0),
+            state,
+        };
+    }
+    let from = Filling {
+        words,
+        block,
+        used: (total % 128) as usize,
+    };
+    let after = take_bytes(from, piece);
+    let words_after = after.words;
+    let block_after = after.block;
+    let total_after = total + size;
+    Updated {
+        verdict: Verdict::Accepted,
+        state: State {
+            words: words_after,
+            block: block_after,
+            total: total_after,
+        },
+    }
+}
+
+// ---- the digest
+
+// The digest of a hash value: its first 48 bytes.
+fn digest(words: [u64; 8]) -> [u8; 48]
+    ensures { λ r. ⌜ r ≡ digestOf words ⌝ }
+{
+    let mut out = [0u8; 48];
+    let mut i: usize = 0;
+    while i < 6 {
+        octets::put_be64(&mut out, 8 * i, words[i]);
+        i += 1;
+    }
+    out
+}
+
+// How many zero bytes the padding of a message of so many bytes has before the length.
+fn zeros_for(total: u64) -> usize
+    ensures { λ r. ⌜ r ≡ zerosFor total ⌝ }
+{
+    ((239 - total % 128) % 128) as usize
+}
+
+// The padding of a message of so many bytes: one byte, as many zeros as it takes, and the length in bits, after which nothing of the
+// array counts.
+fn padding_of(total: u64, zeros: usize) -> [u8; 144]
+    requires { ⌜ zeros ≡ zerosFor total ⌝ }
+    ensures { λ r. ⌜ (length r ≡ 144) × (take (zeros + 17) r ≡ padding total) ⌝ }
+{
+    let mut pad = [0u8; 144];
+    pad[0] = 0x80;
+    octets::put_be64(&mut pad, zeros + 1, total >> 61);
+    octets::put_be64(&mut pad, zeros + 9, total << 3);
+    pad
+}
+
+// The digest of all bytes that were taken in.
+pub fn finish(state: State) -> [u8; 48]
+    ensures { λ r. ⌜ r ≡ finished state ⌝ }
+{
+    let total = state.total;
+    let words = state.words;
+    let block = state.block;
+    let from = Filling {
+        words,
+        block,
+        used: (total % 128) as usize,
+    };
+    let zeros = zeros_for(total);
+    let pad = padding_of(total, zeros);
+    let end = zeros + 17;
+    let last = take_bytes(from, &pad[..end]);
+    let hash = last.words;
+    digest(hash)
+}

@@ -1,0 +1,4 @@
+pub mod Blocks
+pub mod Fed
+pub mod Pieces
+pub mod Standard
