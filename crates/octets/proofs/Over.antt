@@ -7,8 +7,9 @@ use mathlib.Core.Logic.{_⊎_, inl, inr, ⊎-elim}
 use native.Mathlib.Omega.{arith}
 use native.Mathlib.Decide.{decLe}
 use native.Mathlib.Nat.{add-zero, suc-add, zero-add}
-use lib.ListN.{length, take, drop, set, length-set, length-take, length-drop, take-append-drop}
-use lib.Seq.{set-out, take-nil, drop-drop}
+use native.Mathlib.Numerals.{add-one}
+use lib.ListN.{length, take, drop, getD, set, length-set, length-take, length-drop, take-append-drop}
+use lib.Seq.{set-out, take-nil, drop-cons, drop-drop}
 use Rattle.octets.specs.Over.{over}
 
 pub length-over : (d : List ℕ) (at : ℕ) (bs : List ℕ) → length (over d at bs) ≡ length d
@@ -77,6 +78,11 @@ over-end d at (b ∷ bs) h = over-out d at (b ∷ bs) (omega arith)
 pub over-next : (d : List ℕ) (at k b : ℕ) (bs : List ℕ) → over (set d (at + k) b) (at + (k + 1)) bs ≡ over d (at + k) (b ∷ bs)
 unfolding over
 over-next d at k b bs = ap (λ (n : ℕ). over (set d (at + k) b) n bs) (let e : at + (k + 1) ≡ at + k + 1 = omega arith in e)
+
+-- and where it stores the bytes of a list in order
+pub over-step : (d s : List ℕ) (at k b : ℕ) → k < length s → b ≡ getD s k 0 → over (set d (at + k) b) (at + (k + 1)) (drop (k + 1) s) ≡ over d (at + k) (drop k s)
+over-step d s at k b h e =
+    over-next d at k b (drop (k + 1) s) ∙ ap (λ (x : ℕ). over d (at + k) (x ∷ drop (k + 1) s)) e ∙ ap (over d (at + k)) (rw add-one (sym (drop-cons s k 0 h)))
 
 -- ---- at the start, and what stands there already
 

@@ -1,16 +1,16 @@
 -- Laws of numbers as bytes, stated once over the width: bounds, value and bytes of each other, and fields at a position.
 -- Assumes nothing.
-use Prim.Native.Nat.{ℕ, zero, suc, _+_, _-_, _*_, _/_, _%_, _^_, _<_, _≤_, min, zero-le}
+use Prim.Native.Nat.{ℕ, zero, suc, _+_, _-_, _*_, _/_, _%_, _^_, _<_, _≤_, zero-le}
 use mathlib.Core.Path.{_≡_, refl, sym, ap, ap₂, _∙_}
-use mathlib.Core.List.{List, [], _∷_, _++_, append-assoc}
+use mathlib.Core.List.{List, [], _∷_, _++_}
 use native.Mathlib.Omega.{arith}
-use native.Mathlib.Nat.{le-of-lt, lt-of-lt-of-le, pow-le-pow-right, add-suc, suc-add, zero-add, zero-mul, div-lt-iff-lt-mul, div-add-mod, add-comm, pow-succ', pow-suc, mul-assoc, add-mul, add-assoc, mod-eq-of-lt, mod-one, add-zero, mul-one, mul-suc, div-one, div-div-eq-div-mul}
+use native.Mathlib.Nat.{lt-of-lt-of-le, pow-le-pow-right, add-suc, suc-add, zero-add, zero-mul, div-lt-iff-lt-mul, div-add-mod, add-comm, pow-succ', pow-suc, mul-assoc, add-mul, add-assoc, mod-eq-of-lt, mod-one, add-zero, mul-one, mul-suc, div-one, div-div-eq-div-mul}
 use native.Mathlib.Numerals.{add-one}
 use lib.Arith.{mod-mul, digits-lt, lt-one}
 use lib.Dec.{lit<}
 use lib.Pow.{pow-add}
-use lib.Seq.{drop-cons, drop-drop, drop-at, take-at, take-suc, set-at, length-take-le, take-nil, take-all}
-use lib.ListN.{set, length, getD, take, drop, length-take, length-drop, drop-of-length-le}
+use lib.Seq.{drop-drop, drop-at, take-at}
+use lib.ListN.{length, take, drop, length-take, length-drop}
 use Rattle.octets.specs.Bytes.{AreBytes, beFrom, beValue, field, leField, leValue, beBytes, leBytes}
 
 -- ---- powers of 256
@@ -99,9 +99,6 @@ leValue-leBytes (suc w) n h =
     rw (leValue-leBytes w (n / 256) (div-lt-iff-lt-mul (lit< tt) .1 (rw pow-suc at h))) (add-comm (n % 256) (256 * (n / 256)) ∙ div-add-mod n 256)
 
 -- two numbers with the same bytes are equal
-pub beBytes-same : (w m n : ℕ) → m < 256 ^ w → n < 256 ^ w → beBytes w m ≡ beBytes w n → m ≡ n
-beBytes-same w m n hm hn e = sym (beValue-beBytes w m hm) ∙ ap beValue e ∙ beValue-beBytes w n hn
-
 pub leBytes-same : (w m n : ℕ) → m < 256 ^ w → n < 256 ^ w → leBytes w m ≡ leBytes w n → m ≡ n
 leBytes-same w m n hm hn e = sym (leValue-leBytes w m hm) ∙ ap leValue e ∙ leValue-leBytes w n hn
 
@@ -134,76 +131,52 @@ leBytes-leValue (b ∷ bs) a =
     let r : (b + 256 * leValue bs) % 256 ≡ b = omega arith in
     rw (q, r, leBytes-leValue bs (a .1))
 
--- ---- a part that starts past the end, ends past it, or lies within
-
-pub field-none : (w at : ℕ) (s : List ℕ) → length s ≤ at → take w (drop at s) ≡ []
-field-none w at s h = rw (drop-of-length-le s h) (take-nil w)
-
-pub field-short : (w at : ℕ) (s : List ℕ) → length s - at ≤ w → take (length s - at) (drop at s) ≡ take w (drop at s)
-field-short w at s h =
-    take-all (length s - at) (drop at s) (simp length-drop (omega arith)) ∙ sym (take-all w (drop at s) (simp length-drop (omega arith)))
-
 pub field-length : (w at : ℕ) (s : List ℕ) → at + w ≤ length s → length (take w (drop at s)) ≡ w
 field-length w at s h = simp (length-take, length-drop) (omega arith)
 
--- what is left of a part after k bytes: one byte and what is left after it
-pub part-step : (w at k : ℕ) (s : List ℕ) → k < w → at + k < length s
-    → take (w - k) (drop (at + k) s) ≡ getD s (at + k) 0 ∷ take (w - (k + 1)) (drop (at + (k + 1)) s)
-part-step w at k s h g =
-    let n : w - k ≡ suc (w - (k + 1)) = omega arith in
-    let p : at + (k + 1) ≡ suc (at + k) = omega arith in
-    rw (n, p, drop-cons s (at + k) 0 g)
+-- ---- a field: its bound, what it is right after a string, further on, and in a rest; for any way to give a string a number
 
--- and nothing after as many as there are
-pub part-end : (w at k : ℕ) (s : List ℕ) → min w (length s - at) ≤ k → take (w - k) (drop (at + k) s) ≡ []
-part-end w at k s h = nil-of (take (w - k) (drop (at + k) s)) (simp (length-take, length-drop) (omega arith))
-  where
-    nil-of : (l : List ℕ) → length l ≡ 0 → l ≡ []
-    nil-of [] e = refl
-    nil-of (x ∷ xs) e = absurd (omega arith)
+module _ (value : List ℕ → ℕ) where
+  abbrev part : ℕ → ℕ → List ℕ → ℕ
+  part w at s = value (take w (drop at s))
 
-pub beFrom-step : (v : ℕ) (s : List ℕ) (i : ℕ) → i < length s
-    → beFrom v (drop i s) ≡ beFrom (v * 256 + getD s i 0) (drop (i + 1) s)
-beFrom-step v s i h = rw (add-one, drop-cons s i 0)
+  part-lt : ((s : List ℕ) → AreBytes s → value s < 256 ^ length s) → (w at : ℕ) (s : List ℕ) → AreBytes s → part w at s < 256 ^ w
+  part-lt lt w at s a =
+      let n : length (take w (drop at s)) ≤ w = simp length-take (omega arith) in
+      lt-of-lt-of-le (lt (take w (drop at s)) (bytes-take w (drop at s) (bytes-drop at s a))) (pow-le n)
 
--- one more byte before those that are written
-pub set-before : (d r : List ℕ) (m x : ℕ) → m < length d → set (take (m + 1) d ++ r) m x ≡ take m d ++ x ∷ r
-set-before d r m x h =
-    rw (add-one, take-suc d m 0 h, append-assoc)
-    (set-at (take m d) (getD d m 0) r x m (length-take-le m d (le-of-lt h)))
+  part-at : (w n at : ℕ) (a x b : List ℕ) → length a ≡ at → length x ≡ w → value x ≡ n → part w at (a ++ (x ++ b)) ≡ n
+  part-at w n at a x b e l v = rw (drop-at a (x ++ b) at e, take-at x b w l) v
 
--- ---- a field: its bound, what it is right after a string, further on, and in a rest
+  part-drop : (w k at : ℕ) (s : List ℕ) → part w (at + k) s ≡ part w k (drop at s)
+  part-drop w k at s = ap (λ (x : List ℕ). value (take w x)) (sym (drop-drop k at s))
 
-part-le : (w at : ℕ) (s : List ℕ) → length (take w (drop at s)) ≤ w
-part-le w at s = simp length-take (omega arith)
+  part-past : (w k at : ℕ) (a b : List ℕ) → length a ≡ at → part w (at + k) (a ++ b) ≡ part w k b
+  part-past w k at a b e = part-drop w k at (a ++ b) ∙ ap (part w k) (drop-at a b at e)
 
 pub field-lt : (w at : ℕ) (s : List ℕ) → AreBytes s → field w at s < 256 ^ w
 unfolding field
-field-lt w at s a =
-    lt-of-lt-of-le (beValue-lt (take w (drop at s)) (bytes-take w (drop at s) (bytes-drop at s a))) (pow-le (part-le w at s))
+field-lt = part-lt beValue beValue-lt
 
 pub leField-lt : (w at : ℕ) (s : List ℕ) → AreBytes s → leField w at s < 256 ^ w
 unfolding leField
-leField-lt w at s a =
-    lt-of-lt-of-le (leValue-lt (take w (drop at s)) (bytes-take w (drop at s) (bytes-drop at s a))) (pow-le (part-le w at s))
+leField-lt = part-lt leValue leValue-lt
 
 pub field-at : (w n at : ℕ) (a b : List ℕ) → length a ≡ at → n < 256 ^ w → field w at (a ++ (beBytes w n ++ b)) ≡ n
 unfolding field
-field-at w n at a b e h =
-    rw (drop-at a (beBytes w n ++ b) at e, take-at (beBytes w n) b w (length-beBytes w n)) (beValue-beBytes w n h)
+field-at w n at a b e h = part-at beValue w n at a (beBytes w n) b e (length-beBytes w n) (beValue-beBytes w n h)
 
 pub leField-at : (w n at : ℕ) (a b : List ℕ) → length a ≡ at → n < 256 ^ w → leField w at (a ++ (leBytes w n ++ b)) ≡ n
 unfolding leField
-leField-at w n at a b e h =
-    rw (drop-at a (leBytes w n ++ b) at e, take-at (leBytes w n) b w (length-leBytes w n)) (leValue-leBytes w n h)
+leField-at w n at a b e h = part-at leValue w n at a (leBytes w n) b e (length-leBytes w n) (leValue-leBytes w n h)
 
 pub field-drop : (w k at : ℕ) (s : List ℕ) → field w (at + k) s ≡ field w k (drop at s)
 unfolding field
-field-drop w k at s = ap (λ (x : List ℕ). beValue (take w x)) (sym (drop-drop k at s))
+field-drop = part-drop beValue
 
 pub leField-drop : (w k at : ℕ) (s : List ℕ) → leField w (at + k) s ≡ leField w k (drop at s)
 unfolding leField
-leField-drop w k at s = ap (λ (x : List ℕ). leValue (take w x)) (sym (drop-drop k at s))
+leField-drop = part-drop leValue
 
 pub field-drop0 : (w at : ℕ) (s : List ℕ) → field w at s ≡ field w 0 (drop at s)
 unfolding field
@@ -214,7 +187,5 @@ unfolding leField
 leField-drop0 w at s = refl
 
 pub field-past : (w k at : ℕ) (a b : List ℕ) → length a ≡ at → field w (at + k) (a ++ b) ≡ field w k b
-field-past w k at a b e = field-drop w k at (a ++ b) ∙ ap (field w k) (drop-at a b at e)
-
-pub leField-past : (w k at : ℕ) (a b : List ℕ) → length a ≡ at → leField w (at + k) (a ++ b) ≡ leField w k b
-leField-past w k at a b e = leField-drop w k at (a ++ b) ∙ ap (leField w k) (drop-at a b at e)
+unfolding field
+field-past = part-past beValue

@@ -3,8 +3,10 @@
 // Every public function is total. A read that starts or ends past the slice gives the number of the bytes that there are;
 // a write leaves out the bytes that would lie past the end.
 ghost use mathlib.Core.Path.{_≡_};
-ghost use Prim.Native.Nat.{_-_, _^_, _<_, _≤_, min};
+ghost use Prim.Native.Nat.{_+_, _-_, _*_, _^_, _<_, _≤_, min};
+ghost use lib.ListN.{length};
 ghost use Rattle.octets.specs.Bytes.{beBytes, leBytes, field, leField};
+ghost use Rattle.octets.specs.Order.{bytesOf, fieldOf, placeOf, joinOf};
 ghost use Rattle.octets.specs.Over.{over};
 
 fn wide(b: u8) -> u64
@@ -26,96 +28,154 @@ fn room(len: usize, at: usize, count: usize) -> usize
     }
 }
 
-// The first byte counts most.
-fn be_at(s: &[u8], at: usize, width: usize) -> u64
+// Which byte of a number counts most: the first, or the last.
+enum Order {
+    Big,
+    Little,
+}
+
+// ---- a number that a slice has only a part of, byte by byte
+
+// Where the byte stands, of `count`, that counts most after k others.
+fn place(order: Order, count: usize, k: usize) -> usize
+    requires { ⌜ k < count ⌝ }
+    ensures { λ r. ⌜ r ≡ placeOf order count k ⌝ }
+    ensures { λ r. ⌜ r < count ⌝ }
+{
+    match order {
+        Order::Big => k,
+        Order::Little => count - 1 - k,
+    }
+}
+
+// The number of the bytes of a field that there are.
+fn part_value(s: &[u8], at: usize, width: usize, order: Order) -> u64
     requires { ⌜ width ≤ 8 ⌝ }
-    ensures { λ r. ⌜ r ≡ field width at (now (s .entry)) ⌝ }
+    ensures { λ r. ⌜ r ≡ fieldOf order width at (now (s .entry)) ⌝ }
     ensures { λ r. ⌜ r < 256 ^ width ⌝ }
 {
     let count = room(s.len(), at, width);
     let mut v: u64 = 0;
     let mut k: usize = 0;
     while k < count {
-        v = v * 256 + wide(s[at + k]);
+        let i = place(order, count, k);
+        v = v * 256 + wide(s[at + i]);
         k += 1;
     }
     v
 }
 
-// The last byte counts most, so the bytes are taken from the last to the first.
-fn le_at(s: &[u8], at: usize, width: usize) -> u64
-    requires { ⌜ width ≤ 8 ⌝ }
-    ensures { λ r. ⌜ r ≡ leField width at (now (s .entry)) ⌝ }
-    ensures { λ r. ⌜ r < 256 ^ width ⌝ }
+// ---- a number that a slice has whole, by halves: this compiles to one load
+
+// The number of two halves of so many bytes; `unit` is 256 for each byte of a half.
+fn join(first: u64, second: u64, unit: u64, order: Order) -> u64
+    requires { ⌜ (first < unit) × (second < unit) × (unit ≤ 4294967296) ⌝ }
+    ensures { λ r. ⌜ r ≡ joinOf order first second unit ⌝ }
+    ensures { λ r. ⌜ r < unit * unit ⌝ }
 {
-    let mut v: u64 = 0;
-    let mut k = room(s.len(), at, width);
-    while 0 < k {
-        k -= 1;
-        v = v * 256 + wide(s[at + k]);
+    match order {
+        Order::Big => first * unit + second,
+        Order::Little => second * unit + first,
     }
-    v
 }
+
+fn two(s: &[u8], at: usize, order: Order) -> u64
+    requires { ⌜ at + 2 ≤ length (now s) ⌝ }
+    ensures { λ r. ⌜ r ≡ fieldOf order 2 at (now (s .entry)) ⌝ }
+    ensures { λ r. ⌜ r < 256 ^ 2 ⌝ }
+{
+    join(wide(s[at]), wide(s[at + 1]), 256, order)
+}
+
+fn four(s: &[u8], at: usize, order: Order) -> u64
+    requires { ⌜ at + 4 ≤ length (now s) ⌝ }
+    ensures { λ r. ⌜ r ≡ fieldOf order 4 at (now (s .entry)) ⌝ }
+    ensures { λ r. ⌜ r < 256 ^ 4 ⌝ }
+{
+    join(two(s, at, order), two(s, at + 2, order), 65536, order)
+}
+
+fn eight(s: &[u8], at: usize, order: Order) -> u64
+    requires { ⌜ at + 8 ≤ length (now s) ⌝ }
+    ensures { λ r. ⌜ r ≡ fieldOf order 8 at (now (s .entry)) ⌝ }
+    ensures { λ r. ⌜ r < 256 ^ 8 ⌝ }
+{
+    join(
+        four(s, at, order),
+        four(s, at + 4, order),
+        4294967296,
+        order,
+    )
+}
+
+// ---- reading
 
 pub fn be16(s: &[u8], at: usize) -> u16
     ensures { λ r. ⌜ r ≡ field 2 at (now (s .entry)) ⌝ }
 {
-    be_at(s, at, 2) as u16
+    if room(s.len(), at, 2) < 2 {
+        return part_value(s, at, 2, Order::Big) as u16;
+    }
+    two(s, at, Order::Big) as u16
 }
 
 pub fn be32(s: &[u8], at: usize) -> u32
     ensures { λ r. ⌜ r ≡ field 4 at (now (s .entry)) ⌝ }
 {
-    be_at(s, at, 4) as u32
+    if room(s.len(), at, 4) < 4 {
+        return part_value(s, at, 4, Order::Big) as u32;
+    }
+    four(s, at, Order::Big) as u32
 }
 
 pub fn be64(s: &[u8], at: usize) -> u64
     ensures { λ r. ⌜ r ≡ field 8 at (now (s .entry)) ⌝ }
 {
-    be_at(s, at, 8)
+    if room(s.len(), at, 8) < 8 {
+        return part_value(s, at, 8, Order::Big);
+    }
+    eight(s, at, Order::Big)
 }
 
 pub fn le16(s: &[u8], at: usize) -> u16
     ensures { λ r. ⌜ r ≡ leField 2 at (now (s .entry)) ⌝ }
 {
-    le_at(s, at, 2) as u16
+    if room(s.len(), at, 2) < 2 {
+        return part_value(s, at, 2, Order::Little) as u16;
+    }
+    two(s, at, Order::Little) as u16
 }
 
 pub fn le32(s: &[u8], at: usize) -> u32
     ensures { λ r. ⌜ r ≡ leField 4 at (now (s .entry)) ⌝ }
 {
-    le_at(s, at, 4) as u32
+    if room(s.len(), at, 4) < 4 {
+        return part_value(s, at, 4, Order::Little) as u32;
+    }
+    four(s, at, Order::Little) as u32
 }
 
 pub fn le64(s: &[u8], at: usize) -> u64
     ensures { λ r. ⌜ r ≡ leField 8 at (now (s .entry)) ⌝ }
 {
-    le_at(s, at, 8)
-}
-
-// The `width` low bytes of `n`, highest first: each is shifted down by the bytes that follow it.
-fn put_be(out: &mut [u8], at: usize, width: usize, n: u64)
-    requires { ⌜ width ≤ 8 ⌝ }
-    ensures { λ _. ⌜ now (out .exit) ≡ over (now (out .entry)) at (beBytes width n) ⌝ }
-{
-    let count = room(out.len(), at, width);
-    let mut k: usize = 0;
-    while k < count {
-        out[at + k] = ((n >> (8 * (width - 1 - k))) % 256) as u8;
-        k += 1;
+    if room(s.len(), at, 8) < 8 {
+        return part_value(s, at, 8, Order::Little);
     }
+    eight(s, at, Order::Little)
 }
 
-// The `width` low bytes of `n`, lowest first.
-fn put_le(out: &mut [u8], at: usize, width: usize, n: u64)
-    ensures { λ _. ⌜ now (out .exit) ≡ over (now (out .entry)) at (leBytes width n) ⌝ }
+// ---- writing
+
+// The `width` low bytes of `n`: each is shifted down by the bytes that count less.
+fn put(out: &mut [u8], at: usize, width: usize, n: u64, order: Order)
+    requires { ⌜ width ≤ 8 ⌝ }
+    ensures { λ _. ⌜ now (out .exit) ≡ over (now (out .entry)) at (bytesOf order width n) ⌝ }
 {
     let count = room(out.len(), at, width);
-    let mut v = n;
     let mut k: usize = 0;
     while k < count {
-        out[at + k] = (v % 256) as u8;
-        v /= 256;
+        let i = place(order, width, k);
+        out[at + k] = ((n >> (8 * (width - 1 - i))) % 256) as u8;
         k += 1;
     }
 }
@@ -123,37 +183,37 @@ fn put_le(out: &mut [u8], at: usize, width: usize, n: u64)
 pub fn put_be16(out: &mut [u8], at: usize, n: u16)
     ensures { λ _. ⌜ now (out .exit) ≡ over (now (out .entry)) at (beBytes 2 n) ⌝ }
 {
-    put_be(out, at, 2, n as u64);
+    put(out, at, 2, n as u64, Order::Big);
 }
 
 pub fn put_be32(out: &mut [u8], at: usize, n: u32)
     ensures { λ _. ⌜ now (out .exit) ≡ over (now (out .entry)) at (beBytes 4 n) ⌝ }
 {
-    put_be(out, at, 4, n as u64);
+    put(out, at, 4, n as u64, Order::Big);
 }
 
 pub fn put_be64(out: &mut [u8], at: usize, n: u64)
     ensures { λ _. ⌜ now (out .exit) ≡ over (now (out .entry)) at (beBytes 8 n) ⌝ }
 {
-    put_be(out, at, 8, n);
+    put(out, at, 8, n, Order::Big);
 }
 
 pub fn put_le16(out: &mut [u8], at: usize, n: u16)
     ensures { λ _. ⌜ now (out .exit) ≡ over (now (out .entry)) at (leBytes 2 n) ⌝ }
 {
-    put_le(out, at, 2, n as u64);
+    put(out, at, 2, n as u64, Order::Little);
 }
 
 pub fn put_le32(out: &mut [u8], at: usize, n: u32)
     ensures { λ _. ⌜ now (out .exit) ≡ over (now (out .entry)) at (leBytes 4 n) ⌝ }
 {
-    put_le(out, at, 4, n as u64);
+    put(out, at, 4, n as u64, Order::Little);
 }
 
 pub fn put_le64(out: &mut [u8], at: usize, n: u64)
     ensures { λ _. ⌜ now (out .exit) ≡ over (now (out .entry)) at (leBytes 8 n) ⌝ }
 {
-    put_le(out, at, 8, n);
+    put(out, at, 8, n, Order::Little);
 }
 
 // The bytes of `s` over what stands from `at` on. The count is clipped once, so that the loop has no other test and can move blocks of bytes.

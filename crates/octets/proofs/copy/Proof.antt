@@ -1,17 +1,14 @@
 -- `octets::copy` meets its contract: after each store, what is left of `s` over the output as it stands gives the whole of `s` over the first
 -- output. Assumes nothing.
-use Prim.Native.Nat.{ℕ, _+_, _-_, _<_, _≤_}
-use mathlib.Core.Path.{_≡_, refl, ap, sym, _∙_}
-use mathlib.Core.List.{List}
+use Prim.Native.Nat.{_+_, _-_, _≤_}
+use mathlib.Core.Path.{_≡_, refl, sym, _∙_}
 use native.Mathlib.Omega.{arith}
 use native.Mathlib.Nat.{add-zero}
-use native.Mathlib.Numerals.{add-one}
 use borrow.Author.Needs.{needs}
 use denote.Ref.{now}
-use lib.ListN.{length, drop, set, getD, length-drop, length-set}
-use lib.Seq.{drop-cons}
+use lib.ListN.{length, drop, getD, length-drop, length-set}
 use Rattle.octets.specs.Over.{over}
-use Rattle.octets.proofs.Over.{over-next, over-end}
+use Rattle.octets.proofs.Over.{over-step, over-end}
 use Rattle.octets.proofs.copy.Statement.{statement}
 use Rattle.octets.proofs.copy.Tie as tie
 
@@ -24,15 +21,11 @@ abbrev μ-loop : tie.MeasureT-loop
 loop-holds : tie.Need-loop-holds Inv-loop μ-loop
 loop-holds c = (search needs, refl, rw add-zero refl)
 
--- one byte more is stored
-step : (d s : List ℕ) (at k : ℕ) → k < length s → over (set d (at + k) (getD s k 0)) (at + (k + 1)) (drop (k + 1) s) ≡ over d (at + k) (drop k s)
-step d s at k h = over-next d at k (getD s k 0) (drop (k + 1) s) ∙ ap (over d (at + k)) (rw add-one (sym (drop-cons s k 0 h)))
-
 loop-again : tie.Need-loop-again Inv-loop μ-loop
 loop-again c =
     let l = c .before .before .loop in
     let a = c .before .before .before .before .before .before .args in
-    (omega arith, simp length-set (l .inv .1), step (l .out) (now (a .s)) (a .at) (l .k) (omega arith) ∙ l .inv .2)
+    (omega arith, simp length-set (l .inv .1), over-step (l .out) (now (a .s)) (a .at) (l .k) (getD (now (a .s)) (l .k) 0) (omega arith) refl ∙ l .inv .2)
 
 returns : tie.Need-returns Inv-loop μ-loop
 returns c =

@@ -1,0 +1,32 @@
+-- Both byte orders in one: what the two of `Bytes` are by an order.
+-- Assumes nothing.
+use Prim.Native.Nat.{ℕ, _+_, _-_, _*_}
+use mathlib.Core.List.{List}
+use Rattle.octets.specs.Bytes.{beValue, leValue, beBytes, leBytes, field, leField}
+use Rattle.octets.specs.declared.Order.{Order}
+use Rattle.octets.specs.declared.Order.the-variants.{Big, Little}
+
+-- the number of a byte string
+abbrev pub valueOf : Order → List ℕ → ℕ
+valueOf Big bs = beValue bs
+valueOf Little bs = leValue bs
+
+-- the w low bytes of a number
+abbrev pub bytesOf : Order → ℕ → ℕ → List ℕ
+bytesOf Big w n = beBytes w n
+bytesOf Little w n = leBytes w n
+
+-- the number of the w bytes at a position
+abbrev pub fieldOf : Order → ℕ → ℕ → List ℕ → ℕ
+fieldOf Big w at s = field w at s
+fieldOf Little w at s = leField w at s
+
+-- where the byte stands, of so many, that counts most after k others
+abbrev pub placeOf : Order → ℕ → ℕ → ℕ
+placeOf Big count k = k
+placeOf Little count k = count - 1 - k
+
+-- the number of two halves; unit: 256 for each byte of a half
+abbrev pub joinOf : Order → ℕ → ℕ → ℕ → ℕ
+joinOf Big first second unit = first * unit + second
+joinOf Little first second unit = second * unit + first
