@@ -1,6 +1,6 @@
 /* SPDX-License-Identifier: Apache-2.0 */
 /*
- * Reader, writer and boot rolls of enclave image files (EIF).
+ * Reader, writer, registers and boot rolls of enclave image files (EIF).
  *
  * The C interface to a static library, libeif_c.a, whose every function is proved to meet the rules
  * of docs/FORMAT.md, which is cited below by section. It links into x86-64 programs. Of other
@@ -19,12 +19,13 @@
  * numbers below that applies, in the order that FORMAT.md gives for the call. Beside a refusal
  *   - no byte of the output buffer has changed;
  *   - index is the index of the section or record for 6 to 11, 16 and 17, and 0 for the others;
- *   - all else in the answer is 0, but first_ramdisk, which is EIF_NO_RAMDISK.
+ *   - all else in the answer is 0, but first_ramdisk, which is EIF_NO_RAMDISK, and the state that
+ *     eif_sha384_update answers, which is as it was.
  *
  * Answers have no padding, and their reserved fields are 0: equal answers are equal by memcmp.
  *
- * Each stream or roll call on an image reads the whole image again, checksum included: copy with a
- * large buffer rather than often.
+ * Each stream, register or roll call on an image reads the whole image again, checksum included: copy
+ * with a large buffer rather than often.
  */
 #ifndef EIF_H
 #define EIF_H
@@ -68,6 +69,14 @@ extern "C" {
 /* The most sections of an image, and the most records of a roll beside its end record. */
 #define EIF_MAX_SECTIONS 32
 
+/* How many registers an image has. */
+#define EIF_REGISTERS 3
+
+/* SHA-384: length of a digest and of a block, and the most bytes that one digest is of. */
+#define EIF_DIGEST_LENGTH 48
+#define EIF_SHA384_BLOCK_LENGTH 128
+#define EIF_MAX_MESSAGE_LENGTH UINT64_C(2305843009213693951)
+
 /* What first_ramdisk is where there is no ramdisk, and beside a refusal. */
 #define EIF_NO_RAMDISK 32
 
@@ -96,7 +105,8 @@ enum eif_number {
     EIF_RECORD_CUT = 16,
     EIF_RECORD_TYPE_WRONG = 17,
     EIF_BYTES_AFTER_END = 18,
-    EIF_PAST_STREAM_END = 19
+    EIF_PAST_STREAM_END = 19,
+    EIF_MESSAGE_TOO_LONG = 29
 };
 
 /* What an answer number means, in words. */
@@ -124,6 +134,7 @@ static inline const char *eif_meaning(uint8_t number) {
     case EIF_RECORD_TYPE_WRONG: return "roll record of type above 3, or type 0 with a length not 0";
     case EIF_BYTES_AFTER_END: return "bytes after the end record";
     case EIF_PAST_STREAM_END: return "stream position past the stream's end";
+    case EIF_MESSAGE_TOO_LONG: return "message longer than 2,305,843,009,213,693,951 bytes";
     default: return "unknown number";
     }
 }
@@ -224,6 +235,35 @@ typedef struct eif_answer {
     uint64_t length; /* 0 beside a refusal */
 } eif_answer;
 
+/* A SHA-384 digest, or a register. */
+typedef struct eif_digest {
+    uint8_t bytes[EIF_DIGEST_LENGTH];
+} eif_digest;
+
+/* The registers of an image. */
+typedef struct eif_registers_answer {
+    uint8_t number; /* EIF_ACCEPTED, or 1 to 13 */
+    uint8_t reserved[7];
+    uint64_t index;
+    eif_digest registers[EIF_REGISTERS]; /* all 0 beside a refusal */
+} eif_registers_answer;
+
+/* A SHA-384 digest in progress, a value that can be kept, copied and gone on from. Any value whatever is
+ * one; a fresh one comes from eif_sha384_begin. */
+typedef struct eif_sha384 {
+    uint64_t words[8];                      /* the hash value after the whole blocks */
+    uint8_t block[EIF_SHA384_BLOCK_LENGTH]; /* the bytes of the block being filled, the others 0 */
+    uint64_t total;                         /* how many bytes were taken in all */
+} eif_sha384;
+
+/* What a piece makes of a digest in progress. */
+typedef struct eif_sha384_fed {
+    uint8_t number; /* EIF_ACCEPTED, or EIF_MESSAGE_TOO_LONG */
+    uint8_t reserved[7];
+    uint64_t index;
+    eif_sha384 state; /* after the piece; beside a refusal as it was */
+} eif_sha384_fed;
+
 /* A record of an accepted roll. */
 typedef struct eif_roll_record {
     uint16_t type;
@@ -271,6 +311,24 @@ EIF_MUST_USE eif_answer eif_copy_boot(const uint8_t *image, size_t image_length,
                                       eif_stream_position from, uint8_t *out, size_t out_length);
 EIF_MUST_USE eif_answer eif_copy_app(const uint8_t *image, size_t image_length,
                                      eif_stream_position from, uint8_t *out, size_t out_length);
+
+/* The registers 0, 1 and 2 of an image (FORMAT.md, Registers): of the streams whole, boot and app,
+ * SHA-384 of 48 zero bytes followed by the SHA-384 of the stream. Refusals: the image's own. */
+EIF_MUST_USE eif_registers_answer eif_registers(const uint8_t *image, size_t image_length);
+
+/* SHA-384 (FIPS 180-4) of bytes that come in pieces of any size:
+ *
+ *     eif_sha384 state = eif_sha384_begin();
+ *     eif_sha384_fed fed = eif_sha384_update(state, piece, piece_length);
+ *     ... refused where fed.number is not 0; else go on with fed.state, piece by piece ...
+ *     eif_digest digest = eif_sha384_finish(fed.state);
+ *
+ * A piece is refused by 29 exactly where state.total + piece_length, not wrapped, is more than
+ * EIF_MAX_MESSAGE_LENGTH. */
+EIF_MUST_USE eif_sha384 eif_sha384_begin(void);
+EIF_MUST_USE eif_sha384_fed eif_sha384_update(eif_sha384 state, const uint8_t *piece,
+                                              size_t piece_length);
+EIF_MUST_USE eif_digest eif_sha384_finish(eif_sha384 state);
 
 /* The length of an image's boot roll, which is less than the image's. Refusals: the image's own. */
 EIF_MUST_USE eif_answer eif_roll_length(const uint8_t *image, size_t image_length);

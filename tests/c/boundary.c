@@ -16,6 +16,14 @@ typedef char layout_of_plan_places[offsetof(eif_plan, places) == 32 ? 1 : -1];
 typedef char layout_of_reading[sizeof(eif_reading) == 48 + 32 * 24 ? 1 : -1];
 typedef char layout_of_reading_sections[offsetof(eif_reading, sections) == 48 ? 1 : -1];
 typedef char layout_of_answer[sizeof(eif_answer) == 24 ? 1 : -1];
+typedef char layout_of_sha384[sizeof(eif_sha384) == 200 ? 1 : -1];
+typedef char layout_of_sha384_block[offsetof(eif_sha384, block) == 64 ? 1 : -1];
+typedef char layout_of_sha384_total[offsetof(eif_sha384, total) == 192 ? 1 : -1];
+typedef char layout_of_sha384_fed[sizeof(eif_sha384_fed) == 216 ? 1 : -1];
+typedef char layout_of_sha384_fed_state[offsetof(eif_sha384_fed, state) == 16 ? 1 : -1];
+typedef char layout_of_digest[sizeof(eif_digest) == 48 ? 1 : -1];
+typedef char layout_of_registers[sizeof(eif_registers_answer) == 160 ? 1 : -1];
+typedef char layout_of_registers_values[offsetof(eif_registers_answer, registers) == 16 ? 1 : -1];
 typedef char layout_of_roll_record[sizeof(eif_roll_record) == 24 ? 1 : -1];
 typedef char layout_of_roll_reading[sizeof(eif_roll_reading) == 24 + 32 * 24 ? 1 : -1];
 typedef char layout_of_roll_records[offsetof(eif_roll_reading, records) == 24 ? 1 : -1];
@@ -64,6 +72,8 @@ static void try_null(const uint8_t *image) {
     check(eif_copy_app(NULL, 0, start(), NULL, 0).number == EIF_IMAGE_TOO_SHORT, "app of null");
     check(eif_roll_write(NULL, 0, NULL, 0).number == EIF_IMAGE_TOO_SHORT, "roll of null");
     check(eif_roll_read(NULL, 0).number == EIF_RECORD_CUT, "roll read of null");
+    check(eif_registers(NULL, 0).number == EIF_IMAGE_TOO_SHORT, "registers of null");
+    check(eif_sha384_update(eif_sha384_begin(), NULL, 0).number == EIF_ACCEPTED, "a piece of null");
     check(eif_write(empty, NULL, 0, NULL, 0).number == EIF_OUTPUT_TOO_SHORT, "write to null");
 
     check(eif_copy_whole(image, IMAGE_LENGTH, start(), NULL, 0).number == EIF_ACCEPTED, "whole to null");
@@ -138,6 +148,34 @@ static void try_answer(const uint8_t *image, size_t length, uint8_t *out, size_t
     check(zero(one.reserved, sizeof one.reserved), "reserved of an answer");
 }
 
+static void try_registers(const uint8_t *image, size_t length) {
+    static eif_registers_answer one, other;
+    memset(&one, 0x55, sizeof one);
+    memset(&other, 0xaa, sizeof other);
+    soil(0x11);
+    one = eif_registers(image, length);
+    soil(0xee);
+    other = eif_registers(image, length);
+    check(memcmp(&one, &other, sizeof one) == 0, "equal registers by memcmp");
+    check(zero(one.reserved, sizeof one.reserved), "reserved of registers");
+}
+
+/* A piece that is taken or, with a larger total, one that is refused. */
+static void try_sha384(uint64_t total) {
+    static const uint8_t piece[3] = {1, 2, 3};
+    static eif_sha384_fed one, other;
+    eif_sha384 state = eif_sha384_begin();
+    state.total = total;
+    memset(&one, 0x55, sizeof one);
+    memset(&other, 0xaa, sizeof other);
+    soil(0x11);
+    one = eif_sha384_update(state, piece, sizeof piece);
+    soil(0xee);
+    other = eif_sha384_update(state, piece, sizeof piece);
+    check(memcmp(&one, &other, sizeof one) == 0, "equal states by memcmp");
+    check(zero(one.reserved, sizeof one.reserved), "reserved of a state");
+}
+
 static void try_words(void) {
     check(strcmp(eif_meaning(EIF_ACCEPTED), "accepted") == 0, "meaning of 0");
     check(strcmp(eif_meaning(13), "checksum differs") == 0, "meaning of 13");
@@ -161,6 +199,10 @@ int main(void) {
     try_roll_reading(roll, 9);
     try_answer(image, IMAGE_LENGTH, roll, ROLL_LENGTH);
     try_answer(image, IMAGE_LENGTH, roll, ROLL_LENGTH - 1);
+    try_registers(image, IMAGE_LENGTH);
+    try_registers(image, 547);
+    try_sha384(0);
+    try_sha384(EIF_MAX_MESSAGE_LENGTH);
     try_words();
     if (failures != 0) {
         return 1;

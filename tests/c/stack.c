@@ -25,6 +25,10 @@ static eif_stream_position start;
 static eif_reading reading;
 static eif_roll_reading roll_reading;
 static eif_answer answer;
+static eif_registers_answer registers;
+static eif_sha384 begun;
+static eif_sha384_fed fed;
+static eif_digest digest;
 
 static void nothing(void) {}
 static void call_read(void) { reading = eif_read(image, image_length); }
@@ -42,6 +46,10 @@ static void call_copy_boot(void) {
 static void call_copy_app(void) {
     answer = eif_copy_app(image, image_length, start, out, sizeof out);
 }
+static void call_registers(void) { registers = eif_registers(image, image_length); }
+static void call_sha384_begin(void) { begun = eif_sha384_begin(); }
+static void call_sha384_update(void) { fed = eif_sha384_update(begun, image, image_length); }
+static void call_sha384_finish(void) { digest = eif_sha384_finish(fed.state); }
 static void call_roll_length(void) { answer = eif_roll_length(image, image_length); }
 static void call_roll_write(void) {
     answer = eif_roll_write(image, image_length, out, sizeof out);
@@ -97,6 +105,10 @@ int main(void) {
         {"eif_copy_whole", call_copy_whole},
         {"eif_copy_boot", call_copy_boot},
         {"eif_copy_app", call_copy_app},
+        {"eif_registers", call_registers},
+        {"eif_sha384_begin", call_sha384_begin},
+        {"eif_sha384_update", call_sha384_update},
+        {"eif_sha384_finish", call_sha384_finish},
         {"eif_roll_length", call_roll_length},
         {"eif_roll_write", call_roll_write},
         {"eif_roll_read", call_roll_read},
@@ -110,8 +122,9 @@ int main(void) {
     for (size_t i = 0; i < sizeof calls / sizeof calls[0]; i++) {
         size_t bytes = used(calls[i].function) - least;
         int fits = bytes <= (size_t)EIF_STACK_KIB * 1024;
-        printf("stack: %-16s %6zu bytes%s\n", calls[i].name, bytes, fits ? "" : ": too many");
-        failures += !fits || reading.number != 0 || roll_reading.number != 0 || answer.number != 0;
+        printf("stack: %-18s %6zu bytes%s\n", calls[i].name, bytes, fits ? "" : ": too many");
+        failures += !fits || reading.number != 0 || roll_reading.number != 0 || answer.number != 0 ||
+                    registers.number != 0 || fed.number != 0;
     }
     return failures != 0;
 }

@@ -165,12 +165,63 @@ static void try_roll(const uint8_t *image) {
     check(cut.number == EIF_RECORD_CUT && cut.index == 3 && cut.count == 0, "roll cut");
 }
 
+/* Whether a digest begins with these 8 bytes. */
+static int begins(eif_digest digest, uint64_t first) {
+    uint64_t value = 0;
+    for (unsigned i = 0; i < 8; i++) {
+        value = value << 8 | digest.bytes[i];
+    }
+    return value == first;
+}
+
+static void try_registers(const uint8_t *image) {
+    static const eif_digest zeros = {{0}};
+    eif_registers_answer answer = eif_registers(image, IMAGE_LENGTH);
+    check(answer.number == EIF_ACCEPTED && answer.index == 0, "registers");
+    check(begins(answer.registers[0], UINT64_C(0x9e7c220976a9e4a0)), "register 0");
+    check(begins(answer.registers[1], UINT64_C(0x9e7c220976a9e4a0)), "register 1");
+    check(begins(answer.registers[2], UINT64_C(0x21b9efbc18480766)), "register 2");
+
+    eif_registers_answer refused = eif_registers(image, 547);
+    check(refused.number == EIF_IMAGE_TOO_SHORT && refused.index == 0, "registers, 547 bytes");
+    for (unsigned i = 0; i < EIF_REGISTERS; i++) {
+        check(memcmp(&refused.registers[i], &zeros, sizeof zeros) == 0, "registers beside a refusal");
+    }
+}
+
+/* SHA-384 of "abc", the standard's first example, in two pieces. */
+static void try_sha384(void) {
+    static const uint8_t expected[EIF_DIGEST_LENGTH] = {
+        0xcb, 0x00, 0x75, 0x3f, 0x45, 0xa3, 0x5e, 0x8b, 0xb5, 0xa0, 0x3d, 0x69,
+        0x9a, 0xc6, 0x50, 0x07, 0x27, 0x2c, 0x32, 0xab, 0x0e, 0xde, 0xd1, 0x63,
+        0x1a, 0x8b, 0x60, 0x5a, 0x43, 0xff, 0x5b, 0xed, 0x80, 0x86, 0x07, 0x2b,
+        0xa1, 0xe7, 0xcc, 0x23, 0x58, 0xba, 0xec, 0xa1, 0x34, 0xc8, 0x25, 0xa7};
+    static const uint8_t abc[3] = {'a', 'b', 'c'};
+    eif_sha384 begun = eif_sha384_begin();
+    eif_sha384_fed first = eif_sha384_update(begun, abc, 1);
+    check(first.number == EIF_ACCEPTED && first.state.total == 1, "first piece");
+    eif_sha384_fed second = eif_sha384_update(first.state, abc + 1, 2);
+    check(second.number == EIF_ACCEPTED && second.state.total == 3, "second piece");
+    eif_digest digest = eif_sha384_finish(second.state);
+    check(memcmp(digest.bytes, expected, EIF_DIGEST_LENGTH) == 0, "digest of abc");
+    check(begins(eif_sha384_finish(begun), UINT64_C(0x38b060a751ac9638)), "digest of nothing");
+
+    eif_sha384 full = first.state;
+    full.total = EIF_MAX_MESSAGE_LENGTH - 2;
+    check(eif_sha384_update(full, abc, 2).number == EIF_ACCEPTED, "a piece up to the limit");
+    eif_sha384_fed refused = eif_sha384_update(full, abc, 3);
+    check(refused.number == EIF_MESSAGE_TOO_LONG && refused.index == 0, "a piece past the limit");
+    check(memcmp(&refused.state, &full, sizeof full) == 0, "state beside a refusal");
+}
+
 int main(void) {
     uint8_t image[IMAGE_LENGTH];
     expect_image(image);
     try_write(image);
     try_read(image);
     try_streams(image);
+    try_registers(image);
+    try_sha384();
     try_roll(image);
     if (failures != 0) {
         return 1;

@@ -1,4 +1,4 @@
-//! The examples of docs/FORMAT.md as data, for the tests of the library and of the twin.
+//! The examples of docs/FORMAT.md and of FIPS 180-4 as data, for the tests of the library and of the twin.
 //!
 //! What builds the examples judges nothing and has a checksum of its own, bit by bit, so a test
 //! never trusts what it tests.
@@ -11,10 +11,12 @@
 #![forbid(unsafe_code)]
 #![deny(missing_docs)]
 
+mod digests;
 mod images;
 mod layout;
 mod rolls;
 
+pub use digests::{digest_cases, hex, register_cases, DigestCase};
 pub use images::{
     image_cases, image_of_length, stream_case, two_sections, worked_image, ImageCase,
 };

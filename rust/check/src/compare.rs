@@ -1,8 +1,10 @@
 //! The library's answers held to the twin's: every field and every byte of the output.
 
-use crate::{Call, Output, PlanInput, Rng, Tally};
-use eif::raw::{self, Answer, Reading, RollReading};
-use eif::{DataLength, FilePosition, Refusal, RollPosition, SectionType, Stream, StreamPosition};
+use crate::{Call, Message, Output, PlanInput, Rng, Tally};
+use eif::raw::{self, Answer, Reading, RegistersAnswer, RollReading};
+use eif::{
+    DataLength, Digest, FilePosition, Refusal, RollPosition, SectionType, Stream, StreamPosition,
+};
 use eif_twin as twin;
 use std::fmt::{self, Debug, Display};
 
@@ -123,6 +125,33 @@ fn twin_roll_reading(answer: &Result<Vec<twin::Record>, twin::Refusal>) -> RollR
     }
 }
 
+fn twin_registers(answer: Result<[[u8; 48]; 3], twin::Refusal>) -> RegistersAnswer {
+    match answer.map_err(twin_pair) {
+        Ok(registers) => RegistersAnswer {
+            registers: registers.map(Digest),
+            ..RegistersAnswer::default()
+        },
+        Err((number, index)) => RegistersAnswer {
+            number,
+            index,
+            ..RegistersAnswer::default()
+        },
+    }
+}
+
+fn twin_state(state: raw::Sha384) -> twin::Sha384 {
+    let raw::Sha384 {
+        words,
+        block,
+        total,
+    } = state;
+    twin::Sha384 {
+        words,
+        block,
+        total,
+    }
+}
+
 /// Runs a call with an output three times, by the C interface, the Rust interface and the twin.
 /// Answers the answer number.
 fn compare_output(
@@ -213,6 +242,20 @@ pub fn compare_image(rng: &mut Rng, ordinal: u64, image: &[u8], tally: &mut Tall
         |out| twin::write_roll(image, out),
     );
     tally.add(Call::RollWrite, number);
+    compare_registers(input, tally);
+}
+
+fn compare_registers(input: &Input, tally: &mut Tally) {
+    let answer = raw::registers(input.bytes);
+    let twin_answer = twin_registers(twin::registers(input.bytes));
+    same(input, "registers", answer, twin_answer);
+    let expected = match answer.number {
+        0 => Ok(answer.registers),
+        number => Err((number, answer.index)),
+    };
+    let rust = eif::registers(input.bytes).map(|registers| registers.0);
+    same(input, "registers", rust.map_err(pair), expected);
+    tally.add(Call::Registers, answer.number);
 }
 
 /// The Rust interface's view of an image.
@@ -342,6 +385,41 @@ pub fn compare_plan(rng: &mut Rng, ordinal: u64, given: &PlanInput, tally: &mut 
         |out| twin::write(&twin_plan, &given.data, out),
     );
     tally.add(Call::Write, number);
+}
+
+/// Hashes a message piece by piece, by the C interface, the Rust interface and the twin. After each
+/// piece, taken or refused, the states are the same.
+pub fn compare_message(ordinal: u64, message: &Message, tally: &mut Tally) {
+    let input = &Input {
+        kind: "message",
+        ordinal,
+        bytes: &message.pieces.concat(),
+        plan: None,
+    };
+    tally.add_input();
+    let mut state = message.state.unwrap_or_else(raw::sha384_begin);
+    let mut rust = message.state.map_or_else(eif::Sha384::new, Into::into);
+    let mut twin = message.state.map_or_else(twin::Sha384::new, twin_state);
+    same(input, "begun", twin_state(state), twin);
+    for piece in &message.pieces {
+        let fed = raw::sha384_update(state, piece);
+        let twin_answer = twin.update(piece).map_err(twin_pair);
+        let expected = twin_answer.err().unwrap_or_default();
+        same(input, "update", (fed.number, fed.index), expected);
+        same(input, "reserved", fed.reserved, [0; 7]);
+        same(input, "state", twin_state(fed.state), twin);
+        if fed.number != 0 {
+            same(input, "state beside a refusal", fed.state, state);
+        }
+        state = fed.state;
+        let rust_answer = rust.update(piece).map_err(pair);
+        same(input, "update", rust_answer, twin_answer);
+        same(input, "state", rust.clone().into(), state);
+        tally.add(Call::Update, fed.number);
+    }
+    let digest = raw::sha384_finish(state);
+    same(input, "digest", digest, Digest(twin.finish()));
+    same(input, "digest", rust.finish(), digest);
 }
 
 /// Reads a roll.

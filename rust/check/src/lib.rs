@@ -7,14 +7,16 @@
 
 mod compare;
 mod images;
+mod messages;
 mod output;
 mod plans;
 mod rng;
 mod rolls;
 mod tally;
 
-pub use compare::{compare_image, compare_plan, compare_roll};
+pub use compare::{compare_image, compare_message, compare_plan, compare_roll};
 pub use images::{accepted_layout, any_image};
+pub use messages::{any_message, Message};
 pub use output::Output;
 pub use plans::{accepted_plan, any_plan, PlanInput};
 pub use rng::Rng;

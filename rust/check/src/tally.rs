@@ -3,6 +3,12 @@
 use std::fmt;
 use std::ops::AddAssign;
 
+/// How many kinds of call there are.
+const CALLS: usize = 10;
+
+/// Answer numbers are below this.
+const NUMBERS: usize = 30;
+
 /// A kind of call.
 #[derive(Clone, Copy, Debug, PartialEq, Eq)]
 pub enum Call {
@@ -22,11 +28,15 @@ pub enum Call {
     RollWrite,
     /// Reading a roll.
     RollRead,
+    /// The registers of an image.
+    Registers,
+    /// A piece for a digest in progress.
+    Update,
 }
 
 impl Call {
     /// All of them.
-    pub const ALL: [Call; 8] = [
+    pub const ALL: [Call; CALLS] = [
         Call::Read,
         Call::PlanLength,
         Call::Write,
@@ -35,18 +45,21 @@ impl Call {
         Call::RollLength,
         Call::RollWrite,
         Call::RollRead,
+        Call::Registers,
+        Call::Update,
     ];
 
     /// The numbers that FORMAT.md lets this call answer.
     pub fn numbers(self) -> Vec<u8> {
         let image = 0..=13;
         match self {
-            Call::Read | Call::Length | Call::RollLength => image.collect(),
+            Call::Read | Call::Length | Call::RollLength | Call::Registers => image.collect(),
             Call::PlanLength => vec![0, 1, 4, 5, 9, 10, 11, 12],
             Call::Write => vec![0, 1, 4, 5, 9, 10, 11, 12, 14, 15],
             Call::Copy => image.chain([19]).collect(),
             Call::RollWrite => image.chain([14]).collect(),
             Call::RollRead => vec![0, 1, 5, 10, 11, 12, 16, 17, 18],
+            Call::Update => vec![0, 29],
         }
     }
 }
@@ -54,7 +67,7 @@ impl Call {
 /// A count for each call and number.
 #[derive(Clone, Debug, Default)]
 pub struct Tally {
-    counts: [[u64; 20]; 8],
+    counts: [[u64; NUMBERS]; CALLS],
     inputs: u64,
 }
 
@@ -76,10 +89,9 @@ impl Tally {
 
     /// The numbers that a call gave.
     pub fn reached(&self, call: Call) -> Vec<u8> {
-        let counts = &self.counts[call as usize];
-        (0..20)
-            .filter(|&number| counts[usize::from(number)] > 0)
-            .collect()
+        let counts = self.counts[call as usize].iter();
+        let reached = (0..).zip(counts).filter(|(_, &count)| count > 0);
+        reached.map(|(number, _)| number).collect()
     }
 
     /// How often a number was given by any call.
@@ -107,10 +119,10 @@ impl fmt::Display for Tally {
         for call in Call::ALL {
             write!(f, " {:>10}", format!("{call:?}"))?;
         }
-        for number in 0..20 {
+        for number in (0..NUMBERS as u8).filter(|&number| self.of_number(number) > 0) {
             write!(f, "\n{number:>6}")?;
             for counts in &self.counts {
-                write!(f, " {:>10}", counts[number])?;
+                write!(f, " {:>10}", counts[usize::from(number)])?;
             }
         }
         Ok(())

@@ -13,6 +13,7 @@ const SEED: u64 = 0x2024_0621;
 const IMAGES: u64 = 100_000;
 const PLANS: u64 = 60_000;
 const ROLLS: u64 = 80_000;
+const MESSAGES: u64 = 40_000;
 
 fn variable(name: &str, default: u64) -> u64 {
     let Ok(text) = env::var(name) else {
@@ -50,6 +51,13 @@ fn rolls(seed: u64, ordinals: Range<u64>, tally: &mut Tally) {
     for ordinal in ordinals {
         let mut rng = Rng::of_input(seed.rotate_left(32), ordinal);
         compare_roll(ordinal, &any_roll(&mut rng), tally);
+    }
+}
+
+fn messages(seed: u64, ordinals: Range<u64>, tally: &mut Tally) {
+    for ordinal in ordinals {
+        let mut rng = Rng::of_input(!seed.rotate_left(32), ordinal);
+        compare_message(ordinal, &any_message(&mut rng), tally);
     }
 }
 
@@ -119,6 +127,7 @@ fn library_and_twin_agree() {
             images(seed, share(IMAGES * times, part, parts), &mut tally);
             plans(seed, share(PLANS * times, part, parts), &mut tally);
             rolls(seed, share(ROLLS * times, part, parts), &mut tally);
+            messages(seed, share(MESSAGES * times, part, parts), &mut tally);
             if part == 0 {
                 long_images(seed, &mut tally);
                 long_plans(seed, &mut tally);
@@ -144,8 +153,8 @@ fn library_and_twin_agree() {
     for call in Call::ALL {
         assert_eq!(total.reached(call), call.numbers(), "{call:?}");
     }
-    for number in 0..20 {
-        assert!(total.of_number(number) > 0, "{number} never occurred");
+    for &reason in eif::Reason::ALL {
+        assert!(total.of_number(reason as u8) > 0, "{reason} never occurred");
     }
     assert!(total.inputs() >= 200_000);
 }

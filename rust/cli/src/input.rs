@@ -1,7 +1,7 @@
 //! Reading inputs: files, and standard input by the name `-`.
 
 use crate::progress::Progress;
-use crate::status::Trouble;
+use crate::status::{Status, Trouble};
 use std::ffi::{OsStr, OsString};
 use std::fs::File;
 use std::io::{self, Read};
@@ -48,6 +48,23 @@ fn read_all(name: &OsStr, source: impl Read) -> io::Result<Vec<u8>> {
             Err(error) => return Err(error),
         }
     }
+}
+
+/// Answers each input in turn. The worst status counts, and one that cannot be read is reported.
+pub fn each(
+    names: &[OsString],
+    answer: impl Fn(&Input) -> Result<Status, Trouble>,
+) -> Result<Status, Trouble> {
+    one_standard_input(names)?;
+    let mut worst = Status::Fine;
+    for name in names {
+        let status = match read(name) {
+            Ok(input) => answer(&input)?,
+            Err(trouble) => trouble.report(),
+        };
+        worst = worst.max(status);
+    }
+    Ok(worst)
 }
 
 /// Standard input can be read once.

@@ -9,6 +9,7 @@ mod commands;
 mod content;
 mod input;
 mod json;
+mod objects;
 mod output;
 mod progress;
 mod status;
@@ -54,7 +55,7 @@ fn run(words: &[OsString]) -> Result<Status, Trouble> {
 
 /// What `eif --help` prints.
 fn overview() -> String {
-    let line = |command: &Command| format!("  {:8}  {}\n", command.name, command.summary);
+    let line = |command: &Command| format!("  {:9}  {}\n", command.name, command.summary);
     let commands: String = COMMANDS.iter().map(line).collect();
     format!(
         "eif reads, writes and compares enclave image files (EIF).\n\

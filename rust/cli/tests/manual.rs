@@ -63,7 +63,7 @@ fn run_shown(name: &str) -> usize {
 
 #[test]
 fn the_manual_shows_what_is_printed() {
-    assert_eq!(run_shown("docs/MANUAL.md"), 7);
+    assert_eq!(run_shown("docs/MANUAL.md"), 8);
 }
 
 #[test]
@@ -90,7 +90,9 @@ fn citations_of_the_format_name_its_sections() {
         "rust/eif/src/numbers.rs",
         "rust/eif/src/plan.rs",
         "rust/eif/src/refusal.rs",
+        "rust/eif/src/registers.rs",
         "rust/eif/src/roll.rs",
+        "rust/eif/src/sha384.rs",
         "rust/eif/src/stream.rs",
         "rust/cases/src/images.rs",
     ];

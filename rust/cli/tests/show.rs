@@ -101,7 +101,8 @@ fn object(folder: &Folder, name: &str, status: i32) -> Value {
 #[test]
 fn json_of_an_image_is_read_back() {
     let image = object(&packed(), "packed.eif", 0);
-    let keys = "file accepted version flags architecture default_mem default_cpus sections";
+    let keys =
+        "file accepted version flags architecture default_mem default_cpus sections Measurements";
     assert_eq!(image.keys().join(" "), keys);
     assert_eq!(*image.get("file"), Value::Text("packed.eif".into()));
     assert_eq!(*image.get("accepted"), Value::Truth(true));

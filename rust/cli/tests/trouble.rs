@@ -12,10 +12,11 @@ use std::os::unix::net::UnixStream;
 use std::process::Stdio;
 
 /// Every subcommand with files in the places of its inputs.
-const READERS: [&str; 7] = [
+const READERS: [&str; 8] = [
     "show FILE",
     "check FILE",
     "compare FILE good",
+    "registers FILE",
     "roll FILE",
     "extract FILE 0",
     "stream FILE whole",
@@ -151,6 +152,8 @@ fn a_full_disk() {
         "show --json good",
         "check good",
         "compare good good",
+        "registers good",
+        "registers --json good",
         "roll good",
         "extract good 0",
         "stream good whole",
@@ -251,6 +254,8 @@ const WRONG: &[(&str, &str)] = &[
     ("compare good", "B is missing"),
     ("compare good good good", "good is one too many"),
     ("compare - -", "- is named twice"),
+    ("registers", "FILE is missing"),
+    ("registers - -", "- is named twice"),
     ("roll", "IMAGE is missing"),
     ("roll good --output", "--output needs a value"),
     ("roll good --output a --output b", "--output is given twice"),

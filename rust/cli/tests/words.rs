@@ -107,9 +107,13 @@ fn the_header_has_the_same_limits() {
         ("EIF_RECORD_HEAD_LENGTH", eif::RECORD_HEAD_LENGTH),
         ("EIF_MAX_SECTIONS", eif::MAX_SECTIONS),
         ("EIF_NO_RAMDISK", eif::raw::NO_RAMDISK as usize),
+        ("EIF_REGISTERS", eif::REGISTERS),
+        ("EIF_DIGEST_LENGTH", eif::DIGEST_LENGTH),
     ] {
         assert_eq!(macro_value(&header, name), value.to_string(), "{name}");
     }
+    let most = format!("UINT64_C({})", eif::MAX_MESSAGE_LENGTH);
+    assert_eq!(macro_value(&header, "EIF_MAX_MESSAGE_LENGTH"), most);
 }
 
 #[test]
@@ -189,7 +193,7 @@ fn help_manual_and_man_page_have_the_same_subcommands_and_options() {
     let names = subcommands(&folder);
     assert_eq!(
         names.join(" "),
-        "show check compare roll pack extract stream"
+        "show check compare registers roll pack extract stream"
     );
     for name in names {
         let help = folder.run([&name[..], "--help"]);

@@ -1,8 +1,8 @@
 //! Reading an image.
 
 use crate::{
-    raw, Architecture, DataLength, FilePosition, Place, Plan, Refusal, SectionType, MAX_SECTIONS,
-    SECTION_HEADER_LENGTH,
+    raw, Architecture, DataLength, FilePosition, Place, Plan, Refusal, Registers, SectionType,
+    MAX_SECTIONS, SECTION_HEADER_LENGTH,
 };
 
 /// A section of an accepted image.
@@ -167,6 +167,12 @@ impl<'a> Image<'a> {
     pub fn first_ramdisk(&self) -> Option<usize> {
         let first = self.first_ramdisk;
         (first != raw::NO_RAMDISK).then_some(first as usize)
+    }
+
+    /// The image's registers. The image is read again for them.
+    pub fn registers(&self) -> Registers {
+        // These bytes were accepted, so there is no refusal.
+        Registers(raw::registers(self.bytes).registers)
     }
 
     /// The plan with this image's fields and sections. Where the image is plain, [`write`](crate::write)

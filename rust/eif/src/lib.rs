@@ -1,4 +1,4 @@
-//! Reader, writer and boot rolls of enclave image files (EIF).
+//! Reader, writer, registers and boot rolls of enclave image files (EIF).
 //!
 //! This crate is the safe Rust interface to a static library whose every function is proved to meet
 //! the rules of docs/FORMAT.md, which is cited by section. Nothing is judged here: bytes and numbers go
@@ -9,6 +9,8 @@
 //! | [`read`] | accepts or refuses an image and lists its sections |
 //! | [`write()`], [`plan_length`], [`write_to_vec`] | the plain image of a [`Plan`] |
 //! | [`copy_stream`], [`stream_length`], [`stream_to_vec`] | the three measured streams |
+//! | [`registers()`] | registers 0, 1 and 2, as the platform measures the image |
+//! | [`Sha384`] | SHA-384, fed in pieces |
 //! | [`write_roll`], [`roll_length`], [`roll_to_vec`], [`read_roll`] | the boot roll |
 //!
 //! Every call takes any bytes and any numbers. A [`Refusal`] has the first answer number that applies,
@@ -74,7 +76,9 @@ mod numbers;
 mod plan;
 pub mod raw;
 mod refusal;
+mod registers;
 mod roll;
+mod sha384;
 mod stream;
 
 pub use image::{read, Image, Section};
@@ -83,7 +87,9 @@ pub use numbers::{
 };
 pub use plan::{plan_length, write, write_to_vec, Place, Plan};
 pub use refusal::{Reason, Refusal};
+pub use registers::{registers, Registers};
 pub use roll::{read_roll, roll_length, roll_to_vec, write_roll, Roll, RollRecord};
+pub use sha384::{Digest, Sha384};
 pub use stream::{copy_stream, stream_length, stream_to_vec, Stream};
 
 /// The longest image, in bytes. A buffer of this length takes any image, roll or stream.
@@ -101,3 +107,12 @@ pub const SECTION_HEADER_LENGTH: usize = 12;
 
 /// The length of a roll record's head, which stands before its data.
 pub const RECORD_HEAD_LENGTH: usize = 10;
+
+/// The length of a SHA-384 digest, and of a register.
+pub const DIGEST_LENGTH: usize = 48;
+
+/// The most bytes that one SHA-384 digest is of.
+pub const MAX_MESSAGE_LENGTH: u64 = (1 << 61) - 1;
+
+/// How many registers an image has.
+pub const REGISTERS: usize = 3;

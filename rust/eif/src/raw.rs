@@ -5,9 +5,10 @@
 //! pointer and length be a slice's and that an output overlap no input, which the types here see to.
 
 use crate::{
-    DataLength, FilePosition, Place, RollPosition, SectionType, StreamPosition, MAX_SECTIONS,
+    DataLength, Digest, FilePosition, Place, RollPosition, SectionType, StreamPosition,
+    DIGEST_LENGTH, MAX_SECTIONS, REGISTERS,
 };
-use std::mem::{offset_of, size_of};
+use std::mem::{align_of, offset_of, size_of};
 
 /// What [`Reading::first_ramdisk`] is where there is no ramdisk, and beside a refusal.
 pub const NO_RAMDISK: u32 = 32;
@@ -124,6 +125,46 @@ pub struct RollReading {
     pub records: [RollRecord; MAX_SECTIONS],
 }
 
+/// A SHA-384 digest in progress. Any value whatever is one; a fresh one is [`sha384_begin`]'s.
+#[repr(C)]
+#[derive(Clone, Copy, Debug, PartialEq, Eq)]
+pub struct Sha384 {
+    /// The hash value after the whole blocks.
+    pub words: [u64; 8],
+    /// The bytes of the block that is being filled, the others 0.
+    pub block: [u8; 128],
+    /// How many bytes were taken in all.
+    pub total: u64,
+}
+
+/// What [`sha384_update`] answers.
+#[repr(C)]
+#[derive(Clone, Copy, Debug, PartialEq, Eq)]
+pub struct Sha384Fed {
+    /// The answer number, 0 where the piece is taken.
+    pub number: u8,
+    /// Always 0.
+    pub reserved: [u8; 7],
+    /// Always 0.
+    pub index: u64,
+    /// The state after the piece; beside a refusal the state as it was.
+    pub state: Sha384,
+}
+
+/// What [`registers`] answers.
+#[repr(C)]
+#[derive(Clone, Copy, Debug, Default, PartialEq, Eq)]
+pub struct RegistersAnswer {
+    /// The answer number, 0 where the image is accepted.
+    pub number: u8,
+    /// Always 0.
+    pub reserved: [u8; 7],
+    /// The index beside a refusal.
+    pub index: u64,
+    /// Registers 0, 1 and 2, all zero beside a refusal.
+    pub registers: [Digest; REGISTERS],
+}
+
 // The layout that eif.h gives to a C compiler. Each size is the sum of the fields' sizes, so an answer
 // has no padding.
 const _: () = {
@@ -136,6 +177,13 @@ const _: () = {
     assert!(size_of::<Reading>() == 1 + 1 + 3 * 2 + 3 * 8 + 4 * 4 + MAX_SECTIONS * 24);
     assert!(offset_of!(Reading, sections) == 48);
     assert!(size_of::<RollReading>() == 1 + 7 + 8 + 8 + MAX_SECTIONS * 24);
+    assert!(size_of::<Sha384>() == 8 * 8 + 128 + 8);
+    assert!(offset_of!(Sha384, block) == 64 && offset_of!(Sha384, total) == 192);
+    assert!(size_of::<Sha384Fed>() == 1 + 7 + 8 + size_of::<Sha384>());
+    assert!(offset_of!(Sha384Fed, state) == 16);
+    assert!(size_of::<Digest>() == DIGEST_LENGTH && align_of::<Digest>() == 1);
+    assert!(size_of::<RegistersAnswer>() == 1 + 7 + 8 + REGISTERS * DIGEST_LENGTH);
+    assert!(offset_of!(RegistersAnswer, registers) == 16);
     assert!(size_of::<Place>() == 16);
     assert!(size_of::<Plan>() == 544 && offset_of!(Plan, places) == 32);
 };
@@ -162,7 +210,10 @@ impl From<RollRecord> for crate::RollRecord {
 }
 
 mod c {
-    use super::{Answer, Plan, Reading, RollReading, StreamPosition};
+    use super::{
+        Answer, Digest, Plan, Reading, RegistersAnswer, RollReading, Sha384, Sha384Fed,
+        StreamPosition,
+    };
 
     extern "C" {
         pub fn eif_read(image: *const u8, image_length: usize) -> Reading;
@@ -206,6 +257,11 @@ mod c {
             out_length: usize,
         ) -> Answer;
         pub fn eif_roll_read(roll: *const u8, roll_length: usize) -> RollReading;
+        pub fn eif_registers(image: *const u8, image_length: usize) -> RegistersAnswer;
+        pub fn eif_sha384_begin() -> Sha384;
+        pub fn eif_sha384_update(state: Sha384, piece: *const u8, piece_length: usize)
+            -> Sha384Fed;
+        pub fn eif_sha384_finish(state: Sha384) -> Digest;
     }
 }
 
@@ -305,6 +361,30 @@ pub fn roll_read(roll: &[u8]) -> RollReading {
     unsafe { c::eif_roll_read(roll.as_ptr(), roll.len()) }
 }
 
+/// `eif_registers`.
+pub fn registers(image: &[u8]) -> RegistersAnswer {
+    // SAFETY: as for `read`.
+    unsafe { c::eif_registers(image.as_ptr(), image.len()) }
+}
+
+/// `eif_sha384_begin`.
+pub fn sha384_begin() -> Sha384 {
+    // SAFETY: there is no pointer.
+    unsafe { c::eif_sha384_begin() }
+}
+
+/// `eif_sha384_update`.
+pub fn sha384_update(state: Sha384, piece: &[u8]) -> Sha384Fed {
+    // SAFETY: as for `read`.
+    unsafe { c::eif_sha384_update(state, piece.as_ptr(), piece.len()) }
+}
+
+/// `eif_sha384_finish`.
+pub fn sha384_finish(state: Sha384) -> Digest {
+    // SAFETY: there is no pointer.
+    unsafe { c::eif_sha384_finish(state) }
+}
+
 impl Answer {
     /// The length, or the refusal.
     pub(crate) fn accepted(self) -> Result<u64, crate::Refusal> {
@@ -363,6 +443,9 @@ mod tests {
             }
             assert_eq!(c::eif_roll_write(null(), 0, null_mut(), 0).number, 2);
             assert_eq!(c::eif_roll_read(null(), 0), roll_read(&[]));
+            assert_eq!(c::eif_registers(null(), 0), registers(&[]));
+            let fed = c::eif_sha384_update(sha384_begin(), null(), 0);
+            assert_eq!((fed.number, fed.state), (0, sha384_begin()));
         }
     }
 
@@ -394,6 +477,10 @@ mod tests {
         assert_eq!(roll_write(image, &mut roll).length, 30);
         let copy = roll.to_vec();
         assert_eq!(bytes_of(&roll_read(&roll)), bytes_of(&roll_read(&copy)));
+        let copy = image.to_vec();
+        assert_eq!(bytes_of(&registers(image)), bytes_of(&registers(&copy)));
+        let fed = [(); 2].map(|()| sha384_update(sha384_begin(), &copy));
+        assert_eq!(bytes_of(&fed[0]), bytes_of(&fed[1]));
     }
 
     #[test]
@@ -412,6 +499,16 @@ mod tests {
             assert_eq!(reading.reserved, [0; 7]);
             let reserved = |r: &RollRecord| (r.reserved, r.reserved_after);
             assert!(reading.records.iter().all(|r| reserved(r) == (0, 0)));
+        }
+        for answer in [registers(&image), registers(&[])] {
+            assert_eq!(answer.reserved, [0; 7]);
+        }
+        let full = Sha384 {
+            total: u64::MAX,
+            ..sha384_begin()
+        };
+        for state in [sha384_begin(), full] {
+            assert_eq!(sha384_update(state, &image).reserved, [0; 7]);
         }
     }
 }

@@ -92,6 +92,8 @@ reasons! {
         "fetch the roll again";
     19 PastStreamEnd: "stream position past the stream's end",
         "nothing is wrong with the file; mend the calling program";
+    29 MessageTooLong: "message longer than 2,305,843,009,213,693,951 bytes",
+        "nothing is wrong with the file; mend the calling program";
 }
 
 impl fmt::Display for Reason {

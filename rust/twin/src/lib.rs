@@ -2,6 +2,7 @@
 //!
 //! Written from the rules alone (docs/FORMAT.md), to be compared with the proved library: it gives the
 //! same answers and shares no code with it. It is also what the library's speed is measured against.
+//! [`Sha384`] is written from FIPS 180-4.
 //!
 //! ```
 //! use eif_twin::{read_roll, Refusal};
@@ -15,13 +16,17 @@
 mod crc32;
 mod image;
 mod plan;
+mod registers;
 mod roll;
 mod rules;
+mod sha384;
 mod stream;
 
 pub use crc32::Crc32;
 pub use image::{read, Reading, Section};
 pub use plan::{plan_length, write, Place, Plan};
+pub use registers::registers;
 pub use roll::{read_roll, roll_length, write_roll, Record};
 pub use rules::Refusal;
+pub use sha384::Sha384;
 pub use stream::{copy_stream, stream_length, Stream};

@@ -27,7 +27,7 @@ pub(crate) const METADATA: u16 = 5;
 /// Why something was refused.
 #[derive(Clone, Copy, Debug, PartialEq, Eq)]
 pub struct Refusal {
-    /// The answer number, 1 to 19.
+    /// The answer number.
     pub number: u8,
     /// Index of the section or record, 0 where the number has none.
     pub index: u64,

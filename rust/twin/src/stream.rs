@@ -15,7 +15,7 @@ pub enum Stream {
 }
 
 /// The sections of a stream, in the stream's order.
-fn parts(reading: &Reading, stream: Stream) -> Vec<Section> {
+pub(crate) fn parts(reading: &Reading, stream: Stream) -> Vec<Section> {
     let system = reading.of(KERNEL).chain(reading.of(COMMAND_LINE));
     let ramdisks = reading.of(RAMDISK);
     match stream {

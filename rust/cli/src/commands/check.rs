@@ -4,7 +4,6 @@ use super::Command;
 use crate::args::{Args, Options};
 use crate::status::{Status, Trouble};
 use crate::{input, output, words};
-use std::ffi::OsStr;
 
 pub const COMMAND: Command = Command {
     name: "check",
@@ -29,27 +28,14 @@ Exit status: 0 all are accepted, 1 one is refused, 2 one cannot be read.
 
 fn run(args: Args) -> Result<Status, Trouble> {
     let names = args.some_operands("FILE")?;
-    input::one_standard_input(names)?;
-    let mut worst = Status::Fine;
-    for name in names {
-        let status = match check(name) {
-            Ok((status, line)) => {
-                if !args.has("--quiet") {
-                    output::print(&line)?;
-                }
-                status
-            }
-            Err(trouble) => trouble.report(),
+    input::each(names, |input| {
+        let (status, verdict) = match eif::read(&input.bytes) {
+            Ok(_) => (Status::Fine, "accepted".to_string()),
+            Err(refusal) => (Status::Refused, refusal.to_string()),
         };
-        worst = worst.max(status);
-    }
-    Ok(worst)
-}
-
-fn check(name: &OsStr) -> Result<(Status, Vec<u8>), Trouble> {
-    let input = input::read(name)?;
-    Ok(match eif::read(&input.bytes) {
-        Ok(_) => (Status::Fine, words::about(name, "accepted\n")),
-        Err(refusal) => (Status::Refused, words::about(name, &format!("{refusal}\n"))),
+        if !args.has("--quiet") {
+            output::print(&words::about(&input.name, &(verdict + "\n")))?;
+        }
+        Ok(status)
     })
 }

@@ -1,6 +1,6 @@
 //! The subcommands, each in a file of its own.
 //!
-//! A new one (registers, signature, assemble, stage) is a file here and a row in the table. A stricter
+//! A new one (signature, assemble, stage) is a file here and a row in the table. A stricter
 //! reading is a flag `--strict` of `show` and `check`.
 
 use crate::args::{Args, Options};
@@ -10,6 +10,7 @@ mod check;
 mod compare;
 mod extract;
 mod pack;
+mod registers;
 mod roll;
 mod show;
 mod stream;
@@ -26,10 +27,11 @@ pub struct Command {
 }
 
 /// All of them, in the order of the overview.
-pub const COMMANDS: [Command; 7] = [
+pub const COMMANDS: [Command; 8] = [
     show::COMMAND,
     check::COMMAND,
     compare::COMMAND,
+    registers::COMMAND,
     roll::COMMAND,
     pack::COMMAND,
     extract::COMMAND,

@@ -5,7 +5,7 @@ use crate::args::{Args, Options};
 use crate::content::{self, Content, Neither};
 use crate::json::{self, Object};
 use crate::status::{Status, Trouble};
-use crate::{input, output, words};
+use crate::{input, objects, output, words};
 use eif::{Image, RollRecord, Section, SectionType};
 use std::ffi::OsStr;
 
@@ -35,21 +35,12 @@ type Answer<'a> = Result<Content<'a>, Neither>;
 
 fn run(args: Args) -> Result<Status, Trouble> {
     let names = args.some_operands("FILE")?;
-    input::one_standard_input(names)?;
     let form = if args.has("--json") { object } else { text };
-    let mut worst = Status::Fine;
-    for name in names {
-        let status = match input::read(name) {
-            Ok(input) => {
-                let answer = content::read(&input.bytes);
-                output::print(&form(name, &answer))?;
-                answer.map_or(Status::Refused, |_| Status::Fine)
-            }
-            Err(trouble) => trouble.report(),
-        };
-        worst = worst.max(status);
-    }
-    Ok(worst)
+    input::each(names, |input| {
+        let answer = content::read(&input.bytes);
+        output::print(&form(&input.name, &answer))?;
+        Ok(answer.map_or(Status::Refused, |_| Status::Fine))
+    })
 }
 
 fn text(name: &OsStr, answer: &Answer) -> Vec<u8> {
@@ -104,24 +95,14 @@ fn row(
 }
 
 fn object(name: &OsStr, answer: &Answer) -> Vec<u8> {
-    let object = Object::default().put("file", json::string(&name.to_string_lossy()));
     let object = match answer {
-        Ok(Content::Image(image)) => image_members(object.put("accepted", true), image),
+        Ok(Content::Image(image)) => image_members(objects::on_file(name, true), image),
         Ok(Content::Roll(roll)) => {
             let records = roll.records().iter().enumerate();
             let records = records.map(|(index, record)| record_object(index, record));
-            object
-                .put("accepted", true)
-                .put("records", json::list(records))
+            objects::on_file(name, true).put("records", json::list(records))
         }
-        Err(neither) => {
-            let refusal = &neither.image;
-            object
-                .put("accepted", false)
-                .put("number", refusal.number())
-                .put("index", refusal.index())
-                .put("meaning", json::string(refusal.reason().meaning()))
-        }
+        Err(neither) => objects::refused(name, &neither.image),
     };
     (object.text() + "\n").into_bytes()
 }
@@ -129,13 +110,14 @@ fn object(name: &OsStr, answer: &Answer) -> Vec<u8> {
 fn image_members(object: Object, image: &Image) -> Object {
     let sections = image.sections().iter().enumerate();
     let sections = sections.map(|(index, section)| section_object(index, section));
-    object
+    let object = object
         .put("version", image.version())
         .put("flags", image.flags())
         .put("architecture", json::string(image.architecture().name()))
         .put("default_mem", image.default_mem())
         .put("default_cpus", image.default_cpus())
-        .put("sections", json::list(sections))
+        .put("sections", json::list(sections));
+    objects::put_measurements(object, &image.registers())
 }
 
 fn section_object(index: usize, section: &Section) -> String {

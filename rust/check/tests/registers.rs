@@ -1,0 +1,104 @@
+//! The registers of images: the examples, `sha384sum`, and the rule itself.
+
+use eif::{raw, Registers, Sha384, Stream};
+use eif_cases::{image_cases, image_of_length, register_cases, MAX_IMAGE};
+use eif_check::{accepted_layout, Rng};
+use std::fs;
+use std::path::{Path, PathBuf};
+use std::process::Command;
+
+fn repository() -> PathBuf {
+    Path::new(env!("CARGO_MANIFEST_DIR")).join("../..")
+}
+
+/// Holds the registers of an image in a file to what tests/registers.sh computes with `sha384sum`.
+fn check_with_script(file: &Path) {
+    let registers = eif::registers(&fs::read(file).unwrap()).unwrap();
+    let script = Command::new("sh")
+        .arg(repository().join("tests/registers.sh"))
+        .arg(file)
+        .output();
+    let script = script.expect("there is a shell");
+    assert!(script.status.success(), "{}", file.display());
+    let expected = String::from_utf8_lossy(&script.stdout);
+    assert_eq!(format!("{registers}\n"), expected, "{}", file.display());
+}
+
+/// Writes images to files and checks each.
+fn check_images(name: &str, images: impl IntoIterator<Item = Vec<u8>>) {
+    let file = Path::new(env!("CARGO_TARGET_TMPDIR")).join(name);
+    for image in images {
+        fs::write(&file, image).unwrap();
+        check_with_script(&file);
+    }
+    fs::remove_file(&file).unwrap();
+}
+
+#[test]
+fn examples() {
+    for (image, expected) in register_cases() {
+        let registers = eif::registers(&image).unwrap();
+        assert_eq!(registers.0.map(|register| register.to_string()), expected);
+    }
+}
+
+#[test]
+fn samples_by_sha384sum() {
+    let mut samples = 0;
+    for entry in fs::read_dir(repository().join("samples")).unwrap() {
+        let file = entry.unwrap().path();
+        if file.extension().is_some_and(|extension| extension == "eif") {
+            check_with_script(&file);
+            samples += 1;
+        }
+    }
+    assert!(samples > 0);
+}
+
+#[test]
+fn generated_images_by_sha384sum() {
+    let image = |ordinal| accepted_layout(&mut Rng::of_input(9, ordinal)).image();
+    check_images("generated.eif", (0..16).map(image));
+}
+
+#[test]
+fn the_longest_image_by_sha384sum() {
+    check_images("longest.eif", [image_of_length(MAX_IMAGE)]);
+}
+
+#[test]
+fn registers_are_digests_of_digests_of_streams() {
+    for ordinal in 0..2_000 {
+        let image = accepted_layout(&mut Rng::of_input(10, ordinal)).image();
+        let registers = eif::registers(&image).unwrap();
+        for stream in Stream::ALL {
+            let mut measured = Sha384::new();
+            let bytes = eif::stream_to_vec(&image, stream).unwrap();
+            measured.update(&bytes).unwrap();
+            let mut extended = Sha384::new();
+            extended.update(&[0; 48]).unwrap();
+            extended.update(&measured.finish().0).unwrap();
+            assert_eq!(registers.of(stream), extended.finish());
+        }
+    }
+}
+
+#[test]
+fn a_refused_image_has_registers_of_zeros() {
+    let mut refused = 0;
+    for case in image_cases() {
+        let answer = raw::registers(&case.image);
+        let verdict = (answer.number, answer.index);
+        assert_eq!(verdict, (case.number, case.index), "{}", case.name);
+        match eif::registers(&case.image) {
+            Ok(Registers(registers)) => assert_eq!(registers, answer.registers),
+            Err(refusal) => {
+                assert_eq!((refusal.number(), refusal.index()), verdict);
+                let zeros = raw::RegistersAnswer::default().registers;
+                assert_eq!(answer.registers, zeros, "{}", case.name);
+                refused += 1;
+            }
+        }
+    }
+    assert!(refused > 10, "{refused}");
+}

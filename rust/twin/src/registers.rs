@@ -1,0 +1,27 @@
+//! The registers of an image.
+
+use crate::image::read;
+use crate::rules::Refusal;
+use crate::sha384::Sha384;
+use crate::stream::{parts, Stream};
+
+/// Registers 0, 1 and 2 of `image`, from its streams Whole, Boot and App: SHA-384 of 48 zero bytes and
+/// the SHA-384 of the stream.
+pub fn registers(image: &[u8]) -> Result<[[u8; 48]; 3], Refusal> {
+    let reading = read(image)?;
+    let mut registers = [[0; 48]; 3];
+    for (register, stream) in registers
+        .iter_mut()
+        .zip([Stream::Whole, Stream::Boot, Stream::App])
+    {
+        let mut measured = Sha384::new();
+        for part in parts(&reading, stream) {
+            measured.update(part.data(image))?;
+        }
+        let mut extended = Sha384::new();
+        extended.update(&[0; 48])?;
+        extended.update(&measured.finish())?;
+        *register = extended.finish();
+    }
+    Ok(registers)
+}
