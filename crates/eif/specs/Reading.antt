@@ -101,8 +101,12 @@ dataOf s x = take (x .length .0) (drop (x .position .0) s)
 
 -- ---- the ramdisk mark, a term of FORMAT.md: bit i is one exactly when section i is a ramdisk
 
+-- 1 for the type of a ramdisk
+abbrev pub ramdiskIn : ℕ → ℕ
+ramdiskIn kind = choose (eqb kind ramdisk) 1 0
+
 abbrev pub ramdiskBit : Section → ℕ
-ramdiskBit x = choose (eqb (x .kind) ramdisk) 1 0
+ramdiskBit x = ramdiskIn (x .kind)
 
 unfoldable pub markOf : List Section → ℕ
 markOf [] = 0

@@ -13,10 +13,12 @@ use Rattle.eif.specs.Layout.{offsetAt}
 use Rattle.eif.specs.Reading.{headerRule, entryRule, sectionRule, missingRule, checksumRule, judged, verdictIn, checksumOf, verdictOf, blankSection, sectionsOf}
 use Rattle.eif.specs.Plan.{blankPlace, packedAt, dataBefore, fixedFields, offsetTable, sizeTable, headerBytes, sectionHeader, sectionBytes, plainImage}
 use Rattle.eif.specs.Roll.{headOf, rollOf, recordsIn, rollBytes}
+use Rattle.eif.specs.Stream.{keeps, kept, streamSections}
 use Rattle.eif.specs.Rows.{worked}
 use Rattle.eif.specs.declared.Place.{Place}
 use Rattle.eif.specs.declared.Plan.{Plan}
 use Rattle.eif.specs.declared.Section.{Section}
+use Rattle.eif.specs.declared.Stream.the-variants.{Whole, Boot, App}
 use Rattle.eif.specs.declared.Verdict.the-variants.{Accepted}
 
 abbrev place : ℕ → ℕ → Place
@@ -62,3 +64,16 @@ worked-sections = refl
 pub worked-roll : rollBytes workedImage ≡ worked
 unfolding rollBytes rollOf headOf recordsIn field beValue crc32 crcFrom shiftBits shiftBit plainImage headerBytes fixedFields offsetTable sizeTable packedAt sectionBytes sectionHeader dataBefore
 worked-roll = refl
+
+-- ---- streams in file order: of kernel, two ramdisks and then the command line
+
+abbrev late : List Section
+late = read kernel 560 1 ∷ read ramdisk 573 2 ∷ read ramdisk 587 3 ∷ read commandLine 602 4 ∷ replicate 28 blankSection
+
+pub late-streams :
+    map (λ stream. streamSections stream late) (Whole ∷ Boot ∷ App ∷ [])
+    ≡ (read kernel 560 1 ∷ read ramdisk 573 2 ∷ read ramdisk 587 3 ∷ read commandLine 602 4 ∷ [])
+    ∷ (read kernel 560 1 ∷ read ramdisk 573 2 ∷ read commandLine 602 4 ∷ [])
+    ∷ (read ramdisk 587 3 ∷ []) ∷ []
+unfolding kept keeps
+late-streams = refl

@@ -254,6 +254,12 @@ pub enum Stream {
     App,
 }
 
+// The sections of a stream, in its order: the first `count` places.
+pub struct StreamSections {
+    pub count: u64,
+    pub sections: [Section; PLACES],
+}
+
 // What copying from a stream answers: the number of bytes copied.
 pub struct Copied {
     pub verdict: Verdict,

@@ -1,2 +1,3 @@
 pub mod Flat
 pub mod Measure
+pub mod Listed

@@ -3,6 +3,7 @@
 //
 // The digest and the registers stand in measure.rt.
 mod measure;
+mod sections;
 
 ghost use mathlib.Core.Path.{_≡_};
 ghost use mathlib.Core.List.{map};

@@ -18,7 +18,6 @@ use Rattle.eif.specs.declared.Verdict.the-variants.{Accepted, Refused}
 use Rattle.eif_rules.proofs.Table.{length-filled}
 use Rattle.eif_rules.proofs.Accept.{passes}
 use Rattle.eif_rules.proofs.Reading.{reading-accepted}
-use Rattle.eif_streams.proofs.Reading.{accepted}
 use Rattle.sha384_block.specs.Fips.{sha384}
 use Rattle.sha384.specs.State.{finished, fresh}
 use Rattle.eif_registers.specs.Rule.{registerFrom, registerOf, imageRegisters, noRegisters, asDigests, registersFor, registersAnswer, hashed, stepRegister, stepRegisters}

@@ -1,21 +1,21 @@
 // The three registers of an image (FORMAT.md, Registers): of each measured stream, SHA-384 of forty-eight zero bytes followed by the
 // stream's SHA-384.
 //
-// The streams are hashed where they lie in the image, section by section, with no copy. Boot is the beginning of Whole, and is hashed
-// once for both: a state is a value, and may be gone on from.
+// The streams are hashed where they lie in the image, section by section, with no copy. Where Whole and Boot begin alike, that is hashed
+// once for both.
 ghost use mathlib.Core.Path.{_≡_};
-ghost use Prim.Native.Nat.{_+_, _≤_, min};
-ghost use lib.ListN.{length};
+ghost use mathlib.Core.Bool.{true};
+ghost use Prim.Native.Nat.{_≤_, min};
+ghost use lib.ListN.{take};
 ghost use lib.Seq.{slice};
 ghost use Rattle.eif.specs.Numbers.{placeCount};
-ghost use Rattle.eif.specs.Reading.{dataOf, firstRamdisk};
-ghost use Rattle.eif.specs.Stream.{ofType};
-ghost use Rattle.sha384.specs.State.{updated, finished};
+ghost use Rattle.sha384.specs.State.{fresh, finished};
 ghost use Rattle.eif_registers.specs.Rule.{registerFrom, hashed, stepRegisters, registersAnswer};
 use eif::PLACES;
 use eif::Reading;
 use eif::Section;
-use eif::SectionType;
+use eif::Stream;
+use eif::StreamSections;
 use eif::Verdict;
 use sha384::State;
 
@@ -34,57 +34,87 @@ fn lesser(a: u64, b: u64) -> u64
     if a < b { a } else { b }
 }
 
-// The state after a section's data, as far as it lies in the image.
-fn take_section(state: State, image: &[u8], section: Section) -> State
-    ensures { λ r. ⌜ r ≡ updated state (dataOf (now (image .entry)) section) .state ⌝ }
-{
-    let size = image.len() as u64;
-    let start = lesser(section.position.0, size) as usize;
-    let length = lesser(section.length.0, size - start as u64) as usize;
-    let end = start + length;
-    let updated = sha384::update(state, &image[start..end]);
-    updated.state
-}
+// ---- hashing sections where they lie
 
-// The state after the data of the sections of a type among the places from `from` up to `to`.
-fn take_type(
+// The state after the data of the sections from a place up to another.
+fn take_sections(
     state: State,
     image: &[u8],
     sections: [Section; PLACES],
-    kind: u16,
     from: usize,
     to: usize,
 ) -> State
     requires { ⌜ (from ≤ to) × (to ≤ placeCount) ⌝ }
-    ensures { λ r. ⌜ r ≡ hashed (now (image .entry)) state (ofType kind (slice from to sections)) ⌝ }
+    ensures { λ r. ⌜ r ≡ hashed (now (image .entry)) state (slice from to sections) ⌝ }
 {
     let mut st = state;
     let mut i = from;
     while i < to {
         let section = sections[i];
-        if section.kind == kind {
-            let next = take_section(st, image, section);
-            st = next;
-        }
+        let updated = sha384::update(st, eif_streams::section_data(image, section));
+        let next = updated.state;
+        st = next;
         i += 1;
     }
     st
 }
 
-// The place after the first ramdisk; where there is no ramdisk, the number of places.
-fn after_first(sections: [Section; PLACES]) -> usize
-    ensures { λ r. ⌜ r ≡ min (firstRamdisk sections + 1) placeCount ⌝ }
+// ---- two streams that begin alike
+
+fn is_same(a: Section, b: Section) -> bool
+    ensures { λ r. ⌜ (r ≡ true → a ≡ b) ⌝ }
+{
+    if a.kind != b.kind {
+        return false;
+    }
+    if a.flags != b.flags {
+        return false;
+    }
+    if a.position.0 != b.position.0 {
+        return false;
+    }
+    a.length.0 == b.length.0
+}
+
+// How many sections two lists have in common at their start, of at most so many.
+fn alike(a: [Section; PLACES], b: [Section; PLACES], most: usize) -> usize
+    requires { ⌜ most ≤ placeCount ⌝ }
+    ensures { λ r. ⌜ (r ≤ most) × (take r a ≡ take r b) ⌝ }
 {
     let mut i: usize = 0;
-    while i < PLACES {
-        let section = sections[i];
-        if section.kind == SectionType::RAMDISK {
-            return i + 1;
+    while i < most {
+        if !is_same(a[i], b[i]) {
+            return i;
         }
         i += 1;
     }
-    PLACES
+    i
 }
+
+struct States {
+    whole: State,
+    boot: State,
+}
+
+// The states of Whole and Boot. What their sections begin with alike is hashed once: a state is a value, and may be gone on from.
+fn hash_both(image: &[u8], whole: StreamSections, boot: StreamSections) -> States
+    requires { ⌜ (whole .count ≤ placeCount) × (boot .count ≤ placeCount) ⌝ }
+    ensures { λ r. ⌜ r .whole ≡ hashed (now (image .entry)) fresh (take (whole .count) (whole .sections)) ⌝ }
+    ensures { λ r. ⌜ r .boot ≡ hashed (now (image .entry)) fresh (take (boot .count) (boot .sections)) ⌝ }
+{
+    let a = whole.sections;
+    let b = boot.sections;
+    let shared = alike(a, b, lesser(whole.count, boot.count) as usize);
+    let start = take_sections(sha384::new(), image, a, 0, shared);
+    let whole_end = take_sections(start, image, a, shared, whole.count as usize);
+    let boot_end = take_sections(start, image, b, shared, boot.count as usize);
+    States {
+        whole: whole_end,
+        boot: boot_end,
+    }
+}
+
+// ---- the registers
 
 // The register that a stream's state stands for.
 fn register(state: State) -> [u8; 48]
@@ -102,31 +132,18 @@ fn register(state: State) -> [u8; 48]
 pub fn step(image: &[u8], reading: Reading) -> [[u8; 48]; 3]
     ensures { λ r. ⌜ r ≡ stepRegisters (now (image .entry)) (reading .sections) ⌝ }
 {
-    let sections = reading.sections;
-    let after = after_first(sections);
-    let begun = sha384::new();
-    let kernel = take_type(begun, image, sections, SectionType::KERNEL, 0, PLACES);
-    let command_line = take_type(
-        kernel,
-        image,
-        sections,
-        SectionType::COMMAND_LINE,
-        0,
-        PLACES,
-    );
-    let boot = take_type(
-        command_line,
-        image,
-        sections,
-        SectionType::RAMDISK,
-        0,
-        after,
-    );
-    let whole = take_type(boot, image, sections, SectionType::RAMDISK, after, PLACES);
-    let app = take_type(begun, image, sections, SectionType::RAMDISK, after, PLACES);
-    let zeroth = register(whole);
-    let first = register(boot);
-    let second = register(app);
+    let all = reading.sections;
+    let whole = eif_streams::sections(all, Stream::Whole);
+    let boot = eif_streams::sections(all, Stream::Boot);
+    let app = eif_streams::sections(all, Stream::App);
+    let both = hash_both(image, whole, boot);
+    let others = app.sections;
+    let app_end = take_sections(sha384::new(), image, others, 0, app.count as usize);
+    let whole_end = both.whole;
+    let boot_end = both.boot;
+    let zeroth = register(whole_end);
+    let first = register(boot_end);
+    let second = register(app_end);
     [zeroth, first, second]
 }
 

@@ -1,4 +1,3 @@
-pub mod Sections
-pub mod Data
-pub mod Reading
+pub mod Kept
+pub mod Listed
 pub mod Answers

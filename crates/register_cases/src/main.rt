@@ -144,6 +144,41 @@ fn long_ramdisks(image: &mut [u8], data_of: &[u8]) {
     put(image, 3, 853, SectionType::RAMDISK, data_of);
 }
 
+// Kernel and two ramdisks, the command line at a place among them; 611 bytes.
+fn put_three(image: &mut [u8]) {
+    case_images::put_header(image, 2, 0, 4);
+    put(image, 0, 548, SectionType::KERNEL, b"kernel");
+    put(image, 1, 566, SectionType::RAMDISK, b"one");
+}
+
+fn command_line_first() {
+    let mut image = [0u8; 596];
+    case_images::put_header(&mut image, 2, 0, 3);
+    put(&mut image, 0, 548, SectionType::COMMAND_LINE, b"cmd");
+    put(&mut image, 1, 563, SectionType::KERNEL, b"kernel");
+    put(&mut image, 2, 581, SectionType::RAMDISK, b"ram");
+    case_images::seal(&mut image);
+    registers(b"command line before the kernel", &image);
+}
+
+fn command_line_between() {
+    let mut image = [0u8; 611];
+    put_three(&mut image);
+    put(&mut image, 2, 581, SectionType::COMMAND_LINE, b"cmd");
+    put(&mut image, 3, 596, SectionType::RAMDISK, b"two");
+    case_images::seal(&mut image);
+    registers(b"command line between two ramdisks", &image);
+}
+
+fn command_line_last() {
+    let mut image = [0u8; 611];
+    put_three(&mut image);
+    put(&mut image, 2, 581, SectionType::RAMDISK, b"two");
+    put(&mut image, 3, 596, SectionType::COMMAND_LINE, b"cmd");
+    case_images::seal(&mut image);
+    registers(b"command line after the ramdisks", &image);
+}
+
 fn refused() {
     let mut image = [0u8; 633];
     put_ordinary(&mut image);
@@ -160,5 +195,8 @@ fn main() {
     no_ramdisk();
     ordinary();
     long_sections();
+    command_line_first();
+    command_line_between();
+    command_line_last();
     refused();
 }

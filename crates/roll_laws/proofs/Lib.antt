@@ -6,3 +6,4 @@ pub mod Order
 pub mod RollOfImage
 pub mod Listing
 pub mod Demand3
+pub mod Streams

@@ -1,10 +1,12 @@
--- The list of a roll, said from its records alone, and what such a list points at.
+-- The list of a roll, said from its records alone, what such a list points at, and a roll with its heads taken out.
 -- Assumes nothing.
 use Prim.Native.Nat.{ℕ, _+_, _-_}
 use mathlib.Core.List.{List, [], _∷_, _++_}
 use lib.ListN.{length, take, drop, replicate}
 use Rattle.eif.specs.Numbers.{placeCount}
-use Rattle.eif.specs.Roll.{Record, recordHeadSize, blankRecord, acceptedRoll}
+use Rattle.eif.specs.Roll.{Record, recordHeadSize, blankRecord, acceptedRoll, readRoll}
+use Rattle.eif.specs.Stream.{kept}
+use Rattle.eif.specs.declared.Stream.{Stream}
 use Rattle.eif.specs.declared.RollRecord.{RollRecord}
 use Rattle.eif.specs.declared.RollReading.{RollReading}
 
@@ -22,3 +24,25 @@ listingOf rs = acceptedRoll (length rs) (listFrom 0 rs ++ replicate (placeCount 
 -- the type that a list gives, and the bytes of a roll that it points at
 abbrev pub foundIn : List ℕ → RollRecord → Record
 foundIn t x = record { kind = x .kind; bytes = take (x .length .0) (drop (x .position .0) t) }
+
+-- ---- a roll with its heads taken out
+
+-- the bytes of a roll that an entry of a list points at
+abbrev pub bytesAt : List ℕ → RollRecord → List ℕ
+bytesAt t x = foundIn t x .bytes
+
+-- the entries that the roll's reader lists
+abbrev pub entriesOf : List ℕ → List RollRecord
+entriesOf t = take (readRoll t .count) (readRoll t .records)
+
+-- what entries point at, joined
+unfoldable pub joinedAt : List ℕ → List RollRecord → List ℕ
+joinedAt t [] = []
+joinedAt t (x ∷ xs) = bytesAt t x ++ joinedAt t xs
+
+-- all of it; and what a stream keeps of it
+unfoldable pub withoutHeads : List ℕ → List ℕ
+withoutHeads t = joinedAt t (entriesOf t)
+
+unfoldable pub streamInRoll : Stream → List ℕ → List ℕ
+streamInRoll stream t = joinedAt t (kept stream (λ x. x .kind) 0 (entriesOf t))

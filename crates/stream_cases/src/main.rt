@@ -152,6 +152,7 @@ fn ordinary() {
     within(&image);
     ends(&image);
     pieces(&image);
+    listed(&image);
 }
 
 fn command_line_first() {
@@ -167,6 +168,15 @@ fn command_line_last() {
     put(&mut image, 3, 596, SectionType::COMMAND_LINE, b"cmd");
     case_images::seal(&mut image);
     streams(b"command line after the ramdisks", &image);
+}
+
+fn command_line_between() {
+    let mut image = [0u8; 611];
+    put_command_line_last(&mut image);
+    put(&mut image, 2, 581, SectionType::COMMAND_LINE, b"cmd");
+    put(&mut image, 3, 596, SectionType::RAMDISK, b"two");
+    case_images::seal(&mut image);
+    streams(b"command line between two ramdisks", &image);
 }
 
 fn empty_sections() {
@@ -279,6 +289,35 @@ fn piece(image: &[u8], from: u64) -> u64 {
     std::num::wrapping_add_u64(from, copied.count)
 }
 
+// From the sections of Whole, found once, of the image's first bytes.
+fn from_listed(label: &[u8], image: &[u8], size: usize, from: u64) {
+    if image.len() < size {
+        return;
+    }
+    let mut out = [b'.'; 8];
+    let sections = eif_reader::read(image).sections;
+    let list = eif_streams::sections(sections, Stream::Whole);
+    let copied = eif_streams::copy_listed(&image[..size], list, StreamPosition(from), &mut out);
+    let verdict = copied.verdict;
+    text(label);
+    answer(verdict);
+    text(b", ");
+    number(copied.count);
+    text(b" ");
+    in_brackets(&out);
+    text(b"\n");
+}
+
+fn listed(image: &[u8]) {
+    from_listed(b"from its sections at 4: ", image, 633, 4);
+    from_listed(b"at 25: ", image, 633, 25);
+    from_listed(b"at 26: ", image, 633, 26);
+    from_listed(b"at 9, the image cut at 600: ", image, 600, 9);
+    from_listed(b"at 14, the image cut at 600: ", image, 600, 14);
+    from_listed(b"at 15, the image cut at 600: ", image, 600, 15);
+    from_listed(b"at 0, no image: ", image, 0, 0);
+}
+
 // ---- the image's own refusal comes first
 
 fn not_sealed() {
@@ -308,6 +347,7 @@ fn main() {
     ordinary();
     command_line_first();
     command_line_last();
+    command_line_between();
     empty_sections();
     first_ramdisk_empty();
     no_ramdisk();

@@ -1,70 +1,95 @@
--- What holds of every section of an image holds of those of a stream; the length of their data; and numbers of sections added up.
+-- The sections that a stream keeps: what holds of every section holds of them, the length of their data, and numbers of them added up.
 -- Assumes nothing.
-use Prim.Native.Nat.{ℕ, zero, suc, _+_, _<_, _≤_}
-use mathlib.Core.Path.{_≡_, refl, ap₂, _∙_}
-use mathlib.Core.Bool.{Bool, true, false}
+use Prim.Native.Nat.{ℕ, _+_, _≤_}
+use mathlib.Core.Path.{_≡_, refl, sym, ap, ap₂, _∙_}
+use mathlib.Core.Bool.{Bool, true, false, not}
 use mathlib.Core.List.{List, [], _∷_, _++_}
-use mathlib.Core.Logic.{⊎-elim}
 use native.Mathlib.Omega.{arith}
-use borrow.Author.Tests.{eq-eqb, ne-eqb, le-leb, lt-leb}
-use lib.Dec.{eqb}
-use lib.ListN.{length, take, drop, length-append}
-use Rattle.eif.specs.Numbers.{kernel, commandLine, ramdisk}
-use Rattle.eif.specs.Logic.{choose}
-use Rattle.eif.specs.Reading.{dataOf}
+use native.Mathlib.Nat.{add-zero, add-assoc}
+use borrow.Author.Tests.{eqb-true, le-leb}
+use lib.Dec.{eqb, leb, ltb}
+use lib.ListN.{length, length-append}
+use Rattle.eif.specs.Numbers.{kernel, ramdisk}
+use Rattle.eif.specs.Logic.{both, choose}
+use Rattle.eif.specs.Reading.{ramdiskIn, dataOf}
 use Rattle.eif.specs.Roll.{inRoll}
-use Rattle.eif.specs.Stream.{ofType, streamSections, joined}
+use Rattle.eif.specs.Stream.{laterRamdisk, keeps, kept, sectionKind, streamSections, joined}
 use Rattle.eif.specs.declared.Section.{Section}
 use Rattle.eif.specs.declared.Stream.{Stream}
 use Rattle.eif.specs.declared.Stream.the-variants.{Whole, Boot, App}
-use Rattle.octets.proofs.Over.{le-or-lt}
 use Rattle.eif_rules.proofs.Table.{All}
 use Rattle.eif_rules.proofs.Accept.{Inside, length-data}
 use Rattle.stream_laws.specs.Sums.{measuredIn, sumOf, lengthOf}
 
--- ---- what holds of every section
+-- ---- types
 
-module _ (P : Section → Type 0) where
-  all-append : (x y : List Section) → All P x → All P y → All P (x ++ y)
-  unfolding All
-  all-append [] y a b = b
-  all-append (x ∷ xs) y a b = (a .0, all-append xs y (a .1) b)
+-- the type of a ramdisk is one of those that a roll holds
+ramdisk-in : (kind : ℕ) (b : Bool) → eqb kind ramdisk ≡ b → both b (not (inRoll kind)) ≡ false
+ramdisk-in kind true e =
+    let k : kind ≡ ramdisk = eqb-true kind ramdisk e in
+    simp (le-leb kernel kind (omega arith), le-leb kind ramdisk (omega arith))
+ramdisk-in kind false e = refl
 
-  all-take : (n : ℕ) (l : List Section) → All P l → All P (take n l)
-  unfolding All
-  all-take zero l a = tt
-  all-take (suc n) [] a = tt
-  all-take (suc n) (x ∷ xs) a = (a .0, all-take n xs (a .1))
+-- ---- what is kept, element by element
 
-  all-drop : (n : ℕ) (l : List Section) → All P l → All P (drop n l)
-  unfolding All
-  all-drop zero l a = a
-  all-drop (suc n) [] a = tt
-  all-drop (suc n) (x ∷ xs) a = all-drop n xs (a .1)
+-- the ramdisks of a list
+unfoldable pub ramdisksIn : {A : Type 0} → (A → ℕ) → List A → ℕ
+ramdisksIn kindOf [] = 0
+ramdisksIn kindOf (x ∷ xs) = ramdiskIn (kindOf x) + ramdisksIn kindOf xs
 
-  all-by : (x : Section) (xs : List Section) (b : Bool) → P x → All P xs → All P (choose b (x ∷ xs) xs)
-  unfolding All
-  all-by x xs true p a = (p, a)
-  all-by x xs false p a = a
+module _ {A : Type 0} (stream : Stream) (kindOf : A → ℕ) where
+  choose-append : (b : Bool) (x : A) (k l : List A) → choose b (x ∷ (k ++ l)) (k ++ l) ≡ choose b (x ∷ k) k ++ l
+  choose-append true x k l = refl
+  choose-append false x k l = refl
 
-  all-type : (kind : ℕ) (l : List Section) → All P l → All P (ofType kind l)
-  unfolding All ofType
-  all-type kind [] a = tt
-  all-type kind (x ∷ xs) a = all-by x (ofType kind xs) (eqb (x .kind) kind) (a .0) (all-type kind xs (a .1))
+  -- of two lists joined
+  pub kept-append : (before : ℕ) (k l : List A) → kept stream kindOf before (k ++ l) ≡ kept stream kindOf before k ++ kept stream kindOf (before + ramdisksIn kindOf k) l
+  unfolding kept ramdisksIn
+  kept-append before [] l = ap (λ (n : ℕ). kept stream kindOf n l) (sym (add-zero before))
+  kept-append before (x ∷ xs) l =
+      let next : ℕ = before + ramdiskIn (kindOf x) in
+      let rest : List A = kept stream kindOf next xs in
+      let b : Bool = keeps stream (kindOf x) before in
+      ap (λ (r : List A). choose b (x ∷ r) r) (kept-append next xs l)
+      ∙ choose-append b x rest (kept stream kindOf (next + ramdisksIn kindOf xs) l)
+      ∙ ap (λ (n : ℕ). choose b (x ∷ rest) rest ++ kept stream kindOf n l) (add-assoc before (ramdiskIn (kindOf x)) (ramdisksIn kindOf xs))
 
-  pub all-stream : (stream : Stream) (l : List Section) → All P l → All P (streamSections stream l)
-  unfolding streamSections
-  all-stream Whole l a =
-      all-append (ofType kernel l) _ (all-type kernel l a)
-      (all-append (ofType commandLine l) _ (all-type commandLine l a) (all-type ramdisk l a))
-  all-stream Boot l a =
-      all-append (ofType kernel l) _ (all-type kernel l a)
-      (all-append (ofType commandLine l) _ (all-type commandLine l a) (all-take 1 (ofType ramdisk l) (all-type ramdisk l a)))
-  all-stream App l a = all-drop 1 (ofType ramdisk l) (all-type ramdisk l a)
+  shorter-by : (x : A) (k : List A) (n : ℕ) (b : Bool) → length k ≤ n → length (choose b (x ∷ k) k) ≤ n + 1
+  shorter-by x k n true h = omega arith
+  shorter-by x k n false h = omega arith
+
+  pub kept-fits : (before : ℕ) (l : List A) → length (kept stream kindOf before l) ≤ length l
+  unfolding kept
+  kept-fits before [] = omega arith
+  kept-fits before (x ∷ xs) =
+      let next : ℕ = before + ramdiskIn (kindOf x) in
+      let h = shorter-by x (kept stream kindOf next xs) (length xs) (keeps stream (kindOf x) before) (kept-fits next xs) in
+      omega arith
+
+  module _ (P : A → Type 0) where
+    all-by : (x : A) (xs : List A) (b : Bool) → P x → All P xs → All P (choose b (x ∷ xs) xs)
+    unfolding All
+    all-by x xs true p a = (p, a)
+    all-by x xs false p a = a
+
+    pub all-kept : (before : ℕ) (l : List A) → All P l → All P (kept stream kindOf before l)
+    unfolding All kept
+    all-kept before [] a = tt
+    all-kept before (x ∷ xs) a =
+        let next : ℕ = before + ramdiskIn (kindOf x) in
+        all-by x (kept stream kindOf next xs) (keeps stream (kindOf x) before) (a .0) (all-kept next xs (a .1))
+
+pub all-stream : (P : Section → Type 0) (stream : Stream) (l : List Section) → All P l → All P (streamSections stream l)
+all-stream P stream l a = all-kept stream sectionKind P 0 l a
 
 -- ---- the length of data
 
 module _ (s : List ℕ) where
+  pub length-of-joined : (l : List Section) → length (joined s l) ≡ sumOf (λ x. length (dataOf s x)) l
+  unfolding joined sumOf
+  length-of-joined [] = refl
+  length-of-joined (x ∷ xs) = length-append (dataOf s x) (joined s xs) ∙ ap (λ (n : ℕ). length (dataOf s x) + n) (length-of-joined xs)
+
   pub length-joined : (l : List Section) → All (Inside s) l → length (joined s l) ≡ sumOf lengthOf l
   unfolding All joined sumOf
   length-joined [] a = refl
@@ -72,75 +97,40 @@ module _ (s : List ℕ) where
 
 -- ---- numbers added up
 
-pub sum-ones : (l : List Section) → sumOf (λ x. 1) l ≡ length l
-unfolding sumOf
-sum-ones [] = refl
-sum-ones (x ∷ xs) = let e = sum-ones xs in omega arith
-
 module _ (f : Section → ℕ) where
-  pub sum-append : (x y : List Section) → sumOf f (x ++ y) ≡ sumOf f x + sumOf f y
-  unfolding sumOf
-  sum-append [] y = omega arith
-  sum-append (x ∷ xs) y = let e = sum-append xs y in omega arith
-
   sum-by : (x : Section) (xs : List Section) (b : Bool) → sumOf f (choose b (x ∷ xs) xs) ≡ choose b (f x) 0 + sumOf f xs
   unfolding sumOf
   sum-by x xs true = refl
   sum-by x xs false = omega arith
 
--- a number counts for one type at most
-module _ (k a : ℕ) where
-  same : (j : ℕ) → k ≡ j → choose (eqb k j) a 0 ≡ a
-  same j e = simp (eq-eqb _ _ e)
+  -- each section that Whole keeps is kept by one of Boot and App
+  one-of : (r later : Bool) (n : ℕ) → both later (not r) ≡ false → choose (both r (not later)) n 0 + choose later n 0 ≡ choose r n 0
+  one-of true true n e = omega arith
+  one-of true false n e = omega arith
+  one-of false true n e = let z : _≡_ {A = ℕ} 0 1 = ap (λ (b : Bool). choose b 1 0) (sym e) in absurd (omega arith)
+  one-of false false n e = omega arith
 
-  other : (j : ℕ) → (k ≡ j → ⊥) → choose (eqb k j) a 0 ≡ 0
-  other j h = simp (ne-eqb _ _ h)
+  later-in : (kind before : ℕ) (b : Bool) → eqb kind ramdisk ≡ b → both (both b (ltb 0 before)) (not (inRoll kind)) ≡ false
+  later-in kind before true e = by-room (ltb 0 before) (ramdisk-in kind true e)
+    where
+      by-room : (c : Bool) → both true (not (inRoll kind)) ≡ false → both c (not (inRoll kind)) ≡ false
+      by-room true h = h
+      by-room false h = refl
+  later-in kind before false e = refl
 
-  measured : kernel ≤ k → k ≤ ramdisk → choose (inRoll k) a 0 ≡ a
-  measured low high = simp (le-leb _ _ low, le-leb _ _ high)
+  pub sums-add : (before : ℕ) (l : List Section) → sumOf f (kept Boot sectionKind before l) + sumOf f (kept App sectionKind before l) ≡ sumOf f (kept Whole sectionKind before l)
+  unfolding kept keeps sumOf
+  sums-add before [] = refl
+  sums-add before (x ∷ xs) =
+      let next : ℕ = before + ramdiskIn (x .kind) in
+      let later : Bool = laterRamdisk (x .kind) before in
+      let a = sum-by x (kept Boot sectionKind next xs) (both (inRoll (x .kind)) (not later)) in
+      let b = sum-by x (kept App sectionKind next xs) later in
+      let d = sum-by x (kept Whole sectionKind next xs) (inRoll (x .kind)) in
+      omega (arith, one-of (inRoll (x .kind)) later (f x) (later-in (x .kind) before (eqb (x .kind) ramdisk) refl), sums-add next xs)
 
-  below : k < kernel → choose (inRoll k) a 0 ≡ 0
-  below h = simp (lt-leb _ _ h)
-
-  above : kernel ≤ k → ramdisk < k → choose (inRoll k) a 0 ≡ 0
-  above low h = simp (le-leb _ _ low, lt-leb _ _ h)
-
-  by-type : choose (eqb k kernel) a 0 + (choose (eqb k commandLine) a 0 + choose (eqb k ramdisk) a 0) ≡ choose (inRoll k) a 0
-  by-type =
-      ⊎-elim
-      (λ h. omega (arith, below h, other kernel (λ e. omega arith), other commandLine (λ e. omega arith), other ramdisk (λ e. omega arith)))
-      (λ h.
-      ⊎-elim
-      (λ g. omega (arith, measured (omega arith) (omega arith), same kernel (omega arith), other commandLine (λ e. omega arith), other ramdisk (λ e. omega arith)))
-      (λ g.
-      ⊎-elim
-      (λ i. omega (arith, measured (omega arith) (omega arith), other kernel (λ e. omega arith), same commandLine (omega arith), other ramdisk (λ e. omega arith)))
-      (λ i.
-      ⊎-elim
-      (λ j. omega (arith, measured (omega arith) (omega arith), other kernel (λ e. omega arith), other commandLine (λ e. omega arith), same ramdisk (omega arith)))
-      (λ j. omega (arith, above (omega arith) j, other kernel (λ e. omega arith), other commandLine (λ e. omega arith), other ramdisk (λ e. omega arith)))
-      (le-or-lt k ramdisk))
-      (le-or-lt k commandLine))
-      (le-or-lt k kernel))
-      (le-or-lt (suc k) kernel)
-
-module _ (f : Section → ℕ) where
-  pub sum-types : (l : List Section) → sumOf f (ofType kernel l) + (sumOf f (ofType commandLine l) + sumOf f (ofType ramdisk l)) ≡ sumOf f (measuredIn l)
-  unfolding ofType measuredIn sumOf
-  sum-types [] = refl
-  sum-types (x ∷ xs) =
-      let a = sum-by f x (ofType kernel xs) (eqb (x .kind) kernel) in
-      let b = sum-by f x (ofType commandLine xs) (eqb (x .kind) commandLine) in
-      let d = sum-by f x (ofType ramdisk xs) (eqb (x .kind) ramdisk) in
-      let e = sum-by f x (measuredIn xs) (inRoll (x .kind)) in
-      omega (arith, by-type (x .kind) (f x), sum-types xs)
-
-  choose-le : (n : ℕ) (b : Bool) → choose b n 0 ≤ n
-  choose-le n true = omega arith
-  choose-le n false = omega arith
-
-  pub sum-measured : (l : List Section) → sumOf f (measuredIn l) ≤ sumOf f l
-  unfolding measuredIn sumOf
-  sum-measured [] = omega arith
-  sum-measured (x ∷ xs) =
-      omega (arith, sum-by f x (measuredIn xs) (inRoll (x .kind)), choose-le (f x) (inRoll (x .kind)), sum-measured xs)
+-- Whole keeps the sections of the measured types
+pub whole-kept : (before : ℕ) (l : List Section) → kept Whole sectionKind before l ≡ measuredIn l
+unfolding kept keeps measuredIn
+whole-kept before [] = refl
+whole-kept before (x ∷ xs) = ap (λ (r : List Section). choose (inRoll (x .kind)) (x ∷ r) r) (whole-kept (before + ramdiskIn (x .kind)) xs)

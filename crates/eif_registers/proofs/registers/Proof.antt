@@ -5,7 +5,7 @@ use mathlib.Core.List.{List, [], _∷_}
 use denote.Ref.{now}
 use lib.ListN.{getD}
 use Rattle.eif.specs.declared.Verdict.{Verdict}
-use Rattle.eif_streams.proofs.Reading.{verdict-is, accepted}
+use Rattle.eif_streams.proofs.Answers.{verdict-is}
 use Rattle.eif_registers.specs.Rule.{imageRegisters}
 use Rattle.eif_registers.specs.declared.Measurement.{Measurement}
 use Rattle.eif_registers.proofs.Answers.{answer-refused, answer-accepted, step-is}
@@ -26,7 +26,7 @@ returns-2 c =
     let w = c .before .before .before .before .before .before in
     let s = now (w .before .before .args .image) in
     let t = c .before .before .before .before .enum-told .given .1 in
-    let ok = accepted s (w .read .result) (w .read .ensures) t in
+    let ok = sym (verdict-is s (w .read .result) (w .read .ensures)) ∙ t in
     ap₂ (λ (v : Verdict) (l : List (List ℕ)). answer v l) t (c .before .before .before .step .ensures ∙ step-is s ok (w .read .result) (w .read .ensures)) ∙ answer-accepted s ok
   where
     answer : Verdict → List (List ℕ) → Measurement

@@ -1,27 +1,35 @@
--- `eif_streams::copy_data` meets its contract: the bytes from `a` up to `e` are the section's data from `skip` on.
+-- `eif_streams::copy_data` meets its contract: what is passed over is at most the data, and what is copied at most the room.
 -- Assumes nothing.
-use mathlib.Core.Path.{ap, _∙_}
+use Prim.Native.Nat.{ℕ}
+use mathlib.Core.Path.{_≡_, ap, _∙_}
+use native.Mathlib.Omega.{arith}
 use borrow.Author.Needs.{needs}
 use denote.Ref.{now}
+use lib.ListN.{length, drop, take}
 use Rattle.octets.specs.Over.{over}
-use Rattle.eif_streams.proofs.Data.{data-from}
+use Rattle.eif_streams.proofs.Listed.{part-to-rest}
 use Rattle.eif_streams.proofs.copy_data.Statement.{statement}
 use Rattle.eif_streams.proofs.copy_data.Tie as tie
 
 returns : tie.Need-returns
 returns c =
-    let a = c .before .before .before .before .before .before .before .args in
-    c .before .before .copy .ensures ∙ ap (over (now (a .out)) (a .at)) (data-from (now (a .image)) (a .section) (a .skip))
+    let a = c .before .before .before .before .before .before .before .before .before .args in
+    let p = c .before .before .before .before .before .before .lesser in
+    (omega arith, (omega arith, c .before .before .before .copy .ensures ∙ ap (over (now (a .out)) (a .done)) (part-to-rest (now (a .bytes)) (a .skip) (p .result) (p .ensures))))
 
 pub copy-data-spec : {M : Type 1} → statement M
 copy-data-spec =
     tie.close
     (tie.spec
-    (λ c. search needs)
-    (λ c. search needs)
+    (λ c κs. search needs)
     (λ c. search needs)
     (λ c. search needs)
     (λ c. search needs)
     (λ c κs. search needs)
+    (λ c. search needs)
+    (λ c. search needs)
+    (λ c κs. search needs)
+    (λ c. search needs)
+    (λ c. search needs)
     (λ c. search needs)
     returns)

@@ -1,66 +1,77 @@
--- `eif_streams::total` meets its contract: what is summed so far and the data that is left have the length of all the data.
--- Each length is that of data in the image, so that 32 of them fit. Assumes nothing.
-use Prim.Native.Nat.{ℕ, _+_, _-_, _*_, _≤_}
-use mathlib.Core.Path.{_≡_, ap}
-use mathlib.Core.List.{List}
+-- `eif_streams::total` meets its contract: the sum so far is the length of the data of the sections so far. Assumes nothing.
+use Prim.Native.Nat.{ℕ, _+_, _-_, _<_, _≤_}
+use mathlib.Core.Path.{_≡_, refl, sym, ap, _∙_}
+use mathlib.Core.List.{List, []}
 use native.Mathlib.Omega.{arith}
-use native.Mathlib.Nat.{zero-add}
-use native.Mathlib.Numerals.{add-one}
+use borrow.Author.Needs.{needs}
 use denote.Ref.{now}
-use lib.ListN.{length, getD, length-map}
-use lib.Seq.{slice}
-use Rattle.eif.specs.Numbers.{placeCount, sizeLimit}
-use Rattle.eif.specs.Reading.{blankSection}
-use Rattle.eif.specs.Stream.{joined}
-use Rattle.eif.specs.declared.Section.{Section}
-use Rattle.eif_rules.proofs.Accept.{Inside}
-use Rattle.eif_streams.proofs.Data.{inside-at, joined-length, joined-none}
+use lib.ListN.{length, getD, take, drop, length-append, length-map}
+use Rattle.eif.specs.Numbers.{placeCount}
+use Rattle.eif.specs.Reading.{blankSection, dataOf}
+use Rattle.eif.specs.Stream.{joined, listedBytes}
+use Rattle.eif_streams.proofs.Listed.{cut, passed, passed-next, passed-within}
 use Rattle.eif_streams.proofs.total.Statement.{statement}
 use Rattle.eif_streams.proofs.total.Tie as tie
 
-abbrev left : List ℕ → ℕ → List Section → ℕ → ℕ
-left s count l i = length (joined s (slice i count l))
-
 abbrev Inv-loop : tie.InvT-loop
-Inv-loop image count sections sum₀ i₀ sum i =
-    (i ≤ count) × (sum ≤ i * sizeLimit) × (sum + left image count sections i ≡ left image count sections 0)
+Inv-loop image sections count sum₀ i₀ sum i = (i ≤ count) × (sum ≡ length (passed image sections i))
 
 abbrev μ-loop : tie.MeasureT-loop
-μ-loop image count sections sum₀ i₀ sum i = count - i
+μ-loop image sections count sum₀ i₀ sum i = count - i
 
--- in a turn: the section lies in the image, and what is left is its data and what is left after it
-module _ (c : tie.In-loop Inv-loop μ-loop) where
-  fit : c .before .before .before .args .list .count ≤ length (c .before .before .before .args .list .sections)
-  fit =
-      let places : length (c .before .before .before .args .list .sections) ≡ placeCount = simp length-map at (c .before .before .before .good .1 .0 .1 .1 .0 .1 .0 .1) in
-      omega (arith, c .before .before .before .pre .few)
+-- an answer has as many places as the table
+size : (c : tie.Start Inv-loop μ-loop) → length (c .args .list .sections) ≡ placeCount
+size c = simp length-map at (c .good .1 .0 .1 .1 .1 .0 .1 .0 .1)
 
-  within : Inside (now (c .before .before .before .args .image)) (getD (c .before .before .before .args .list .sections) (c .before .loop .i) blankSection)
-  within = inside-at (now (c .before .before .before .args .image)) (c .before .loop .i) (c .before .before .before .args .list .count) (c .before .before .before .args .list .sections) (c .loop-test .taken) fit (c .before .before .before .pre .inside)
+-- all of them
+whole : (c : tie.After-lesser Inv-loop μ-loop) → passed (now (c .before .before .before .args .image)) (c .before .before .before .args .list .sections) (c .lesser .result) ≡ listedBytes (now (c .before .before .before .args .image)) (c .before .before .before .args .list)
+unfolding listedBytes
+whole c =
+    let a = c .before .before .before .args in
+    let n = size (c .before .before .before) in
+    let k = c .lesser .ensures in
+    ap (joined (now (a .image))) (cut (a .list .sections) (a .list .count) (c .lesser .result) (omega arith))
 
-loop-holds : tie.Need-loop-holds Inv-loop μ-loop
-loop-holds c = (omega arith, omega arith, zero-add (left (now (c .before .args .image)) (c .before .args .list .count) (c .before .args .list .sections) 0))
+-- with the section of this turn
+module _ (c : tie.After-section-data Inv-loop μ-loop) where
+  abbrev w : tie.At-loop Inv-loop μ-loop
+  w = c .before .before .before
+
+  next : w .loop .sum + length (now (c .section-data .result)) ≡ length (passed (now (w .before .before .before .before .args .image)) (w .before .before .before .before .args .list .sections) (w .loop .i + 1))
+  next =
+      let a = w .before .before .before .before .args in
+      let s = now (a .image) in
+      let all = a .list .sections in
+      let places = size (w .before .before .before .before) in
+      let n = passed-next s all (w .loop .i) (omega arith) in
+      let len = ap length n ∙ length-append (passed s all (w .loop .i)) (dataOf s (getD all (w .loop .i) blankSection)) in
+      let m = ap length (c .section-data .ensures) in
+      omega arith
+
+  fits : w .loop .sum + length (now (c .section-data .result)) ≤ 18446744073709551615
+  fits =
+      let a = w .before .before .before .before .args in
+      let places = size (w .before .before .before .before) in
+      let k = passed-within (now (a .image)) (a .list .sections) (w .loop .i + 1) (w .before .lesser .result) (omega arith) in
+      let t = ap length (whole (w .before)) in
+      omega (arith, next)
+
+none-passed : (s : List ℕ) → 0 ≡ length (joined s [])
+unfolding joined
+none-passed s = refl
 
 add-sum : tie.Need-add-sum Inv-loop μ-loop
-add-sum c =
-    let p = c .before .before .before .before .before .pre in
-    omega (arith, within (c .before .before))
+add-sum c = omega (arith, fits c)
 
 loop-again : tie.Need-loop-again Inv-loop μ-loop
-loop-again c =
-    let w = c .before .before in
-    let a = w .before .before .before .args in
-    let p = w .before .before .before .pre in
-    let l = w .before .loop in
-    let n = joined-length (now (a .image)) (l .i) (a .list .count) (a .list .sections) (w .loop-test .taken) (fit w) (p .inside) in
-    rw (add-one (l .i)) (omega arith, omega (arith, within w), omega arith)
+loop-again c = (omega arith, next c)
 
 returns : tie.Need-returns Inv-loop μ-loop
 returns c =
-    let a = c .before .before .before .args in
     let l = c .before .loop in
-    let n = ap length (joined-none (now (a .image)) (l .i) (a .list .count) (a .list .sections) (omega arith)) in
-    omega arith
+    let z : l .i ≡ c .before .before .lesser .result = omega arith in
+    let a = c .before .before .before .before .before .args in
+    l .inv .1 ∙ ap (λ (n : ℕ). length (passed (now (a .image)) (a .list .sections) n)) z ∙ ap length (whole (c .before .before))
 
 pub total-spec : {M : Type 1} → statement M
 total-spec =
@@ -68,11 +79,13 @@ total-spec =
     (tie.spec
     Inv-loop
     μ-loop
-    loop-holds
-    (λ c. omega (arith, c .before .before .before .pre .few))
-    (λ c. omega (arith, c .before .before .before .pre .few))
+    (λ c κs. search needs)
+    (λ c. (omega arith, none-passed (now (c .before .before .before .args .image))))
+    (λ c. omega arith)
+    (λ c. omega arith)
+    (λ c κs. search needs)
     add-sum
-    (λ c. omega (arith, c .before .before .before .before .before .pre .few))
+    (λ c. omega arith)
     (λ c. omega arith)
     loop-again
     returns)

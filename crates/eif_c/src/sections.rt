@@ -1,0 +1,117 @@
+// The sections of a measured stream of an image already read, and copying from them, for programs in C and Rust.
+ghost use mathlib.Core.Path.{_≡_};
+ghost use mathlib.Core.List.{map};
+ghost use lib.ListN.{length};
+ghost use Rattle.eif.specs.Stream.{copyListedAnswer, copyListedOutput};
+ghost use Rattle.eif.specs.declared.Stream.the-variants.{Whole, Boot, App};
+ghost use Rattle.eif_c.specs.Flat.{flatCopied};
+ghost use Rattle.eif_c.specs.Listed.{readSection, listedOf, listOf};
+use crate::EifAnswer;
+use crate::EifReading;
+use crate::EifSection;
+use eif::DataLength;
+use eif::FilePosition;
+use eif::PLACES;
+use eif::Section;
+use eif::Stream;
+use eif::StreamPosition;
+use eif::StreamSections;
+
+// The sections of a stream, in its order: the first `count` places. The others are zero.
+#[repr(C)]
+pub struct EifStreamSections {
+    pub count: u64,
+    pub sections: [EifSection; PLACES],
+}
+
+// ---- sections as C has them
+
+fn read_section(x: EifSection) -> Section
+    ensures { λ r. ⌜ r ≡ readSection x ⌝ }
+{
+    let position = x.position;
+    let length = x.length;
+    Section {
+        kind: x.kind,
+        flags: x.flags,
+        position,
+        length,
+    }
+}
+
+fn read_sections(sections: [EifSection; PLACES]) -> [Section; PLACES]
+    ensures { λ r. ⌜ r ≡ map readSection sections ⌝ }
+{
+    let blank = Section {
+        kind: 0,
+        flags: 0,
+        position: FilePosition(0),
+        length: DataLength(0),
+    };
+    let mut all = [blank; PLACES];
+    let mut i: usize = 0;
+    while i < PLACES {
+        all[i] = read_section(sections[i]);
+        i += 1;
+    }
+    all
+}
+
+fn listed(sections: [EifSection; PLACES], stream: Stream) -> EifStreamSections
+    ensures { λ r. ⌜ r ≡ listedOf sections stream ⌝ }
+{
+    let list = eif_streams::sections(read_sections(sections), stream);
+    let found = list.sections;
+    EifStreamSections {
+        count: list.count,
+        sections: crate::flat_sections(found),
+    }
+}
+
+// ---- a function for each stream, of any reading
+
+#[no_mangle]
+pub extern "C" fn eif_whole_sections(reading: EifReading) -> EifStreamSections
+    ensures { λ r. ⌜ r ≡ listedOf (reading .sections) Whole ⌝ }
+{
+    let sections = reading.sections;
+    listed(sections, Stream::Whole)
+}
+
+#[no_mangle]
+pub extern "C" fn eif_boot_sections(reading: EifReading) -> EifStreamSections
+    ensures { λ r. ⌜ r ≡ listedOf (reading .sections) Boot ⌝ }
+{
+    let sections = reading.sections;
+    listed(sections, Stream::Boot)
+}
+
+#[no_mangle]
+pub extern "C" fn eif_app_sections(reading: EifReading) -> EifStreamSections
+    ensures { λ r. ⌜ r ≡ listedOf (reading .sections) App ⌝ }
+{
+    let sections = reading.sections;
+    listed(sections, Stream::App)
+}
+
+// ---- copying from them
+
+#[no_mangle]
+pub extern "C" fn eif_copy_sections(
+    image: &[u8],
+    list: EifStreamSections,
+    from: StreamPosition,
+    out: &mut [u8],
+) -> EifAnswer
+    ensures { λ r. ⌜ r ≡ flatCopied (copyListedAnswer (now (image .entry)) (listOf list) (from .0) (length (now (out .entry)))) ⌝ }
+    ensures { λ _. ⌜ now (out .exit) ≡ copyListedOutput (now (image .entry)) (listOf list) (from .0) (now (out .entry)) ⌝ }
+{
+    let sections = list.sections;
+    let found = StreamSections {
+        count: list.count,
+        sections: read_sections(sections),
+    };
+    let done = eif_streams::copy_listed(image, found, from, out);
+    let verdict = done.verdict;
+    crate::answer(verdict, done.count)
+}

@@ -1,0 +1,150 @@
+-- Whole is the roll with its heads taken out, and each stream is what it keeps of that.
+-- Assumes nothing.
+use Prim.Native.Nat.{ℕ, suc, _+_, _-_}
+use mathlib.Core.Path.{_≡_, refl, sym, ap, ap₂, _∙_}
+use mathlib.Core.Bool.{Bool, true, false, not}
+use mathlib.Core.List.{List, [], _∷_, _++_, map}
+use native.Mathlib.Omega.{arith}
+use native.Mathlib.Nat.{add-zero}
+use borrow.Author.Tests.{eqb-true, le-leb}
+use lib.Dec.{eqb, ltb}
+use lib.ListN.{length, take, replicate}
+use lib.Seq.{take-at}
+use Rattle.eif.specs.Numbers.{placeCount, kernel, ramdisk}
+use Rattle.eif.specs.Logic.{both, choose}
+use Rattle.eif.specs.Reading.{ramdiskIn, dataOf, sectionsOf, verdictOf}
+use Rattle.eif.specs.Roll.{Record, inRoll, recordFor, recordsIn, recordsOf, rollBytes, blankRecord, readRoll}
+use Rattle.eif.specs.Stream.{keeps, kept, sectionKind, streamSections, joined, streamOf}
+use Rattle.eif.specs.declared.RollReading.{RollReading}
+use Rattle.eif.specs.declared.RollRecord.{RollRecord}
+use Rattle.eif.specs.declared.Section.{Section}
+use Rattle.eif.specs.declared.Stream.{Stream}
+use Rattle.eif.specs.declared.Stream.the-variants.{Whole, Boot, App}
+use Rattle.eif.specs.declared.Verdict.the-variants.{Accepted}
+use Rattle.roll_laws.specs.Listing.{listFrom, listingOf, foundIn, bytesAt, entriesOf, joinedAt, withoutHeads, streamInRoll}
+use Rattle.roll_laws.proofs.Demand3.{list-of-image}
+
+-- ---- what is kept of records
+
+abbrev recordKind : Record → ℕ
+recordKind r = r .kind
+
+abbrev entryKind : RollRecord → ℕ
+entryKind x = x .kind
+
+-- the bytes of records, joined
+unfoldable bytesOf : List Record → List ℕ
+bytesOf [] = []
+bytesOf (r ∷ rs) = r .bytes ++ bytesOf rs
+
+-- a type that a roll does not hold is no ramdisk, and no stream keeps it
+no-ramdisk : (kind : ℕ) → inRoll kind ≡ false → eqb kind ramdisk ≡ false
+no-ramdisk kind e = by (eqb kind ramdisk) refl
+  where
+    by : (b : Bool) → eqb kind ramdisk ≡ b → eqb kind ramdisk ≡ false
+    by false f = f
+    by true f =
+        let k : kind ≡ ramdisk = eqb-true kind ramdisk f in
+        let t : inRoll kind ≡ true = simp (le-leb kernel kind (omega arith), le-leb kind ramdisk (omega arith)) in
+        let z : _≡_ {A = ℕ} 1 0 = ap (λ (b : Bool). choose b 1 0) (sym t ∙ e) in
+        absurd (omega arith)
+
+not-kept : (stream : Stream) (kind before : ℕ) → inRoll kind ≡ false → keeps stream kind before ≡ false
+unfolding keeps
+not-kept Whole kind before e = e
+not-kept Boot kind before e = simp e
+not-kept App kind before e = simp (no-ramdisk kind e)
+
+module _ (s : List ℕ) (stream : Stream) where
+  -- the data of what a stream keeps of sections is that of what it keeps of their records
+  by-kept : (x : Section) (rs : List Record) (l : List Section) (b : Bool) → bytesOf rs ≡ joined s l
+      → bytesOf (choose b (recordFor s x ∷ rs) rs) ≡ joined s (choose b (x ∷ l) l)
+  unfolding bytesOf joined
+  by-kept x rs l true e = ap (λ (b : List ℕ). dataOf s x ++ b) e
+  by-kept x rs l false e = e
+
+  kept-records : (before : ℕ) (l : List Section) → bytesOf (kept stream recordKind before (recordsIn s l)) ≡ joined s (kept stream sectionKind before l)
+  unfolding kept recordsIn bytesOf joined
+  kept-records before [] = refl
+  kept-records before (x ∷ xs) = by-type (inRoll (x .kind)) refl (λ n. kept-records n xs)
+    where
+      by-type : (b : Bool) → inRoll (x .kind) ≡ b
+          → ((n : ℕ) → bytesOf (kept stream recordKind n (recordsIn s xs)) ≡ joined s (kept stream sectionKind n xs))
+          → bytesOf (kept stream recordKind before (choose b (recordFor s x ∷ recordsIn s xs) (recordsIn s xs)))
+          ≡ joined s (choose (keeps stream (x .kind) before) (x ∷ kept stream sectionKind (before + ramdiskIn (x .kind)) xs) (kept stream sectionKind (before + ramdiskIn (x .kind)) xs))
+      by-type true e later =
+          by-kept x (kept stream recordKind (before + ramdiskIn (x .kind)) (recordsIn s xs)) (kept stream sectionKind (before + ramdiskIn (x .kind)) xs) (keeps stream (x .kind) before)
+          (later (before + ramdiskIn (x .kind)))
+      by-type false e later =
+          let z : before ≡ before + ramdiskIn (x .kind) = sym (ap (λ (b : Bool). before + choose b 1 0) (no-ramdisk (x .kind) e) ∙ add-zero before) in
+          later before
+          ∙ ap (λ (n : ℕ). joined s (kept stream sectionKind n xs)) z
+          ∙ sym (ap (λ (b : Bool). joined s (choose b (x ∷ kept stream sectionKind (before + ramdiskIn (x .kind)) xs) (kept stream sectionKind (before + ramdiskIn (x .kind)) xs))) (not-kept stream (x .kind) before e))
+
+-- Whole keeps all records
+all-kept : (s : List ℕ) (before : ℕ) (l : List Section) → kept Whole recordKind before (recordsIn s l) ≡ recordsIn s l
+unfolding kept keeps recordsIn
+all-kept s before [] = refl
+all-kept s before (x ∷ xs) = by-type (inRoll (x .kind)) refl (λ n. all-kept s n xs)
+  where
+    by-type : (b : Bool) → inRoll (x .kind) ≡ b → ((n : ℕ) → kept Whole recordKind n (recordsIn s xs) ≡ recordsIn s xs)
+        → kept Whole recordKind before (choose b (recordFor s x ∷ recordsIn s xs) (recordsIn s xs)) ≡ choose b (recordFor s x ∷ recordsIn s xs) (recordsIn s xs)
+    by-type true e later =
+        ap (λ (b : Bool). choose b (recordFor s x ∷ kept Whole recordKind (before + ramdiskIn (x .kind)) (recordsIn s xs)) (kept Whole recordKind (before + ramdiskIn (x .kind)) (recordsIn s xs))) e
+        ∙ ap (λ (r : List Record). recordFor s x ∷ r) (later (before + ramdiskIn (x .kind)))
+    by-type false e later = later before
+
+-- what is kept of entries, and of the records that they point at
+module _ (t : List ℕ) (stream : Stream) where
+  kept-entries : (before : ℕ) (l : List RollRecord) → map (foundIn t) (kept stream entryKind before l) ≡ kept stream recordKind before (map (foundIn t) l)
+  unfolding kept
+  kept-entries before [] = refl
+  kept-entries before (x ∷ xs) =
+      let n : ℕ = before + ramdiskIn (x .kind) in
+      by (keeps stream (x .kind) before) x (kept stream entryKind n xs) (kept stream recordKind n (map (foundIn t) xs)) (kept-entries n xs)
+    where
+      by : (b : Bool) (x : RollRecord) (l : List RollRecord) (rs : List Record) → map (foundIn t) l ≡ rs → map (foundIn t) (choose b (x ∷ l) l) ≡ choose b (foundIn t x ∷ rs) rs
+      by true x l rs e = ap (λ (r : List Record). foundIn t x ∷ r) e
+      by false x l rs e = e
+
+  joined-found : (l : List RollRecord) → joinedAt t l ≡ bytesOf (map (foundIn t) l)
+  unfolding joinedAt bytesOf
+  joined-found [] = refl
+  joined-found (x ∷ xs) = ap (λ (b : List ℕ). bytesAt t x ++ b) (joined-found xs)
+
+-- ---- the laws, for every accepted image
+
+module _ (s : List ℕ) (ok : verdictOf s ≡ Accepted) where
+  abbrev t : List ℕ
+  t = rollBytes s
+
+  length-list : (at : ℕ) (rs : List Record) → length (listFrom at rs) ≡ length rs
+  length-list at [] = refl
+  length-list at (r ∷ rs) = ap suc (length-list _ rs)
+
+  entries-are : entriesOf t ≡ listFrom 0 (recordsOf s)
+  entries-are =
+      let l = list-of-image s ok in
+      let rs = recordsOf s in
+      ap (λ (r : RollReading). take (r .count) (r .records)) (l .reading)
+      ∙ take-at (listFrom 0 rs) (replicate (placeCount - length rs) blankRecord) (length rs) (length-list 0 rs)
+
+  -- Each stream is what it keeps of the image's roll with the heads taken out.
+  pub stream-in-roll : (stream : Stream) → streamOf s stream ≡ streamInRoll stream t
+  unfolding streamOf streamInRoll
+  stream-in-roll stream =
+      let rs = recordsOf s in
+      sym
+      (ap (λ (l : List RollRecord). joinedAt t (kept stream entryKind 0 l)) entries-are
+      ∙ joined-found t stream (kept stream entryKind 0 (listFrom 0 rs))
+      ∙ ap bytesOf (kept-entries t stream 0 (listFrom 0 rs) ∙ ap (kept stream recordKind 0) (list-of-image s ok .found))
+      ∙ kept-records s stream 0 (sectionsOf s))
+
+  -- Whole is the image's roll with the heads taken out.
+  pub whole-is-roll : streamOf s Whole ≡ withoutHeads t
+  unfolding withoutHeads streamOf
+  whole-is-roll =
+      let rs = recordsOf s in
+      sym
+      (ap (joinedAt t) entries-are ∙ joined-found t Whole (listFrom 0 rs) ∙ ap bytesOf (list-of-image s ok .found ∙ sym (all-kept s 0 (sectionsOf s)))
+      ∙ kept-records s Whole 0 (sectionsOf s))
