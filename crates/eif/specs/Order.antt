@@ -12,10 +12,11 @@ use Rattle.eif.specs.Rules.{versionKnown, countKnown, allowedIn, seen, m
 use Rattle.eif.specs.Layout.{magicNumber, headerSize, View, viewOf, magic, version, count, offset, size, checksum, end, start}
 use Rattle.eif.specs.Reading.{checksumOf}
 use Rattle.eif.specs.Plan.{plannedKind, plainSize, dataBefore}
-use Rattle.eif.specs.Stream.{streamOf}
+use Rattle.eif.specs.Stream.{streamOf, listedBytes}
 use Rattle.eif.specs.Roll.{recordHeadSize, recordAt, recordSize, recordKind, isEnd, imageSize, rollBytes}
 use Rattle.eif.specs.declared.Plan.{Plan}
 use Rattle.eif.specs.declared.Stream.{Stream}
+use Rattle.eif.specs.declared.StreamSections.{StreamSections}
 use Rattle.eif.specs.declared.Verdict.{Verdict}
 use Rattle.eif.specs.declared.Verdict.the-variants.{Accepted}
 
@@ -103,6 +104,10 @@ writeRules p given room =
 
 unfoldable pub copyRules : List ℕ → Stream → ℕ → List Rule
 copyRules s stream from = imageRules s ++ (rule (ltb (length (streamOf s stream)) from) pastStreamEnd 0 ∷ [])
+
+-- from sections already found there is no image to judge
+unfoldable pub copyListedRules : List ℕ → StreamSections → ℕ → List Rule
+copyListedRules s list from = rule (ltb (length (listedBytes s list)) from) pastStreamEnd 0 ∷ []
 
 unfoldable pub rollWriteRules : List ℕ → ℕ → List Rule
 rollWriteRules s room = imageRules s ++ (rule (ltb room (length (rollBytes s))) outputTooShort 0 ∷ [])

@@ -14,14 +14,16 @@ use Rattle.eif.specs.Rules.{versionKnown, countKnown, allowedIn, seen, orderFau
 use Rattle.eif.specs.Layout.{magicNumber, headerSize, View, viewOf, magic, version, count, offset, size, checksum, end, start}
 use Rattle.eif.specs.Reading.{headerRule, entryRule, sectionRule, missingRule, checksumRule, judged, verdictIn, checksumOf, verdictOf}
 use Rattle.eif.specs.Plan.{plannedKind, plainSize, dataBefore, fieldFault, sizeFault, planFault, planVerdict, writeVerdict, planLength}
-use Rattle.eif.specs.Stream.{streamOf, copyVerdict}
-use Rattle.eif.specs.Roll.{recordHeadSize, recordAt, recordSize, recordKind, isEnd, imageSize, rollBytes, rollVerdict, Ending, ended, stopped, stop, headFault, bodyFault, rollFault, endFrom, rollAnswerFor, readRoll}
-use Rattle.eif.specs.Order.{Rule, rule, firstThatApplies, orderRules, typeRules, rulesFrom, headerRules, sectionRules, viewRules, imageRules, planRules, writeRules, copyRules, rollWriteRules, headRules, bodyRules, endRules, rollRulesFrom, rollRules}
+use Rattle.eif.specs.Stream.{streamOf, copyVerdict, copyListedAnswer, lengthAnswer}
+use Rattle.eif.specs.Roll.{recordHeadSize, recordAt, recordSize, recordKind, isEnd, imageSize, rollBytes, rollVerdict, rollLength, Ending, ended, stopped, stop, headFault, bodyFault, rollFault, endFrom, rollAnswerFor, readRoll}
+use Rattle.eif.specs.Order.{Rule, rule, firstThatApplies, orderRules, typeRules, rulesFrom, headerRules, sectionRules, viewRules, imageRules, planRules, writeRules, copyRules, copyListedRules, rollWriteRules, headRules, bodyRules, endRules, rollRulesFrom, rollRules}
 use Rattle.eif.specs.declared.Plan.{Plan}
 use Rattle.eif.specs.declared.RollReading.{RollReading}
 use Rattle.eif.specs.declared.Stream.{Stream}
+use Rattle.eif.specs.declared.StreamSections.{StreamSections}
 use Rattle.eif.specs.declared.Verdict.{Verdict}
 use Rattle.eif.specs.declared.Verdict.the-variants.{Accepted, Refused}
+use Rattle.eif_rules.proofs.Verdicts.{then-none}
 
 -- ---- lists of rules, one after the other
 
@@ -157,6 +159,19 @@ pub roll-write-first : (s : List ℕ) (room : ℕ) → rollVerdict s room ≡ fi
 unfolding rollVerdict rollWriteRules
 roll-write-first s room = after-image s (ltb room (length (rollBytes s))) outputTooShort
 
+pub copy-listed-first : (s : List ℕ) (list : StreamSections) (from room : ℕ) → copyListedAnswer s list from room .verdict ≡ firstThatApplies (copyListedRules s list from)
+unfolding copyListedAnswer copyListedRules firstThatApplies
+copy-listed-first s list from room = refl
+
+-- the length of a stream, and of a roll: the image's own rules
+pub length-first : (s : List ℕ) (stream : Stream) → lengthAnswer s stream .verdict ≡ firstThatApplies (imageRules s)
+unfolding lengthAnswer
+length-first s stream = read-first s
+
+pub roll-length-first : (s : List ℕ) → rollLength s .verdict ≡ firstThatApplies (imageRules s)
+unfolding rollLength
+roll-length-first s = read-first s
+
 -- ---- writing an image
 
 fields-by : (a b : Bool) (w : Verdict) → choose a (refuse 4 0) (choose b (refuse 5 0) w) ≡ andThen (wholeVerdict (choose a 4 (choose b 5 0))) w
@@ -215,11 +230,7 @@ module _ (p : Plan) where
   plan-length-first =
       plan-then (dataBefore (p .places) (p .count))
       ∙ ap (λ (b : Bool). andThen (firstThatApplies (planRules p)) (choose (not b) (refuse 15 0) Accepted)) (eq-eqb (dataBefore (p .places) (p .count)) _ refl)
-      ∙ then-accepted (firstThatApplies (planRules p))
-    where
-      then-accepted : (v : Verdict) → andThen v Accepted ≡ v
-      then-accepted Accepted = refl
-      then-accepted (Refused r) = refl
+      ∙ then-none (firstThatApplies (planRules p))
 
 -- ---- reading a roll
 

@@ -15,6 +15,8 @@ use Rattle.eif.specs.declared.Stream.{Stream}
 use Rattle.eif.specs.declared.Stream.the-variants.{Whole, Boot, App}
 use Rattle.eif.specs.declared.Verdict.{Verdict}
 use Rattle.eif.specs.declared.Verdict.the-variants.{Accepted, Refused}
+use Rattle.eif.specs.Order.{firstThatApplies, imageRules}
+use Rattle.eif_laws.proofs.FirstApplies.{read-first}
 use Rattle.eif_rules.proofs.Table.{length-filled}
 use Rattle.eif_rules.proofs.Accept.{passes}
 use Rattle.eif_rules.proofs.Reading.{reading-accepted}
@@ -28,6 +30,11 @@ module _ (s : List ℕ) where
   pub answer-refused : (r : Refusal) → verdictOf s ≡ Refused r → registersFor (Refused r) (replicate 48 0 ∷ replicate 48 0 ∷ replicate 48 0 ∷ []) ≡ registersAnswer s
   unfolding registersAnswer noRegisters
   answer-refused r e = simp e
+
+  -- the order: the image's own rules
+  pub registers-first : registersAnswer s .verdict ≡ firstThatApplies (imageRules s)
+  unfolding registersAnswer
+  registers-first = read-first s
 
   module _ (ok : verdictOf s ≡ Accepted) where
     register-is : (stream : Stream) → stepRegister s (sectionsOf s) stream ≡ registerOf s stream

@@ -89,3 +89,8 @@ walk-same f g (suc n) i good h =
   where
     same : (k : ℕ) → k < suc i → i < suc k → k ≡ i
     same k a b = omega arith
+
+-- nothing that refuses after a verdict
+pub then-none : (v : Verdict) → andThen v Accepted ≡ v
+then-none Accepted = refl
+then-none (Refused r) = refl

@@ -4,6 +4,7 @@
 -- their fields, as they do in every slice and plan of the code. Assumes nothing.
 use Prim.Native.Nat.{ℕ, _<_, _≤_}
 use mathlib.Core.Path.{_≡_, refl, sym, ap, ap₂, subst, _∙_}
+use mathlib.Core.Bool.{Bool}
 use mathlib.Core.List.{List}
 use native.Mathlib.Omega.{arith}
 use borrow.Author.Tests.{le-ltb}
@@ -16,11 +17,12 @@ use Rattle.eif.specs.Logic.{choose}
 use Rattle.eif.specs.Answers.{refuse, andThen}
 use Rattle.eif.specs.Output.{outputFor}
 use Rattle.eif.specs.Reading.{verdictOf, blankSection, readImage, dataOf}
-use Rattle.eif.specs.Plan.{placeAt, plainSize, pieceAt, planVerdict, writeVerdict, plainImage, writtenFor, writeAnswer, writeOutput, Plain, placeOf, planOf, joinFrom, dataJoined}
+use Rattle.eif.specs.Plan.{placeAt, dataBefore, plainSize, pieceAt, planVerdict, writeVerdict, plainImage, writtenFor, writeAnswer, planLength, writeOutput, Plain, placeOf, planOf, joinFrom, dataJoined}
 use Rattle.eif.specs.declared.Plan.{Plan}
 use Rattle.eif.specs.declared.Verdict.{Verdict}
 use Rattle.eif.specs.declared.Verdict.the-variants.{Accepted}
 use Rattle.eif_rules.proofs.Table.{filled-at}
+use Rattle.eif_rules.proofs.Verdicts.{then-none}
 use Rattle.eif_rules.proofs.Reading.{reading-accepted}
 use Rattle.plain_laws.specs.Packed.{packedSection, packedReading, SamePlan}
 use Rattle.plain_laws.proofs.PlanRules.{Planned, planned→}
@@ -97,6 +99,14 @@ module _ (p : Plan) (given room : ℕ) (ok : planVerdict p given ≡ Accepted) (
   write-accepted =
       ap (λ (v : Verdict). andThen v (choose (ltb room (plainSize p)) (refuse outputTooShort 0) Accepted)) ok
       ∙ simp (le-ltb _ _ fits)
+
+-- The length of a plan's image is the writer's answer, were there data and room as planned.
+pub length-is-written : (p : Plan) (given room : ℕ) → given ≡ dataBefore (p .places) (p .count) → plainSize p ≤ room → writeAnswer p given room ≡ planLength p
+unfolding writeAnswer planLength writeVerdict
+length-is-written p given room e h =
+    ap (λ (v : Verdict). writtenFor v (plainSize p))
+    (ap₂ (λ (n : ℕ) (b : Bool). andThen (planVerdict p n) (choose b (refuse outputTooShort 0) Accepted)) e (le-ltb room (plainSize p) h)
+    ∙ then-none (planVerdict p (dataBefore (p .places) (p .count))))
 
 -- a plan and data for which the writer gives the image s
 pub record Writes (p : Plan) (given s : List ℕ) : Type 0 where

@@ -2,6 +2,7 @@
 -- image is one whose reading is accepted. Assumes nothing.
 use Prim.Native.Nat.{ℕ, _+_, _<_, _≤_}
 use mathlib.Core.Path.{_≡_, refl, sym, ap, _∙_}
+use mathlib.Core.Bool.{Bool}
 use mathlib.Core.Logic.{_⊎_, ⊎-elim}
 use mathlib.Core.List.{List, _++_, map}
 use native.Mathlib.Omega.{arith}
@@ -18,11 +19,12 @@ use Rattle.eif.specs.Answers.{refuse, andThen}
 use Rattle.eif.specs.Output.{outputFor}
 use Rattle.eif.specs.Reading.{verdictOf}
 use Rattle.eif.specs.Plan.{writtenFor}
-use Rattle.eif.specs.Roll.{rollOf, recordsOf, rollBytes, SameSections, Begins, rollVerdict, rollAnswer, rollOutput, recordKind, recordSize, readRoll}
+use Rattle.eif.specs.Roll.{rollOf, recordsOf, rollBytes, SameSections, Begins, rollVerdict, rollAnswer, rollLength, rollOutput, recordKind, recordSize, readRoll}
 use Rattle.eif.specs.declared.Refusal.{Refusal}
 use Rattle.eif.specs.declared.RollReading.{RollReading}
 use Rattle.eif.specs.declared.Verdict.{Verdict}
 use Rattle.eif.specs.declared.Verdict.the-variants.{Accepted, Refused}
+use Rattle.eif_rules.proofs.Verdicts.{then-none}
 use Rattle.roll_laws.specs.Listing.{listFrom, listingOf, foundIn}
 use Rattle.roll_laws.proofs.Prefix.{prefix-same}
 use Rattle.roll_laws.proofs.Positions.{sizes, kinds}
@@ -159,6 +161,13 @@ module _ (s : List ℕ) (ok : verdictOf s ≡ Accepted) where
   pub roll-unwritten : (d : List ℕ) → length d < length (rollBytes s) → rollOutput s d ≡ d
   unfolding rollOutput
   roll-unwritten d h = ap (λ (v : Verdict). outputFor v (rollBytes s) d) (too-long (length d) h)
+
+-- The length of an image's roll is the writer's answer, were there room.
+pub length-is-written : (s : List ℕ) (room : ℕ) → length (rollBytes s) ≤ room → rollAnswer s room ≡ rollLength s
+unfolding rollAnswer rollLength rollVerdict
+length-is-written s room h =
+    ap (λ (v : Verdict). writtenFor v (length (rollBytes s)))
+    (ap (λ (b : Bool). andThen (verdictOf s) (choose b (refuse outputTooShort 0) Accepted)) (le-ltb room (length (rollBytes s)) h) ∙ then-none (verdictOf s))
 
 -- Writing a roll reads the image first and hands any refusal on unchanged.
 module _ (s : List ℕ) (r : Refusal) (refused : verdictOf s ≡ Refused r) where
