@@ -15,8 +15,9 @@
  *     that the call itself writes. Where the length is 0, any pointer will do, null too;
  *   - the output buffer overlaps no input.
  *
- * Each answer begins with a number: 0 where the call is accepted, and otherwise the first of the
- * numbers below that applies, in the order that FORMAT.md gives for the call. Beside a refusal
+ * The answer of a call that can refuse begins with a number: 0 where the call is accepted, and
+ * otherwise the first of the numbers below that applies, in the order that FORMAT.md gives for the
+ * call. Beside a refusal
  *   - no byte of the output buffer has changed;
  *   - index is the index of the section or record for 6 to 11, 16 and 17, and 0 for the others;
  *   - all else in the answer is 0, but first_ramdisk, which is EIF_NO_RAMDISK, and the state that
@@ -24,8 +25,9 @@
  *
  * Answers have no padding, and their reserved fields are 0: equal answers are equal by memcmp.
  *
- * Each stream, register or roll call on an image reads the whole image again, checksum included: copy
- * with a large buffer rather than often.
+ * Each stream, register or roll call on an image reads the whole image again, checksum included. To
+ * copy a stream in pieces, read the image once and take eif_copy_sections, which reads only what it
+ * copies.
  */
 #ifndef EIF_H
 #define EIF_H
@@ -235,6 +237,12 @@ typedef struct eif_answer {
     uint64_t length; /* 0 beside a refusal */
 } eif_answer;
 
+/* The sections of a stream, in its order. */
+typedef struct eif_stream_sections {
+    uint64_t count;                         /* above EIF_MAX_SECTIONS it stands for that */
+    eif_section sections[EIF_MAX_SECTIONS]; /* then zeros */
+} eif_stream_sections;
+
 /* A SHA-384 digest, or a register. */
 typedef struct eif_digest {
     uint8_t bytes[EIF_DIGEST_LENGTH];
@@ -294,23 +302,46 @@ EIF_MUST_USE eif_answer eif_plan_length(eif_plan plan);
 EIF_MUST_USE eif_answer eif_write(eif_plan plan, const uint8_t *data, size_t data_length,
                                   uint8_t *out, size_t out_length);
 
-/* The number of bytes of a measured stream (FORMAT.md, Measured streams). Refusals: the image's own.
- *   whole  kernel, command line, then every ramdisk in file order
- *   boot   kernel, command line, and the first ramdisk if there is one
- *   app    the ramdisks but the first, in file order */
+/* The number of bytes of a measured stream (FORMAT.md, Measured streams): the data of these sections,
+ * joined in file order. Refusals: the image's own.
+ *   whole  kernel, command line and every ramdisk
+ *   boot   kernel, command line and the first ramdisk if there is one
+ *   app    the ramdisks but the first */
 EIF_MUST_USE eif_answer eif_whole_length(const uint8_t *image, size_t image_length);
 EIF_MUST_USE eif_answer eif_boot_length(const uint8_t *image, size_t image_length);
 EIF_MUST_USE eif_answer eif_app_length(const uint8_t *image, size_t image_length);
 
 /* Copies a measured stream, from stream position from on, to the start of out, and answers how many
  * bytes were copied: as many as both out and the rest of the stream have. Later bytes of out stay.
- * Refusals: the image's own, then 19. */
+ * Each call reads the whole image. Refusals: the image's own, then 19. */
 EIF_MUST_USE eif_answer eif_copy_whole(const uint8_t *image, size_t image_length,
                                        eif_stream_position from, uint8_t *out, size_t out_length);
 EIF_MUST_USE eif_answer eif_copy_boot(const uint8_t *image, size_t image_length,
                                       eif_stream_position from, uint8_t *out, size_t out_length);
 EIF_MUST_USE eif_answer eif_copy_app(const uint8_t *image, size_t image_length,
                                      eif_stream_position from, uint8_t *out, size_t out_length);
+
+/* The sections of a measured stream, of an image that was read:
+ *
+ *     eif_reading reading = eif_read(image, image_length);
+ *     ... refused where reading.number is not 0 ...
+ *     eif_stream_sections list = eif_whole_sections(reading);
+ *     eif_answer copied = eif_copy_sections(image, image_length, list, from, out, out_length);
+ *     ... go on from copied.length bytes further on, until it is 0 ...
+ *
+ * Any value whatever is a reading: its 32 places are looked at by their types, and nothing else of it.
+ * So a refused one, which eif_read fills with zeros, has no sections. */
+EIF_MUST_USE eif_stream_sections eif_whole_sections(eif_reading reading);
+EIF_MUST_USE eif_stream_sections eif_boot_sections(eif_reading reading);
+EIF_MUST_USE eif_stream_sections eif_app_sections(eif_reading reading);
+
+/* Copies the data of sections that were found, joined, as eif_copy_whole copies a stream, and without
+ * reading the image again. A list of the same image, unchanged since it was read, gives its stream.
+ * Any value whatever is a list, whatever the image: of each section that part is taken that lies in the
+ * image, and types, flags and reserved fields are not looked at. Refusal: 19. */
+EIF_MUST_USE eif_answer eif_copy_sections(const uint8_t *image, size_t image_length,
+                                          eif_stream_sections list, eif_stream_position from,
+                                          uint8_t *out, size_t out_length);
 
 /* The registers 0, 1 and 2 of an image (FORMAT.md, Registers): of the streams whole, boot and app,
  * SHA-384 of 48 zero bytes followed by the SHA-384 of the stream. Refusals: the image's own. */

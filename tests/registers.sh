@@ -23,10 +23,18 @@ sections() {
     done
 }
 
-# of TYPE: those of one type
-of() {
+# stream NAME: those of one stream, in file order
+stream() {
+    ramdisks=0
     echo "$all" | while read -r type offset size; do
-        [ "$type" -ne "$1" ] || echo "$type $offset $size"
+        [ "$type" -ne 3 ] || ramdisks=$((ramdisks + 1))
+        case "$1 $type" in
+        'whole 1' | 'whole 2' | 'whole 3' | 'boot 1' | 'boot 2') keep=1 ;;
+        'boot 3') keep=$((ramdisks == 1)) ;;
+        'app 3') keep=$((ramdisks > 1)) ;;
+        *) keep=0 ;;
+        esac
+        [ "$keep" -eq 0 ] || echo "$type $offset $size"
     done
 }
 
@@ -56,6 +64,6 @@ register() {
 }
 
 all=$(sections)
-{ of 1; of 2; of 3; } | data | register PCR0
-{ of 1; of 2; of 3 | head -n 1; } | data | register PCR1
-of 3 | tail -n +2 | data | register PCR2
+stream whole | data | register PCR0
+stream boot | data | register PCR1
+stream app | data | register PCR2

@@ -16,6 +16,8 @@ typedef char layout_of_plan_places[offsetof(eif_plan, places) == 32 ? 1 : -1];
 typedef char layout_of_reading[sizeof(eif_reading) == 48 + 32 * 24 ? 1 : -1];
 typedef char layout_of_reading_sections[offsetof(eif_reading, sections) == 48 ? 1 : -1];
 typedef char layout_of_answer[sizeof(eif_answer) == 24 ? 1 : -1];
+typedef char layout_of_stream_sections[sizeof(eif_stream_sections) == 8 + 32 * 24 ? 1 : -1];
+typedef char layout_of_stream_list[offsetof(eif_stream_sections, sections) == 8 ? 1 : -1];
 typedef char layout_of_sha384[sizeof(eif_sha384) == 200 ? 1 : -1];
 typedef char layout_of_sha384_block[offsetof(eif_sha384, block) == 64 ? 1 : -1];
 typedef char layout_of_sha384_total[offsetof(eif_sha384, total) == 192 ? 1 : -1];
@@ -60,6 +62,7 @@ static eif_plan plan_of(uint16_t count) {
 
 /* What an empty C++ vector's data() may be. */
 static void try_null(const uint8_t *image) {
+    eif_stream_sections whole = eif_whole_sections(eif_read(image, IMAGE_LENGTH));
     eif_plan empty = plan_of(2);
     empty.places[0].length.value = 0;
     check(eif_read(NULL, 0).number == EIF_IMAGE_TOO_SHORT, "read of null");
@@ -70,6 +73,7 @@ static void try_null(const uint8_t *image) {
     check(eif_copy_whole(NULL, 0, start(), NULL, 0).number == EIF_IMAGE_TOO_SHORT, "whole of null");
     check(eif_copy_boot(NULL, 0, start(), NULL, 0).number == EIF_IMAGE_TOO_SHORT, "boot of null");
     check(eif_copy_app(NULL, 0, start(), NULL, 0).number == EIF_IMAGE_TOO_SHORT, "app of null");
+    check(eif_copy_sections(NULL, 0, whole, start(), NULL, 0).number == EIF_ACCEPTED, "sections of null");
     check(eif_roll_write(NULL, 0, NULL, 0).number == EIF_IMAGE_TOO_SHORT, "roll of null");
     check(eif_roll_read(NULL, 0).number == EIF_RECORD_CUT, "roll read of null");
     check(eif_registers(NULL, 0).number == EIF_IMAGE_TOO_SHORT, "registers of null");
@@ -79,6 +83,8 @@ static void try_null(const uint8_t *image) {
     check(eif_copy_whole(image, IMAGE_LENGTH, start(), NULL, 0).number == EIF_ACCEPTED, "whole to null");
     check(eif_copy_boot(image, IMAGE_LENGTH, start(), NULL, 0).number == EIF_ACCEPTED, "boot to null");
     check(eif_copy_app(image, IMAGE_LENGTH, start(), NULL, 0).number == EIF_ACCEPTED, "app to null");
+    check(eif_copy_sections(image, IMAGE_LENGTH, whole, start(), NULL, 0).number == EIF_ACCEPTED,
+          "sections to null");
     check(eif_roll_write(image, IMAGE_LENGTH, NULL, 0).number == EIF_OUTPUT_TOO_SHORT, "roll to null");
 }
 
@@ -117,6 +123,25 @@ static void try_reading(const uint8_t *image, size_t length) {
     check(one.reserved == 0 && one.reserved_after == 0, "reserved of a reading");
     for (unsigned i = 0; i < EIF_MAX_SECTIONS; i++) {
         check(one.sections[i].reserved == 0, "reserved of a section");
+    }
+}
+
+static void try_stream_sections(const uint8_t *image, size_t length,
+                                eif_stream_sections (*sections)(eif_reading)) {
+    static eif_stream_sections one, other;
+    eif_reading reading = eif_read(image, length);
+    memset(&one, 0x55, sizeof one);
+    memset(&other, 0xaa, sizeof other);
+    soil(0x11);
+    one = sections(reading);
+    for (unsigned i = 0; i < EIF_MAX_SECTIONS; i++) {
+        reading.sections[i].reserved = 7;
+    }
+    soil(0xee);
+    other = sections(reading);
+    check(memcmp(&one, &other, sizeof one) == 0, "equal stream sections by memcmp");
+    for (unsigned i = 0; i < EIF_MAX_SECTIONS; i++) {
+        check(one.sections[i].reserved == 0, "reserved of a stream's section");
     }
 }
 
@@ -195,6 +220,10 @@ int main(void) {
     try_null(image);
     try_reading(image, IMAGE_LENGTH);
     try_reading(image, 547);
+    try_stream_sections(image, IMAGE_LENGTH, eif_whole_sections);
+    try_stream_sections(image, IMAGE_LENGTH, eif_boot_sections);
+    try_stream_sections(image, IMAGE_LENGTH, eif_app_sections);
+    try_stream_sections(image, 547, eif_whole_sections);
     try_roll_reading(roll, ROLL_LENGTH);
     try_roll_reading(roll, 9);
     try_answer(image, IMAGE_LENGTH, roll, ROLL_LENGTH);

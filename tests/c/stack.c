@@ -25,6 +25,7 @@ static eif_stream_position start;
 static eif_reading reading;
 static eif_roll_reading roll_reading;
 static eif_answer answer;
+static eif_stream_sections sections;
 static eif_registers_answer registers;
 static eif_sha384 begun;
 static eif_sha384_fed fed;
@@ -45,6 +46,12 @@ static void call_copy_boot(void) {
 }
 static void call_copy_app(void) {
     answer = eif_copy_app(image, image_length, start, out, sizeof out);
+}
+static void call_whole_sections(void) { sections = eif_whole_sections(reading); }
+static void call_boot_sections(void) { sections = eif_boot_sections(reading); }
+static void call_app_sections(void) { sections = eif_app_sections(reading); }
+static void call_copy_sections(void) {
+    answer = eif_copy_sections(image, image_length, sections, start, out, sizeof out);
 }
 static void call_registers(void) { registers = eif_registers(image, image_length); }
 static void call_sha384_begin(void) { begun = eif_sha384_begin(); }
@@ -105,6 +112,10 @@ int main(void) {
         {"eif_copy_whole", call_copy_whole},
         {"eif_copy_boot", call_copy_boot},
         {"eif_copy_app", call_copy_app},
+        {"eif_app_sections", call_app_sections},
+        {"eif_boot_sections", call_boot_sections},
+        {"eif_whole_sections", call_whole_sections},
+        {"eif_copy_sections", call_copy_sections},
         {"eif_registers", call_registers},
         {"eif_sha384_begin", call_sha384_begin},
         {"eif_sha384_update", call_sha384_update},

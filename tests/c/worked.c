@@ -138,6 +138,61 @@ static void try_streams(const uint8_t *image) {
     check(out[0] == 0x4b && out[1] == 0x61 && stays(out, 2, 4), "whole, bytes");
 }
 
+/* The streams of an image that was read, without reading it again. */
+static void try_sections(const uint8_t *image) {
+    static const eif_stream_sections none = {0, {{0, 0, 0, {0}, {0}}}};
+    uint8_t out[4];
+    eif_reading reading = eif_read(image, IMAGE_LENGTH);
+    eif_stream_sections whole = eif_whole_sections(reading);
+    eif_stream_sections boot = eif_boot_sections(reading);
+    eif_stream_sections app = eif_app_sections(reading);
+    check(whole.count == 3 && memcmp(&whole, &boot, sizeof whole) == 0, "sections of whole and boot");
+    check(memcmp(whole.sections, reading.sections, sizeof whole.sections) == 0, "sections of whole");
+    check(memcmp(&app, &none, sizeof app) == 0, "sections of app");
+
+    memset(out, STAYS, sizeof out);
+    check(is(eif_copy_sections(image, IMAGE_LENGTH, app, at(0), out, 4), EIF_ACCEPTED, 0), "no section");
+    check(is(eif_copy_sections(image, IMAGE_LENGTH, whole, at(3), out, 4), EIF_PAST_STREAM_END, 0),
+          "sections from 3");
+    check(stays(out, 0, 4), "output where nothing is copied of sections");
+    check(is(eif_copy_sections(image, IMAGE_LENGTH, whole, at(1), out, 4), EIF_ACCEPTED, 1),
+          "sections from 1");
+    check(out[0] == 0x61 && stays(out, 1, 4), "sections from 1, bytes");
+
+    /* Any list will do: here one with too large a count, and a section that runs past the image. */
+    whole.count = UINT64_MAX;
+    whole.sections[31].position.value = IMAGE_LENGTH - 11;
+    whole.sections[31].length.value = UINT64_MAX;
+    check(is(eif_copy_sections(image, IMAGE_LENGTH, whole, at(0), out, 4), EIF_ACCEPTED, 4), "any list");
+    check(out[0] == 0x4b && out[1] == 0x61 && out[2] == 3 && out[3] == 0, "any list, bytes");
+    check(is(eif_copy_sections(image, IMAGE_LENGTH, whole, at(13), out, 4), EIF_ACCEPTED, 0), "its end");
+    check(is(eif_copy_sections(image, IMAGE_LENGTH, whole, at(14), out, 4), EIF_PAST_STREAM_END, 0),
+          "past its end");
+}
+
+/* Command line, kernel, ramdisk, ramdisk: the streams are in file order. */
+static void try_file_order(void) {
+    static const uint8_t data[4] = {'c', 'k', 'f', 's'};
+    static const uint16_t types[4] = {EIF_COMMAND_LINE, EIF_KERNEL, EIF_RAMDISK, EIF_RAMDISK};
+    uint8_t image[600], out[4];
+    eif_plan plan;
+    memset(&plan, 0, sizeof plan);
+    plan.version = 2;
+    plan.count = 4;
+    for (unsigned i = 0; i < 4; i++) {
+        put_place(&plan, i, types[i], 1);
+    }
+    eif_answer written = eif_write(plan, data, 4, image, sizeof image);
+    check(is(written, EIF_ACCEPTED, 600), "command line first");
+    check(is(eif_copy_whole(image, 600, at(0), out, 4), EIF_ACCEPTED, 4), "whole in file order");
+    check(memcmp(out, "ckfs", 4) == 0, "whole in file order, bytes");
+    memset(out, STAYS, sizeof out);
+    check(is(eif_copy_boot(image, 600, at(0), out, 4), EIF_ACCEPTED, 3), "boot in file order");
+    check(memcmp(out, "ckf", 3) == 0 && stays(out, 3, 4), "boot in file order, bytes");
+    eif_stream_sections app = eif_app_sections(eif_read(image, 600));
+    check(app.count == 1 && app.sections[0].position.value == 599, "app in file order");
+}
+
 static void try_roll(const uint8_t *image) {
     static const uint64_t positions[3] = {10, 21, 32};
     uint8_t out[50];
@@ -220,6 +275,8 @@ int main(void) {
     try_write(image);
     try_read(image);
     try_streams(image);
+    try_sections(image);
+    try_file_order();
     try_registers(image);
     try_sha384();
     try_roll(image);

@@ -5,6 +5,7 @@
 
 mod hashing;
 mod images;
+mod pieces;
 mod sample;
 mod table;
 mod timing;
@@ -48,13 +49,28 @@ fn main() {
     table::head("twin");
     for length in [MIB, 16 * MIB] {
         images::measure(length);
+        pieces::beside_twin(length);
         hashing::registers(length);
     }
     for length in [MIB, 64 * MIB] {
         hashing::memory(length);
     }
+    pieces_beside_rereading();
     registers_beside_parts();
     files_beside_openssl();
+}
+
+fn pieces_beside_rereading() {
+    println!();
+    println!(
+        "The stream Whole copied in pieces of 64 KiB: from one reading of the image, which is \
+         counted, beside a reading for each piece; {} rounds.",
+        pieces::ROUNDS
+    );
+    table::head("re-reading");
+    for length in [MIB, 16 * MIB] {
+        pieces::beside_rereading(length);
+    }
 }
 
 fn registers_beside_parts() {

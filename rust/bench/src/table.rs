@@ -10,11 +10,12 @@ fn show(seconds: f64) -> String {
 
 /// A row: what was measured on how many bytes, the library's seconds, those beside it, and the ratio.
 pub fn row(call: &str, bytes: usize, (library, other): (f64, f64)) {
+    let ratio = library / other;
+    let digits = if (0.0..0.1).contains(&ratio) { 4 } else { 2 };
     println!(
-        "| {call} | {bytes} | {} | {} | {:.2} |",
+        "| {call} | {bytes} | {} | {} | {ratio:.digits$} |",
         show(library),
         show(other),
-        library / other
     );
 }
 

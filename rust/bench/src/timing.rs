@@ -27,12 +27,17 @@ fn median(mut times: Vec<f64>) -> f64 {
 
 /// Seconds for one call of each: medians over the rounds. In each round all are called in turn, and the
 /// one that goes first changes.
-pub fn medians<const N: usize>(mut calls: [Call; N]) -> [f64; N] {
+pub fn medians<const N: usize>(calls: [Call; N]) -> [f64; N] {
+    medians_of(ROUNDS, calls)
+}
+
+/// The same over so many rounds, for calls that take seconds.
+pub fn medians_of<const N: usize>(rounds: usize, mut calls: [Call; N]) -> [f64; N] {
     let once = calls.iter_mut().map(|call| time(1, *call)).max();
     let once = once.unwrap_or_default().max(Duration::from_nanos(20));
     let times = (ROUND_TIME.as_nanos() / once.as_nanos()).clamp(1, 100_000) as u32;
-    let mut lists = [(); N].map(|()| Vec::with_capacity(ROUNDS));
-    for round in 0..ROUNDS {
+    let mut lists = [(); N].map(|()| Vec::with_capacity(rounds));
+    for round in 0..rounds {
         for turn in 0..N {
             let chosen = (round + turn) % N;
             let taken = time(times, calls[chosen]).as_secs_f64();

@@ -35,13 +35,73 @@ pub fn two_sections() -> Vec<u8> {
     Layout::new(2, vec![Section::new(1, &[0x4b]), Section::new(2, &[])]).image()
 }
 
-/// An image with the command line before the kernel, metadata among three ramdisks, and its streams
-/// Whole, Boot and App.
-pub fn stream_case() -> (Vec<u8>, [&'static [u8]; 3]) {
-    let sections = [2, 1, 3, 5, 3, 3].into_iter().zip(b'a'..);
-    let sections = sections.map(|(kind, byte)| Section::new(kind, &[byte, byte]));
-    let image = Layout::new(4, sections.collect()).image();
-    (image, [b"bbaacceeff", b"bbaacc", b"eeff"])
+/// An image and its streams.
+pub struct StreamCase {
+    /// Where the command line stands.
+    pub name: &'static str,
+    /// The image's bytes.
+    pub image: Vec<u8>,
+    /// Whole, Boot and App.
+    pub streams: [&'static [u8]; 3],
+}
+
+/// An image with sections of these types: `aa` is the first one's data, `bb` the second one's, and so
+/// on.
+fn lettered(version: u16, types: &[u16]) -> Vec<u8> {
+    let sections = types.iter().zip(b'a'..);
+    let sections = sections.map(|(&kind, byte)| Section::new(kind, &[byte, byte]));
+    Layout::new(version, sections.collect()).image()
+}
+
+/// The command line before the kernel, and metadata among three ramdisks.
+pub fn command_line_first() -> Vec<u8> {
+    lettered(4, &[2, 1, 3, 5, 3, 3])
+}
+
+/// Streams are in file order, wherever the command line stands.
+pub fn stream_cases() -> Vec<StreamCase> {
+    let case = |name, image, streams| StreamCase {
+        name,
+        image,
+        streams,
+    };
+    vec![
+        case(
+            "after the kernel",
+            lettered(2, &[1, 2, 3, 3]),
+            [b"aabbccdd", b"aabbcc", b"dd"],
+        ),
+        case(
+            "before the kernel",
+            command_line_first(),
+            [b"aabbcceeff", b"aabbcc", b"eeff"],
+        ),
+        case(
+            "between two ramdisks",
+            lettered(2, &[1, 3, 2, 3]),
+            [b"aabbccdd", b"aabbcc", b"dd"],
+        ),
+        case(
+            "after two ramdisks",
+            lettered(2, &[1, 3, 3, 2]),
+            [b"aabbccdd", b"aabbdd", b"cc"],
+        ),
+        case(
+            "between the second and the third ramdisk",
+            lettered(3, &[1, 3, 4, 3, 2, 3]),
+            [b"aabbddeeff", b"aabbee", b"ddff"],
+        ),
+        case(
+            "after the kernel, no ramdisk",
+            lettered(2, &[1, 2]),
+            [b"aabb", b"aabb", b""],
+        ),
+        case(
+            "before the kernel, no ramdisk",
+            lettered(2, &[2, 1]),
+            [b"aabb", b"aabb", b""],
+        ),
+    ]
 }
 
 /// An image of exactly `length` bytes that meets every rule but perhaps the first.

@@ -18,7 +18,8 @@ mod rolls;
 
 pub use digests::{digest_cases, hex, register_cases, DigestCase};
 pub use images::{
-    image_cases, image_of_length, stream_case, two_sections, worked_image, ImageCase,
+    command_line_first, image_cases, image_of_length, stream_cases, two_sections, worked_image,
+    ImageCase, StreamCase,
 };
 pub use layout::{
     crc32, put, put_number, seal, section_end, Layout, Section, CHECKSUM_AT, COUNT_AT, HEADER,

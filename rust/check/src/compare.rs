@@ -1,12 +1,13 @@
 //! The library's answers held to the twin's: every field and every byte of the output.
 
-use crate::{Call, Message, Output, PlanInput, Rng, Tally};
-use eif::raw::{self, Answer, Reading, RegistersAnswer, RollReading};
+use crate::{Call, Message, Output, PlanInput, ReadingInput, Rng, Tally};
+use eif::raw::{self, Answer, Reading, RegistersAnswer, RollReading, StreamSections};
 use eif::{
     DataLength, Digest, FilePosition, Refusal, RollPosition, SectionType, Stream, StreamPosition,
 };
 use eif_twin as twin;
 use std::fmt::{self, Debug, Display};
+use std::io::Read;
 
 /// Names an input in a message.
 struct Input<'a> {
@@ -14,15 +15,16 @@ struct Input<'a> {
     ordinal: u64,
     /// Of a plan, the lent data.
     bytes: &'a [u8],
-    plan: Option<&'a raw::Plan>,
+    /// A plan, or a reading and a list.
+    other: Option<&'a dyn Debug>,
 }
 
 impl Display for Input<'_> {
     fn fmt(&self, f: &mut fmt::Formatter<'_>) -> fmt::Result {
         let length = self.bytes.len();
         write!(f, "{} {}, ", self.kind, self.ordinal)?;
-        if let Some(plan) = self.plan {
-            write!(f, "{plan:?}, ")?;
+        if let Some(other) = self.other {
+            write!(f, "{other:?}, ")?;
         }
         write!(f, "{length} bytes:")?;
         for byte in self.bytes.iter().take(4096) {
@@ -62,6 +64,38 @@ fn twin_answer(answer: Result<u64, twin::Refusal>) -> Answer {
     }
 }
 
+/// Sections as an answer has them, zeros after them.
+fn in_places(list: &[twin::Section]) -> [raw::Section; 32] {
+    let mut sections = [raw::Section::default(); 32];
+    for (to, from) in sections.iter_mut().zip(list) {
+        *to = raw::Section {
+            section_type: SectionType(from.kind),
+            flags: from.flags,
+            position: FilePosition(from.position as u64),
+            length: DataLength(from.length as u64),
+            ..raw::Section::default()
+        };
+    }
+    sections
+}
+
+fn twin_section(section: &raw::Section) -> twin::Section {
+    twin::Section {
+        kind: section.section_type.0,
+        flags: section.flags,
+        position: section.position.0 as usize,
+        length: section.length.0 as usize,
+    }
+}
+
+fn twin_stream(stream: Stream) -> twin::Stream {
+    match stream {
+        Stream::Whole => twin::Stream::Whole,
+        Stream::Boot => twin::Stream::Boot,
+        Stream::App => twin::Stream::App,
+    }
+}
+
 fn twin_reading(answer: &Result<twin::Reading, twin::Refusal>) -> Reading {
     let reading = match answer {
         Ok(reading) => reading,
@@ -74,16 +108,6 @@ fn twin_reading(answer: &Result<twin::Reading, twin::Refusal>) -> Reading {
             }
         }
     };
-    let mut sections = [raw::Section::default(); 32];
-    for (to, from) in sections.iter_mut().zip(&reading.sections) {
-        *to = raw::Section {
-            section_type: SectionType(from.kind),
-            flags: from.flags,
-            position: FilePosition(from.position as u64),
-            length: DataLength(from.length as u64),
-            ..raw::Section::default()
-        };
-    }
     Reading {
         version: reading.version,
         flags: reading.flags,
@@ -93,7 +117,7 @@ fn twin_reading(answer: &Result<twin::Reading, twin::Refusal>) -> Reading {
         ramdisk_mark: reading.ramdisk_mark(),
         ramdisk_count: reading.ramdisk_count() as u32,
         first_ramdisk: reading.first_ramdisk().unwrap_or(32) as u32,
-        sections,
+        sections: in_places(&reading.sections),
         ..Reading::default()
     }
 }
@@ -162,26 +186,40 @@ fn compare_output(
     rust: impl FnOnce(&mut [u8]) -> Result<usize, Refusal>,
     twin: impl FnOnce(&mut [u8]) -> Result<usize, twin::Refusal>,
 ) -> u8 {
-    let mut outputs = [(); 3].map(|()| Output::new(length, salt));
-    let answer = c(outputs[0].lend());
-    let rust_answer = rust(outputs[1].lend());
-    let twin_answer = twin_answer(twin(outputs[2].lend()).map(|length| length as u64));
-    same(input, what, answer, twin_answer);
-    let same_bytes = outputs[0] == outputs[2] && outputs[1] == outputs[2];
+    let (answer, output) = compare_c_output(input, what, (length, salt), c, twin);
+    let mut rust_output = Output::new(length, salt);
+    let rust_answer = rust(rust_output.lend());
+    let same_bytes = output == rust_output;
     assert!(same_bytes, "{what}: other output bytes, for {input}");
-    let start = answer.length as usize;
-    let rest_stays = outputs[0].only_start_changed(start);
-    assert!(
-        rest_stays,
-        "{what}: bytes past {start} changed, for {input}"
-    );
-
     let expected = match answer.number {
-        0 => Ok(start),
+        0 => Ok(answer.length as usize),
         number => Err((number, answer.index)),
     };
     same(input, what, rust_answer.map_err(pair), expected);
     answer.number
+}
+
+/// The same by the C interface and the twin alone. Answers the answer and the output.
+fn compare_c_output(
+    input: &Input,
+    what: &str,
+    (length, salt): (usize, u8),
+    c: impl FnOnce(&mut [u8]) -> Answer,
+    twin: impl FnOnce(&mut [u8]) -> Result<usize, twin::Refusal>,
+) -> (Answer, Output) {
+    let [mut output, mut twin_output] = [(); 2].map(|()| Output::new(length, salt));
+    let answer = c(output.lend());
+    let twin_answer = twin_answer(twin(twin_output.lend()).map(|length| length as u64));
+    same(input, what, answer, twin_answer);
+    let same_bytes = output == twin_output;
+    assert!(same_bytes, "{what}: other output bytes, for {input}");
+    let start = answer.length as usize;
+    let rest_stays = output.only_start_changed(start);
+    assert!(
+        rest_stays,
+        "{what}: bytes past {start} changed, for {input}"
+    );
+    (answer, output)
 }
 
 /// Holds a length to the twin's, by the C interface and the Rust interface. Answers the answer number.
@@ -208,7 +246,7 @@ pub fn compare_image(rng: &mut Rng, ordinal: u64, image: &[u8], tally: &mut Tall
         kind: "image",
         ordinal,
         bytes: image,
-        plan: None,
+        other: None,
     };
     tally.add_input();
     let twin_answer = twin::read(image);
@@ -219,6 +257,10 @@ pub fn compare_image(rng: &mut Rng, ordinal: u64, image: &[u8], tally: &mut Tall
 
     for stream in Stream::ALL {
         compare_stream(rng, input, stream, tally);
+        compare_sections(input, &reading, stream);
+        if let Ok(read) = eif::read(image) {
+            compare_stream_view(rng, input, &read, stream, tally);
+        }
     }
 
     let roll_length = twin::roll_length(image);
@@ -295,10 +337,11 @@ fn any_position(rng: &mut Rng, length: u64) -> u64 {
 
 fn compare_stream(rng: &mut Rng, input: &Input, stream: Stream, tally: &mut Tally) {
     let image = input.bytes;
-    let (twin_stream, answer) = match stream {
-        Stream::Whole => (twin::Stream::Whole, raw::whole_length(image)),
-        Stream::Boot => (twin::Stream::Boot, raw::boot_length(image)),
-        Stream::App => (twin::Stream::App, raw::app_length(image)),
+    let twin_stream = twin_stream(stream);
+    let answer = match stream {
+        Stream::Whole => raw::whole_length(image),
+        Stream::Boot => raw::boot_length(image),
+        Stream::App => raw::app_length(image),
     };
     let length = twin::stream_length(image, twin_stream);
     let number = compare_length(
@@ -327,6 +370,97 @@ fn compare_stream(rng: &mut Rng, input: &Input, stream: Stream, tally: &mut Tall
         |out| twin::copy_stream(image, twin_stream, from, out),
     );
     tally.add(Call::Copy, number);
+}
+
+/// The sections of a stream, of any reading.
+fn compare_sections(input: &Input, reading: &Reading, stream: Stream) -> StreamSections {
+    let list = match stream {
+        Stream::Whole => raw::whole_sections(*reading),
+        Stream::Boot => raw::boot_sections(*reading),
+        Stream::App => raw::app_sections(*reading),
+    };
+    let all = reading.sections.each_ref().map(twin_section);
+    let kept = twin::stream_sections(&all, twin_stream(stream));
+    let twin = StreamSections {
+        count: kept.len() as u64,
+        sections: in_places(&kept),
+    };
+    same(input, "stream sections", list, twin);
+    list
+}
+
+/// Copies from any list of sections.
+fn compare_list(rng: &mut Rng, input: &Input, list: &StreamSections, tally: &mut Tally) {
+    let image = input.bytes;
+    let used = list.sections.iter().take(list.count.min(32) as usize);
+    let sections: Vec<_> = used.map(twin_section).collect();
+    let parts = sections.iter().map(|section| {
+        let rest = image.len().saturating_sub(section.position);
+        section.length.min(rest)
+    });
+    let length = parts.sum::<usize>() as u64;
+    let from = any_position(rng, length);
+    tally.add_input();
+    let rest = length.saturating_sub(from) as usize;
+    let (answer, _) = compare_c_output(
+        input,
+        "copy from sections",
+        (rng.output_length(rest), rng.next() as u8),
+        |out| raw::copy_sections(image, *list, StreamPosition(from), out),
+        |out| twin::copy_sections(image, &sections, from, out),
+    );
+    tally.add(Call::CopyListed, answer.number);
+}
+
+/// The streams of an image that was read, in Rust.
+fn compare_stream_view(
+    rng: &mut Rng,
+    input: &Input,
+    image: &eif::Image,
+    stream: Stream,
+    tally: &mut Tally,
+) {
+    let twin_stream = twin_stream(stream);
+    let length = twin::stream_length(input.bytes, twin_stream).unwrap_or(0);
+    let mut bytes = vec![0; length as usize];
+    let copied = twin::copy_stream(input.bytes, twin_stream, 0, &mut bytes);
+    same(input, "stream", copied.ok(), Some(bytes.len()));
+    let sections: Vec<&[u8]> = image.stream_sections(stream).collect();
+    same(input, "sections joined", &sections.concat(), &bytes);
+    let mut read = Vec::new();
+    let done = image.stream_reader(stream).read_to_end(&mut read);
+    same(input, "stream read", done.ok(), Some(bytes.len()));
+    same(input, "bytes read", &read, &bytes);
+
+    let from = any_position(rng, length);
+    tally.add_input();
+    let rest = length.saturating_sub(from) as usize;
+    let list = compare_sections(input, &raw::read(input.bytes), stream);
+    let number = compare_output(
+        input,
+        "stream copy of an image that was read",
+        (rng.output_length(rest), rng.next() as u8),
+        |out| raw::copy_sections(input.bytes, list, StreamPosition(from), out),
+        |out| image.copy_stream(stream, StreamPosition(from), out),
+        |out| twin::copy_stream(input.bytes, twin_stream, from, out),
+    );
+    tally.add(Call::CopyListed, number);
+}
+
+/// Takes the streams' sections of a reading, and copies from them and from a list, whatever they are.
+pub fn compare_reading(rng: &mut Rng, ordinal: u64, given: &ReadingInput, tally: &mut Tally) {
+    let input = &Input {
+        kind: "reading",
+        ordinal,
+        bytes: &given.image,
+        other: Some(&(given.reading, given.list)),
+    };
+    tally.add_input();
+    for stream in Stream::ALL {
+        let list = compare_sections(input, &given.reading, stream);
+        compare_list(rng, input, &list, tally);
+    }
+    compare_list(rng, input, &given.list, tally);
 }
 
 fn twin_plan(plan: &raw::Plan) -> twin::Plan {
@@ -363,7 +497,7 @@ pub fn compare_plan(rng: &mut Rng, ordinal: u64, given: &PlanInput, tally: &mut 
         kind: "plan",
         ordinal,
         bytes: &given.data,
-        plan: Some(&given.plan),
+        other: Some(&given.plan),
     };
     tally.add_input();
     let plan = given.plan;
@@ -394,7 +528,7 @@ pub fn compare_message(ordinal: u64, message: &Message, tally: &mut Tally) {
         kind: "message",
         ordinal,
         bytes: &message.pieces.concat(),
-        plan: None,
+        other: None,
     };
     tally.add_input();
     let mut state = message.state.unwrap_or_else(raw::sha384_begin);
@@ -428,7 +562,7 @@ pub fn compare_roll(ordinal: u64, roll: &[u8], tally: &mut Tally) {
         kind: "roll",
         ordinal,
         bytes: roll,
-        plan: None,
+        other: None,
     };
     tally.add_input();
     let twin_answer = twin::read_roll(roll);

@@ -10,15 +10,17 @@ mod images;
 mod messages;
 mod output;
 mod plans;
+mod readings;
 mod rng;
 mod rolls;
 mod tally;
 
-pub use compare::{compare_image, compare_message, compare_plan, compare_roll};
+pub use compare::{compare_image, compare_message, compare_plan, compare_reading, compare_roll};
 pub use images::{accepted_layout, any_image};
 pub use messages::{any_message, Message};
 pub use output::Output;
 pub use plans::{accepted_plan, any_plan, PlanInput};
+pub use readings::{any_reading_input, ReadingInput};
 pub use rng::Rng;
 pub use rolls::any_roll;
 pub use tally::{Call, Tally};

@@ -4,7 +4,7 @@ use std::fmt;
 use std::ops::AddAssign;
 
 /// How many kinds of call there are.
-const CALLS: usize = 10;
+const CALLS: usize = 11;
 
 /// Answer numbers are below this.
 const NUMBERS: usize = 30;
@@ -22,6 +22,8 @@ pub enum Call {
     Length,
     /// Copying a stream.
     Copy,
+    /// Copying from sections already found.
+    CopyListed,
     /// The length of an image's roll.
     RollLength,
     /// Writing a roll.
@@ -42,6 +44,7 @@ impl Call {
         Call::Write,
         Call::Length,
         Call::Copy,
+        Call::CopyListed,
         Call::RollLength,
         Call::RollWrite,
         Call::RollRead,
@@ -57,6 +60,7 @@ impl Call {
             Call::PlanLength => vec![0, 1, 4, 5, 9, 10, 11, 12],
             Call::Write => vec![0, 1, 4, 5, 9, 10, 11, 12, 14, 15],
             Call::Copy => image.chain([19]).collect(),
+            Call::CopyListed => vec![0, 19],
             Call::RollWrite => image.chain([14]).collect(),
             Call::RollRead => vec![0, 1, 5, 10, 11, 12, 16, 17, 18],
             Call::Update => vec![0, 29],

@@ -1,8 +1,9 @@
 //! The demands, tried on generated images: round trips, and what a roll tells of its image.
 
-use eif::{Image, Stream, StreamPosition};
+use eif::{Image, RollRecord, SectionType, Stream, StreamPosition};
 use eif_cases::{record, Layout, Section};
 use eif_check::{accepted_layout, accepted_plan, any_image, any_roll, Rng};
+use std::io::Read;
 
 const TIMES: u64 = 2_000;
 
@@ -26,6 +27,17 @@ fn stream_of(image: &[u8], stream: Stream) -> Vec<u8> {
     let copied = eif::copy_stream(image, stream, StreamPosition(0), &mut out);
     assert_eq!(copied, Ok(out.len()));
     out
+}
+
+/// Copies in pieces of one length until nothing is left.
+fn joined(length: usize, copy: impl Fn(StreamPosition, &mut [u8]) -> usize) -> Vec<u8> {
+    let (mut joined, mut piece) = (Vec::new(), vec![0; length]);
+    loop {
+        match copy(StreamPosition(joined.len() as u64), &mut piece) {
+            0 => return joined,
+            copied => joined.extend_from_slice(&piece[..copied]),
+        }
+    }
 }
 
 #[test]
@@ -153,29 +165,79 @@ fn an_accepted_roll_is_the_roll_of_an_image() {
 }
 
 #[test]
-fn whole_is_boot_then_app() {
+fn whole_is_the_roll_with_its_heads_taken_out() {
     for ordinal in 0..TIMES {
         let image = accepted_layout(&mut Rng::of_input(6, ordinal)).image();
-        let parts = [Stream::Boot, Stream::App].map(|stream| stream_of(&image, stream));
-        assert_eq!(stream_of(&image, Stream::Whole), parts.concat());
+        let roll = roll_of(&image);
+        let roll = eif::read_roll(&roll).unwrap();
+        let data = |records: &[(RollRecord, &[u8])]| -> Vec<u8> {
+            let data = records.iter().map(|(_, data)| *data);
+            data.collect::<Vec<_>>().concat()
+        };
+        let records: Vec<_> = roll.iter().collect();
+        assert_eq!(stream_of(&image, Stream::Whole), data(&records));
+        // Boot and App are what they keep of it.
+        let mut ramdisks = 0;
+        let (app, boot): (Vec<_>, Vec<_>) = records.into_iter().partition(|(record, _)| {
+            ramdisks += usize::from(record.section_type == SectionType::RAMDISK);
+            record.section_type == SectionType::RAMDISK && ramdisks > 1
+        });
+        assert_eq!(stream_of(&image, Stream::Boot), data(&boot));
+        assert_eq!(stream_of(&image, Stream::App), data(&app));
     }
+}
+
+/// Boot and App have the sections of Whole, each once, and Whole is Boot and then App where the command
+/// line stands before the second ramdisk.
+#[test]
+fn boot_and_app_share_out_whole() {
+    let (mut in_turn, mut mixed) = (0, 0);
+    for ordinal in 0..TIMES {
+        let bytes = accepted_layout(&mut Rng::of_input(11, ordinal)).image();
+        let image = eif::read(&bytes).unwrap();
+        let [whole, boot, app] =
+            Stream::ALL.map(|stream| image.stream_sections(stream).collect::<Vec<_>>());
+        let mut both = [boot, app].concat();
+        let types: Vec<u16> = listed(&image).iter().map(|(kind, _)| *kind).collect();
+        let command_line = types.iter().position(|&kind| kind == 2).unwrap();
+        let ramdisks = types[..command_line].iter().filter(|&&kind| kind == 3);
+        if ramdisks.count() < 2 {
+            assert_eq!(both, whole);
+            in_turn += 1;
+        } else {
+            // In the order of their places in the file.
+            both.sort_by_key(|data| data.as_ptr());
+            assert_eq!(both, whole);
+            mixed += 1;
+        }
+        let lengths = Stream::ALL.map(|stream| eif::stream_length(&bytes, stream).unwrap().0);
+        assert_eq!(lengths[0], lengths[1] + lengths[2]);
+    }
+    assert!(in_turn > 100 && mixed > 100, "{in_turn} {mixed}");
 }
 
 #[test]
 fn a_stream_copied_in_pieces_is_the_stream() {
     for ordinal in 0..TIMES / 10 {
         let mut rng = Rng::of_input(7, ordinal);
-        let image = accepted_layout(&mut rng).image();
-        let stream = rng.pick(&Stream::ALL);
-        let (mut joined, mut piece) = (Vec::new(), vec![0; 1 + rng.below(30)]);
-        loop {
-            let from = StreamPosition(joined.len() as u64);
-            match eif::copy_stream(&image, stream, from, &mut piece).unwrap() {
-                0 => break,
-                copied => joined.extend_from_slice(&piece[..copied]),
-            }
+        let bytes = accepted_layout(&mut rng).image();
+        let image = eif::read(&bytes).unwrap();
+        let length = 1 + rng.below(30);
+        for stream in Stream::ALL {
+            let whole = stream_of(&bytes, stream);
+            let again = joined(length, |from, out| {
+                eif::copy_stream(&bytes, stream, from, out).unwrap()
+            });
+            assert_eq!(again, whole);
+            let from_reading = joined(length, |from, out| {
+                image.copy_stream(stream, from, out).unwrap()
+            });
+            assert_eq!(from_reading, whole);
+            let mut read = Vec::new();
+            image.stream_reader(stream).read_to_end(&mut read).unwrap();
+            assert_eq!(read, whole);
+            assert_eq!(eif::stream_to_vec(&bytes, stream).unwrap(), whole);
         }
-        assert_eq!(joined, stream_of(&image, stream));
     }
 }
 

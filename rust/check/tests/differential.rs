@@ -14,6 +14,7 @@ const IMAGES: u64 = 100_000;
 const PLANS: u64 = 60_000;
 const ROLLS: u64 = 80_000;
 const MESSAGES: u64 = 40_000;
+const READINGS: u64 = 40_000;
 
 fn variable(name: &str, default: u64) -> u64 {
     let Ok(text) = env::var(name) else {
@@ -58,6 +59,14 @@ fn messages(seed: u64, ordinals: Range<u64>, tally: &mut Tally) {
     for ordinal in ordinals {
         let mut rng = Rng::of_input(!seed.rotate_left(32), ordinal);
         compare_message(ordinal, &any_message(&mut rng), tally);
+    }
+}
+
+fn readings(seed: u64, ordinals: Range<u64>, tally: &mut Tally) {
+    for ordinal in ordinals {
+        let mut rng = Rng::of_input(seed.rotate_left(16), ordinal);
+        let given = any_reading_input(&mut rng);
+        compare_reading(&mut rng, ordinal, &given, tally);
     }
 }
 
@@ -128,6 +137,7 @@ fn library_and_twin_agree() {
             plans(seed, share(PLANS * times, part, parts), &mut tally);
             rolls(seed, share(ROLLS * times, part, parts), &mut tally);
             messages(seed, share(MESSAGES * times, part, parts), &mut tally);
+            readings(seed, share(READINGS * times, part, parts), &mut tally);
             if part == 0 {
                 long_images(seed, &mut tally);
                 long_plans(seed, &mut tally);
@@ -156,5 +166,5 @@ fn library_and_twin_agree() {
     for &reason in eif::Reason::ALL {
         assert!(total.of_number(reason as u8) > 0, "{reason} never occurred");
     }
-    assert!(total.inputs() >= 200_000);
+    assert!(total.inputs() >= 800_000);
 }

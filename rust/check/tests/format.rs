@@ -3,9 +3,10 @@
 use eif::raw::{self, Answer};
 use eif::{DataLength, Place, Plan, Refusal, SectionType, Stream, StreamPosition};
 use eif_cases::{
-    image_cases, image_of_length, roll_cases, stream_case, two_sections, worked_image, MAX_IMAGE,
-    WORKED_ROLL,
+    command_line_first, image_cases, image_of_length, roll_cases, stream_cases, two_sections,
+    worked_image, MAX_IMAGE, WORKED_ROLL,
 };
+use std::io::Read;
 
 fn pair(refusal: Refusal) -> (u8, u64) {
     (refusal.number(), refusal.index())
@@ -137,25 +138,91 @@ fn stream_positions() {
     }
 }
 
+/// Tries a copier of `bytes` from every position into buffers of several lengths.
+fn check_copies(bytes: &[u8], copy: impl Fn(StreamPosition, &mut [u8]) -> Result<usize, Refusal>) {
+    for from in 0..=bytes.len() {
+        for room in 0..16 {
+            let copied = room.min(bytes.len() - from);
+            let mut expected = [0xaa; 16];
+            expected[..copied].copy_from_slice(&bytes[from..from + copied]);
+            let mut out = [0xaa; 16];
+            let from = StreamPosition(from as u64);
+            assert_eq!(copy(from, &mut out[..room]), Ok(copied));
+            assert_eq!(out, expected);
+        }
+    }
+    let past = StreamPosition(bytes.len() as u64 + 1);
+    let answer = copy(past, &mut [0; 16]);
+    assert_eq!(answer.map_err(pair), Err((19, 0)));
+}
+
 #[test]
-fn streams_hold_the_kernel_first() {
-    let (image, streams) = stream_case();
-    let from = StreamPosition(1);
-    for (stream, bytes) in Stream::ALL.into_iter().zip(streams) {
-        let mut out = [0; 16];
-        assert_eq!(
-            eif::copy_stream(&image, stream, from, &mut out),
-            Ok(bytes.len() - 1)
-        );
-        assert_eq!(out[..bytes.len() - 1], bytes[1..]);
-        assert_eq!(eif::copy_stream(&image, stream, from, &mut out[..2]), Ok(2));
-        assert_eq!(out[..2], bytes[1..3]);
+fn streams_are_in_file_order() {
+    for case in stream_cases() {
+        let bytes = &case.image;
+        let image = eif::read(bytes).unwrap();
+        for (stream, expected) in Stream::ALL.into_iter().zip(case.streams) {
+            let name = case.name;
+            let whole = eif::stream_to_vec(bytes, stream);
+            assert_eq!(whole.as_deref(), Ok(expected), "{name}");
+            let sections: Vec<&[u8]> = image.stream_sections(stream).collect();
+            let pairs: Vec<&[u8]> = expected.chunks(2).collect();
+            assert_eq!(sections, pairs, "{name}");
+            check_copies(expected, |from, out| {
+                eif::copy_stream(bytes, stream, from, out)
+            });
+            check_copies(expected, |from, out| image.copy_stream(stream, from, out));
+        }
+    }
+}
+
+#[test]
+fn a_stream_is_read_in_pieces_of_any_size() {
+    for case in stream_cases() {
+        let image = eif::read(&case.image).unwrap();
+        for (stream, expected) in Stream::ALL.into_iter().zip(case.streams) {
+            for size in 1..8 {
+                let mut reader = image.stream_reader(stream);
+                let (mut joined, mut piece) = (Vec::new(), vec![0; size]);
+                loop {
+                    match reader.read(&mut piece).unwrap() {
+                        0 => break,
+                        count => joined.extend_from_slice(&piece[..count]),
+                    }
+                }
+                assert_eq!(joined, expected);
+                assert_eq!(reader.read(&mut piece).unwrap(), 0);
+            }
+        }
+    }
+}
+
+/// What is read outlives the view of the image, since it is borrowed from the bytes alone.
+#[test]
+fn sections_of_a_stream_are_borrowed_from_the_bytes() {
+    let bytes = command_line_first();
+    let sections = eif::read(&bytes).unwrap().stream_sections(Stream::App);
+    assert_eq!(sections.len(), 2);
+    let range = bytes.as_ptr_range();
+    for data in sections {
+        assert!(range.contains(&data.as_ptr()));
+    }
+}
+
+#[test]
+fn a_refused_image_has_no_stream_sections() {
+    for case in image_cases().iter().filter(|case| case.number != 0) {
+        let reading = raw::read(&case.image);
+        let none = raw::StreamSections::default();
+        assert_eq!(raw::whole_sections(reading), none, "{}", case.name);
+        assert_eq!(raw::boot_sections(reading), none, "{}", case.name);
+        assert_eq!(raw::app_sections(reading), none, "{}", case.name);
     }
 }
 
 #[test]
 fn parts_by_name_and_by_index() {
-    let (bytes, _) = stream_case();
+    let bytes = command_line_first();
     let image = eif::read(&bytes).unwrap();
     assert_eq!(
         (image.kernel(), image.command_line()),
@@ -179,8 +246,6 @@ fn parts_by_name_and_by_index() {
     assert_eq!(roll.get(4).map(|(_, data)| data), Some(&b"ff"[..]));
     assert!(roll.get(5).is_none());
     assert_eq!(roll.iter().count(), 5);
-    let whole = eif::stream_to_vec(&bytes, Stream::Whole);
-    assert_eq!(whole.as_deref(), Ok(&b"bbaacceeff"[..]));
 }
 
 #[test]

@@ -42,6 +42,15 @@ fn examples() {
     }
 }
 
+/// Wherever the command line stands.
+#[test]
+fn examples_by_sha384sum() {
+    check_images(
+        "examples.eif",
+        register_cases().into_iter().map(|(image, _)| image),
+    );
+}
+
 #[test]
 fn samples_by_sha384sum() {
     let mut samples = 0;

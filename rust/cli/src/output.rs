@@ -14,12 +14,20 @@ pub const FLAG: &str = "--force";
 
 /// Writes to standard output.
 pub fn print(bytes: &[u8]) -> Result<(), Trouble> {
+    print_parts(&[bytes])
+}
+
+fn print_parts(parts: &[&[u8]]) -> Result<(), Trouble> {
     let mut out = io::stdout().lock();
-    let written = out.write_all(bytes).and_then(|()| out.flush());
+    let written = write_all(&mut out, parts).and_then(|()| out.flush());
     written.map_err(|error| match error.kind() {
         io::ErrorKind::BrokenPipe => Trouble::ClosedPipe,
         _ => Trouble::system(OsStr::new("standard output"), error),
     })
+}
+
+fn write_all(out: &mut impl Write, parts: &[&[u8]]) -> io::Result<()> {
+    parts.iter().try_for_each(|part| out.write_all(part))
 }
 
 /// Where an output goes.
@@ -54,13 +62,13 @@ impl Output {
         }
     }
 
-    /// Writes the output.
-    pub fn write(&self, bytes: &[u8]) -> Result<(), Trouble> {
+    /// Writes the output, its parts one after the other.
+    pub fn write(&self, parts: &[&[u8]]) -> Result<(), Trouble> {
         match self {
-            Output::Standard => print(bytes),
+            Output::Standard => print_parts(parts),
             Output::File { name, force } => {
                 self.check_free()?;
-                write_file(name, bytes, *force).map_err(|error| match error.kind() {
+                write_file(name, parts, *force).map_err(|error| match error.kind() {
                     io::ErrorKind::AlreadyExists => Trouble::Exists(name.clone()),
                     _ => Trouble::system(name, error),
                 })
@@ -74,15 +82,16 @@ fn is_regular(name: &OsStr) -> bool {
     fs::metadata(name).is_ok_and(|found| found.is_file())
 }
 
-fn write_file(name: &OsStr, bytes: &[u8], force: bool) -> io::Result<()> {
+fn write_file(name: &OsStr, parts: &[&[u8]], force: bool) -> io::Result<()> {
     let path = Path::new(name);
     if path.exists() && !is_regular(name) {
-        return OpenOptions::new().write(true).open(path)?.write_all(bytes);
+        let mut device = OpenOptions::new().write(true).open(path)?;
+        return write_all(&mut device, parts);
     }
     // A link to a file stays, and the file that it names is replaced.
     let target = fs::canonicalize(path).unwrap_or_else(|_| path.to_path_buf());
     let (temporary, file) = create_beside(&target)?;
-    let finished = fill(file, bytes).and_then(|()| put_in_place(&temporary, &target, force));
+    let finished = fill(file, parts).and_then(|()| put_in_place(&temporary, &target, force));
     if finished.is_err() {
         let _ = fs::remove_file(&temporary);
     }
@@ -109,8 +118,8 @@ fn create_beside(target: &Path) -> io::Result<(PathBuf, File)> {
     Err(io::ErrorKind::AlreadyExists.into())
 }
 
-fn fill(mut file: File, bytes: &[u8]) -> io::Result<()> {
-    file.write_all(bytes)?;
+fn fill(mut file: File, parts: &[&[u8]]) -> io::Result<()> {
+    write_all(&mut file, parts)?;
     file.sync_all()
 }
 

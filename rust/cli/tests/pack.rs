@@ -3,7 +3,7 @@
 mod common;
 
 use common::{repository, Folder};
-use eif_cases::{stream_case, worked_image, WORKED_ROLL};
+use eif_cases::{stream_cases, worked_image, WORKED_ROLL};
 use std::fs;
 
 #[test]
@@ -204,14 +204,15 @@ fn the_worked_example() {
 #[test]
 fn streams() {
     let folder = Folder::new();
-    let (image, streams) = stream_case();
-    folder.put("image", image);
-    for (name, bytes) in ["whole", "boot", "app"].into_iter().zip(streams) {
-        assert_eq!(folder.eif(&format!("stream image {name}")).out, bytes);
-        folder
-            .eif(&format!("stream image {name} --output {name}"))
-            .says(0, "");
-        assert_eq!(folder.get(name), bytes);
+    for case in stream_cases() {
+        folder.put("image", case.image);
+        for (name, bytes) in ["whole", "boot", "app"].into_iter().zip(case.streams) {
+            assert_eq!(folder.eif(&format!("stream image {name}")).out, bytes);
+            folder
+                .eif(&format!("stream image {name} --output {name} --force"))
+                .says(0, "");
+            assert_eq!(folder.get(name), bytes, "{}", case.name);
+        }
     }
 }
 

@@ -2,7 +2,7 @@
 
 use crate::{
     raw, Architecture, DataLength, FilePosition, Place, Plan, Refusal, Registers, SectionType,
-    MAX_SECTIONS, SECTION_HEADER_LENGTH,
+    SECTION_HEADER_LENGTH,
 };
 
 /// A section of an accepted image.
@@ -29,15 +29,9 @@ impl Section {
 #[derive(Clone, Debug)]
 pub struct Image<'a> {
     bytes: &'a [u8],
-    version: u16,
-    flags: u16,
-    default_mem: u64,
-    default_cpus: u64,
-    ramdisk_mark: u32,
-    ramdisk_count: u32,
-    first_ramdisk: u32,
-    count: usize,
-    sections: [Section; MAX_SECTIONS],
+    reading: raw::Reading,
+    /// Those of the reading that are used.
+    sections: Vec<Section>,
 }
 
 /// Reads an image (FORMAT.md, Reading an image).
@@ -53,18 +47,18 @@ pub struct Image<'a> {
 pub fn read(image: &[u8]) -> Result<Image<'_>, Refusal> {
     let reading = raw::read(image);
     Refusal::check(reading.number, reading.index)?;
+    let used = reading.sections.into_iter();
+    let used = used.take(usize::from(reading.count));
     Ok(Image {
         bytes: image,
-        version: reading.version,
-        flags: reading.flags,
-        default_mem: reading.default_mem,
-        default_cpus: reading.default_cpus,
-        ramdisk_mark: reading.ramdisk_mark,
-        ramdisk_count: reading.ramdisk_count,
-        first_ramdisk: reading.first_ramdisk,
-        count: usize::from(reading.count),
-        sections: reading.sections.map(Section::from),
+        reading,
+        sections: used.map(Section::from).collect(),
     })
+}
+
+/// The data that stand at a position of an accepted image.
+pub(crate) fn data_at(image: &[u8], position: FilePosition, length: DataLength) -> &[u8] {
+    &image[position.0 as usize..][..length.0 as usize]
 }
 
 impl<'a> Image<'a> {
@@ -73,14 +67,19 @@ impl<'a> Image<'a> {
         self.bytes
     }
 
+    /// What reading them answered.
+    pub(crate) fn reading(&self) -> raw::Reading {
+        self.reading
+    }
+
     /// The header's version: 2, 3 or 4.
     pub fn version(&self) -> u16 {
-        self.version
+        self.reading.version
     }
 
     /// The header's flags, carried and not judged.
     pub fn flags(&self) -> u16 {
-        self.flags
+        self.reading.flags
     }
 
     /// The processor that the flags tell.
@@ -90,17 +89,17 @@ impl<'a> Image<'a> {
 
     /// The header's default_mem, carried and not judged.
     pub fn default_mem(&self) -> u64 {
-        self.default_mem
+        self.reading.default_mem
     }
 
     /// The header's default_cpus, carried and not judged.
     pub fn default_cpus(&self) -> u64 {
-        self.default_cpus
+        self.reading.default_cpus
     }
 
     /// The sections in file order, 2 to 32 of them.
     pub fn sections(&self) -> &[Section] {
-        &self.sections[..self.count]
+        &self.sections
     }
 
     /// The data of section `index`.
@@ -150,22 +149,22 @@ impl<'a> Image<'a> {
     }
 
     fn data_of(&self, section: Section) -> &'a [u8] {
-        &self.bytes[section.position.0 as usize..][..section.length.0 as usize]
+        data_at(self.bytes, section.position, section.length)
     }
 
     /// The ramdisk mark: bit i is one exactly when section i is a ramdisk.
     pub fn ramdisk_mark(&self) -> u32 {
-        self.ramdisk_mark
+        self.reading.ramdisk_mark
     }
 
     /// How many sections are ramdisks.
     pub fn ramdisk_count(&self) -> usize {
-        self.ramdisk_count as usize
+        self.reading.ramdisk_count as usize
     }
 
     /// The index of the first ramdisk.
     pub fn first_ramdisk(&self) -> Option<usize> {
-        let first = self.first_ramdisk;
+        let first = self.reading.first_ramdisk;
         (first != raw::NO_RAMDISK).then_some(first as usize)
     }
 

@@ -9,6 +9,7 @@
 //! | [`read`] | accepts or refuses an image and lists its sections |
 //! | [`write()`], [`plan_length`], [`write_to_vec`] | the plain image of a [`Plan`] |
 //! | [`copy_stream`], [`stream_length`], [`stream_to_vec`] | the three measured streams |
+//! | [`Image::stream_sections`], [`Image::stream_reader`], [`Image::copy_stream`] | the same of an image that was read, without reading it again |
 //! | [`registers()`] | registers 0, 1 and 2, as the platform measures the image |
 //! | [`Sha384`] | SHA-384, fed in pieces |
 //! | [`write_roll`], [`roll_length`], [`roll_to_vec`], [`read_roll`] | the boot roll |
@@ -56,12 +57,20 @@
 //! let copied = eif::copy_stream(&bytes, Stream::Whole, StreamPosition(0), &mut measured)?;
 //! assert_eq!(measured[..copied], [0x4b, 0x61]);
 //!
+//! // In pieces, from the image that was read; nothing is read or checked again.
+//! let mut reader = image.stream_reader(Stream::Whole);
+//! let mut piece = [0; 1];
+//! std::io::Read::read_exact(&mut reader, &mut piece)?;
+//! assert_eq!(piece, [0x4b]);
+//! assert_eq!(image.copy_stream(Stream::Whole, StreamPosition(1), &mut piece)?, 1);
+//! assert_eq!(piece, [0x61]);
+//!
 //! // A damaged image is refused.
 //! bytes[560] ^= 1;
 //! let refusal = eif::read(&bytes).unwrap_err();
 //! assert_eq!(refusal.number(), 13);
 //! assert_eq!(refusal.to_string(), "refused 13 at 0: checksum differs");
-//! # Ok::<(), eif::Refusal>(())
+//! # Ok::<(), Box<dyn std::error::Error>>(())
 //! ```
 //!
 //! # The archive
@@ -90,7 +99,7 @@ pub use refusal::{Reason, Refusal};
 pub use registers::{registers, Registers};
 pub use roll::{read_roll, roll_length, roll_to_vec, write_roll, Roll, RollRecord};
 pub use sha384::{Digest, Sha384};
-pub use stream::{copy_stream, stream_length, stream_to_vec, Stream};
+pub use stream::{copy_stream, stream_length, stream_to_vec, Stream, StreamReader, StreamSections};
 
 /// The longest image, in bytes. A buffer of this length takes any image, roll or stream.
 pub const MAX_IMAGE_LENGTH: usize = 16_777_216;

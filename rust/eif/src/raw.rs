@@ -125,6 +125,17 @@ pub struct RollReading {
     pub records: [RollRecord; MAX_SECTIONS],
 }
 
+/// The sections of a stream: what [`whole_sections`], [`boot_sections`] and [`app_sections`] answer and
+/// [`copy_sections`] takes.
+#[repr(C)]
+#[derive(Clone, Copy, Debug, Default, PartialEq, Eq)]
+pub struct StreamSections {
+    /// How many there are. Above 32 it stands for 32.
+    pub count: u64,
+    /// The sections in the stream's order, then zeros.
+    pub sections: [Section; MAX_SECTIONS],
+}
+
 /// A SHA-384 digest in progress. Any value whatever is one; a fresh one is [`sha384_begin`]'s.
 #[repr(C)]
 #[derive(Clone, Copy, Debug, PartialEq, Eq)]
@@ -177,6 +188,8 @@ const _: () = {
     assert!(size_of::<Reading>() == 1 + 1 + 3 * 2 + 3 * 8 + 4 * 4 + MAX_SECTIONS * 24);
     assert!(offset_of!(Reading, sections) == 48);
     assert!(size_of::<RollReading>() == 1 + 7 + 8 + 8 + MAX_SECTIONS * 24);
+    assert!(size_of::<StreamSections>() == 8 + MAX_SECTIONS * 24);
+    assert!(align_of::<StreamSections>() == 8 && offset_of!(StreamSections, sections) == 8);
     assert!(size_of::<Sha384>() == 8 * 8 + 128 + 8);
     assert!(offset_of!(Sha384, block) == 64 && offset_of!(Sha384, total) == 192);
     assert!(size_of::<Sha384Fed>() == 1 + 7 + 8 + size_of::<Sha384>());
@@ -212,7 +225,7 @@ impl From<RollRecord> for crate::RollRecord {
 mod c {
     use super::{
         Answer, Digest, Plan, Reading, RegistersAnswer, RollReading, Sha384, Sha384Fed,
-        StreamPosition,
+        StreamPosition, StreamSections,
     };
 
     extern "C" {
@@ -245,6 +258,17 @@ mod c {
         pub fn eif_copy_app(
             image: *const u8,
             image_length: usize,
+            from: StreamPosition,
+            out: *mut u8,
+            out_length: usize,
+        ) -> Answer;
+        pub fn eif_whole_sections(reading: Reading) -> StreamSections;
+        pub fn eif_boot_sections(reading: Reading) -> StreamSections;
+        pub fn eif_app_sections(reading: Reading) -> StreamSections;
+        pub fn eif_copy_sections(
+            image: *const u8,
+            image_length: usize,
+            list: StreamSections,
             from: StreamPosition,
             out: *mut u8,
             out_length: usize,
@@ -336,6 +360,44 @@ pub fn copy_app(image: &[u8], from: StreamPosition, out: &mut [u8]) -> Answer {
         c::eif_copy_app(
             image.as_ptr(),
             image.len(),
+            from,
+            out.as_mut_ptr(),
+            out.len(),
+        )
+    }
+}
+
+/// `eif_whole_sections`.
+pub fn whole_sections(reading: Reading) -> StreamSections {
+    // SAFETY: there is no pointer.
+    unsafe { c::eif_whole_sections(reading) }
+}
+
+/// `eif_boot_sections`.
+pub fn boot_sections(reading: Reading) -> StreamSections {
+    // SAFETY: there is no pointer.
+    unsafe { c::eif_boot_sections(reading) }
+}
+
+/// `eif_app_sections`.
+pub fn app_sections(reading: Reading) -> StreamSections {
+    // SAFETY: there is no pointer.
+    unsafe { c::eif_app_sections(reading) }
+}
+
+/// `eif_copy_sections`.
+pub fn copy_sections(
+    image: &[u8],
+    list: StreamSections,
+    from: StreamPosition,
+    out: &mut [u8],
+) -> Answer {
+    // SAFETY: as for `write`.
+    unsafe {
+        c::eif_copy_sections(
+            image.as_ptr(),
+            image.len(),
+            list,
             from,
             out.as_mut_ptr(),
             out.len(),
@@ -441,6 +503,9 @@ mod tests {
             for copy in [c::eif_copy_whole, c::eif_copy_boot, c::eif_copy_app] {
                 assert_eq!(copy(null(), 0, start, null_mut(), 0).number, 2);
             }
+            let list = whole_sections(read(&[]));
+            let copied = c::eif_copy_sections(null(), 0, list, start, null_mut(), 0);
+            assert_eq!(copied, Answer::default());
             assert_eq!(c::eif_roll_write(null(), 0, null_mut(), 0).number, 2);
             assert_eq!(c::eif_roll_read(null(), 0), roll_read(&[]));
             assert_eq!(c::eif_registers(null(), 0), registers(&[]));
@@ -459,6 +524,9 @@ mod tests {
             let (start, length) = (image.as_ptr(), image.len());
             let whole = c::eif_copy_whole(start, length, from, null_mut(), 0);
             assert_eq!(whole, Answer::default());
+            let list = whole_sections(read(&image));
+            let copied = c::eif_copy_sections(start, length, list, from, null_mut(), 0);
+            assert_eq!(copied, Answer::default());
             let roll = c::eif_roll_write(start, length, null_mut(), 0);
             assert_eq!(roll.number, 14);
         }
@@ -473,6 +541,10 @@ mod tests {
         let image = &image[..written.length as usize];
         let copy = image.to_vec();
         assert_eq!(bytes_of(&read(image)), bytes_of(&read(&copy)));
+        for sections in [whole_sections, boot_sections, app_sections] {
+            let lists = [image, &copy].map(|image| sections(read(image)));
+            assert_eq!(bytes_of(&lists[0]), bytes_of(&lists[1]));
+        }
         let mut roll = [0; 30];
         assert_eq!(roll_write(image, &mut roll).length, 30);
         let copy = roll.to_vec();
@@ -492,6 +564,10 @@ mod tests {
         for reading in [read(&image), read(&[])] {
             assert_eq!((reading.reserved, reading.reserved_after), (0, 0));
             assert!(reading.sections.iter().all(|s| s.reserved == 0));
+            for sections in [whole_sections, boot_sections, app_sections] {
+                let list = sections(reading).sections;
+                assert!(list.iter().all(|s| s.reserved == 0));
+            }
         }
         let mut roll = [0; 30];
         assert_eq!(roll_write(&image, &mut roll).reserved, [0; 7]);

@@ -33,7 +33,8 @@ impl fmt::Display for Registers {
 /// The registers of `image` (FORMAT.md, Registers): SHA-384 of 48 zero bytes and of the SHA-384 of the
 /// stream.
 ///
-/// Each section is hashed where it lies, and what Whole and Boot begin with is hashed once.
+/// Each section is hashed where it lies, and the sections that Whole and Boot begin with alike are hashed
+/// once.
 ///
 /// ```
 /// // What is no image has no registers.

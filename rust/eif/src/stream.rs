@@ -1,10 +1,14 @@
 //! The three measured streams.
 
-use crate::{raw, DataLength, Refusal, StreamPosition, UnknownName};
-use std::fmt;
+use crate::image::{data_at, read, Image};
+use crate::{raw, DataLength, Refusal, StreamPosition, UnknownName, MAX_SECTIONS};
+use std::io::{self, BufRead, Read};
+use std::iter::{FusedIterator, Take};
 use std::str::FromStr;
+use std::{array, fmt};
 
-/// A measured stream of an image (FORMAT.md, Measured streams).
+/// A measured stream of an image (FORMAT.md, Measured streams): the data of these sections, joined in file
+/// order.
 ///
 /// ```
 /// use eif::Stream;
@@ -14,11 +18,11 @@ use std::str::FromStr;
 /// ```
 #[derive(Clone, Copy, Debug, PartialEq, Eq, Hash)]
 pub enum Stream {
-    /// Kernel, command line, then every ramdisk in file order.
+    /// Kernel, command line and every ramdisk.
     Whole,
-    /// Kernel, command line, and the first ramdisk if there is one.
+    /// Kernel, command line and the first ramdisk if there is one.
     Boot,
-    /// The ramdisks but the first, in file order.
+    /// The ramdisks but the first.
     App,
 }
 
@@ -32,6 +36,15 @@ impl Stream {
             Stream::Whole => "whole",
             Stream::Boot => "boot",
             Stream::App => "app",
+        }
+    }
+
+    /// Its sections, of an image that was read.
+    fn sections_of(self, reading: raw::Reading) -> raw::StreamSections {
+        match self {
+            Stream::Whole => raw::whole_sections(reading),
+            Stream::Boot => raw::boot_sections(reading),
+            Stream::App => raw::app_sections(reading),
         }
     }
 }
@@ -52,6 +65,98 @@ impl FromStr for Stream {
     }
 }
 
+/// Streams of an image that was read. None of these reads the image again.
+impl<'a> Image<'a> {
+    /// The data of a stream's sections in its order, borrowed from the image. Joined they are the stream.
+    pub fn stream_sections(&self, stream: Stream) -> StreamSections<'a> {
+        let list = stream.sections_of(self.reading());
+        StreamSections {
+            image: self.bytes(),
+            sections: list.sections.into_iter().take(list.count as usize),
+        }
+    }
+
+    /// A stream to be read from its start.
+    pub fn stream_reader(&self, stream: Stream) -> StreamReader<'a> {
+        StreamReader {
+            sections: self.stream_sections(stream),
+            rest: &[],
+        }
+    }
+
+    /// Copies a stream, from position `from` on, to the start of `out`, and answers how many bytes were
+    /// copied: as many as both `out` and the rest of the stream have. Later bytes of `out` stay.
+    ///
+    /// # Errors
+    ///
+    /// 19 where `from` is past the stream's end. `out` is then unchanged.
+    pub fn copy_stream(
+        &self,
+        stream: Stream,
+        from: StreamPosition,
+        out: &mut [u8],
+    ) -> Result<usize, Refusal> {
+        let list = stream.sections_of(self.reading());
+        raw::copy_sections(self.bytes(), list, from, out).accepted_part()
+    }
+}
+
+/// The data of a stream's sections, what [`Image::stream_sections`] gives.
+#[derive(Clone, Debug)]
+pub struct StreamSections<'a> {
+    image: &'a [u8],
+    sections: Take<array::IntoIter<raw::Section, MAX_SECTIONS>>,
+}
+
+impl<'a> Iterator for StreamSections<'a> {
+    type Item = &'a [u8];
+
+    fn next(&mut self) -> Option<&'a [u8]> {
+        let section = self.sections.next()?;
+        Some(data_at(self.image, section.position, section.length))
+    }
+
+    fn size_hint(&self) -> (usize, Option<usize>) {
+        self.sections.size_hint()
+    }
+}
+
+impl ExactSizeIterator for StreamSections<'_> {}
+impl FusedIterator for StreamSections<'_> {}
+
+/// A stream that is being read, what [`Image::stream_reader`] gives. Reading it never fails; what
+/// [`fill_buf`](BufRead::fill_buf) gives is borrowed from the image.
+#[derive(Clone, Debug)]
+pub struct StreamReader<'a> {
+    sections: StreamSections<'a>,
+    /// What is left of the section before them.
+    rest: &'a [u8],
+}
+
+impl BufRead for StreamReader<'_> {
+    fn fill_buf(&mut self) -> io::Result<&[u8]> {
+        while self.rest.is_empty() {
+            match self.sections.next() {
+                Some(data) => self.rest = data,
+                None => break,
+            }
+        }
+        Ok(self.rest)
+    }
+
+    fn consume(&mut self, amount: usize) {
+        self.rest = &self.rest[amount..];
+    }
+}
+
+impl Read for StreamReader<'_> {
+    fn read(&mut self, out: &mut [u8]) -> io::Result<usize> {
+        let copied = self.fill_buf()?.read(out)?;
+        self.consume(copied);
+        Ok(copied)
+    }
+}
+
 /// How many bytes a stream of `image` has.
 ///
 /// # Errors
@@ -69,7 +174,8 @@ pub fn stream_length(image: &[u8], stream: Stream) -> Result<DataLength, Refusal
 /// Copies a stream of `image`, from position `from` on, to the start of `out`, and answers how many
 /// bytes were copied: as many as both `out` and the rest of the stream have. Later bytes of `out` stay.
 ///
-/// Each call reads the whole image, so copy with a large buffer rather than often.
+/// Each call reads the whole image, checksum included. To copy in pieces, [`read`] it once and take
+/// [`Image::copy_stream`] or [`Image::stream_reader`].
 ///
 /// # Errors
 ///
@@ -88,14 +194,12 @@ pub fn copy_stream(
     answer.accepted_part()
 }
 
-/// A stream of `image`, whole. The image is read twice.
+/// A stream of `image`, whole. The image is read once.
 ///
 /// # Errors
 ///
 /// The image's own refusal.
 pub fn stream_to_vec(image: &[u8], stream: Stream) -> Result<Vec<u8>, Refusal> {
-    // A stream is a part of its image, so its length fits a usize.
-    let mut bytes = vec![0; stream_length(image, stream)?.0 as usize];
-    copy_stream(image, stream, StreamPosition(0), &mut bytes)?;
-    Ok(bytes)
+    let sections: Vec<&[u8]> = read(image)?.stream_sections(stream).collect();
+    Ok(sections.concat())
 }

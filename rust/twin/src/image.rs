@@ -3,10 +3,10 @@
 use crate::crc32::Crc32;
 use crate::rules::*;
 
-/// A section of an accepted image.
+/// A section, of an accepted image or of any.
 #[derive(Clone, Copy, Debug, PartialEq, Eq)]
 pub struct Section {
-    /// Its type, 1 to 5.
+    /// Its type, 1 to 5 in an accepted image.
     pub kind: u16,
     /// Its flags, not judged.
     pub flags: u16,
@@ -17,8 +17,10 @@ pub struct Section {
 }
 
 impl Section {
+    /// Its data, as far as they lie in the image. In an accepted image all do.
     pub(crate) fn data<'a>(&self, image: &'a [u8]) -> &'a [u8] {
-        &image[self.position..][..self.length]
+        let rest = image.get(self.position..).unwrap_or_default();
+        &rest[..self.length.min(rest.len())]
     }
 }
 
@@ -38,11 +40,6 @@ pub struct Reading {
 }
 
 impl Reading {
-    /// The sections of one type, in file order.
-    pub(crate) fn of(&self, kind: u16) -> impl Iterator<Item = &Section> {
-        self.sections.iter().filter(move |s| s.kind == kind)
-    }
-
     /// Bit i is one exactly when section i is a ramdisk.
     pub fn ramdisk_mark(&self) -> u32 {
         let ramdisks = self.sections.iter().map(|s| u32::from(s.kind == RAMDISK));
@@ -51,7 +48,7 @@ impl Reading {
 
     /// How many sections are ramdisks.
     pub fn ramdisk_count(&self) -> usize {
-        self.of(RAMDISK).count()
+        self.sections.iter().filter(|s| s.kind == RAMDISK).count()
     }
 
     /// The index of the first ramdisk.

@@ -29,4 +29,4 @@ pub use registers::registers;
 pub use roll::{read_roll, roll_length, write_roll, Record};
 pub use rules::Refusal;
 pub use sha384::Sha384;
-pub use stream::{copy_stream, stream_length, Stream};
+pub use stream::{copy_sections, copy_stream, stream_length, stream_sections, Stream};

@@ -3,7 +3,7 @@
 use crate::image::read;
 use crate::rules::Refusal;
 use crate::sha384::Sha384;
-use crate::stream::{parts, Stream};
+use crate::stream::{stream_sections, Stream};
 
 /// Registers 0, 1 and 2 of `image`, from its streams Whole, Boot and App: SHA-384 of 48 zero bytes and
 /// the SHA-384 of the stream.
@@ -15,8 +15,8 @@ pub fn registers(image: &[u8]) -> Result<[[u8; 48]; 3], Refusal> {
         .zip([Stream::Whole, Stream::Boot, Stream::App])
     {
         let mut measured = Sha384::new();
-        for part in parts(&reading, stream) {
-            measured.update(part.data(image))?;
+        for section in stream_sections(&reading.sections, stream) {
+            measured.update(section.data(image))?;
         }
         let mut extended = Sha384::new();
         extended.update(&[0; 48])?;

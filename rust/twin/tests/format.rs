@@ -1,7 +1,7 @@
 //! The examples of docs/FORMAT.md through the twin.
 
 use eif_cases::{
-    image_cases, image_of_length, roll_cases, stream_case, two_sections, worked_image, MAX_IMAGE,
+    image_cases, image_of_length, roll_cases, stream_cases, two_sections, worked_image, MAX_IMAGE,
     WORKED_ROLL,
 };
 use eif_twin::*;
@@ -144,20 +144,66 @@ fn stream_positions() {
     }
 }
 
-#[test]
-fn streams_hold_the_kernel_first() {
-    let (image, streams) = stream_case();
-    for (stream, bytes) in [Stream::Whole, Stream::Boot, Stream::App]
-        .into_iter()
-        .zip(streams)
-    {
-        let mut out = [0; 16];
-        assert_eq!(
-            copy_stream(&image, stream, 1, &mut out),
-            Ok(bytes.len() - 1)
-        );
-        assert_eq!(out[..bytes.len() - 1], bytes[1..]);
-        assert_eq!(copy_stream(&image, stream, 1, &mut out[..2]), Ok(2));
-        assert_eq!(out[..2], bytes[1..3]);
+/// Tries a copier of `bytes` from every position into buffers of several lengths.
+fn check_copies(bytes: &[u8], copy: impl Fn(u64, &mut [u8]) -> Result<usize, Refusal>) {
+    for from in 0..=bytes.len() {
+        for room in 0..16 {
+            let copied = room.min(bytes.len() - from);
+            let mut expected = [0xaa; 16];
+            expected[..copied].copy_from_slice(&bytes[from..from + copied]);
+            let mut out = [0xaa; 16];
+            assert_eq!(copy(from as u64, &mut out[..room]), Ok(copied));
+            assert_eq!(out, expected);
+        }
     }
+    let past = bytes.len() as u64 + 1;
+    assert_eq!(copy(past, &mut [0; 16]), Err(refused(19, 0)));
+}
+
+#[test]
+fn streams_are_in_file_order() {
+    for case in stream_cases() {
+        let image = &case.image;
+        let all = read(image).unwrap().sections;
+        for (stream, bytes) in [Stream::Whole, Stream::Boot, Stream::App]
+            .into_iter()
+            .zip(case.streams)
+        {
+            let sections = stream_sections(&all, stream);
+            check_copies(bytes, |from, out| copy_stream(image, stream, from, out));
+            check_copies(bytes, |from, out| {
+                copy_sections(image, &sections, from, out)
+            });
+        }
+    }
+}
+
+#[test]
+fn sections_are_taken_as_far_as_they_lie_in_the_image() {
+    let section = |kind, position, length| Section {
+        kind,
+        flags: 0,
+        position,
+        length,
+    };
+    let sections = [
+        section(3, 1, 2),
+        section(0, 3, 1),
+        section(9, 4, usize::MAX),
+        section(1, 5, 1),
+        section(3, usize::MAX, usize::MAX),
+        section(3, 0, 1),
+    ];
+    let mut out = [0xaa; 8];
+    assert_eq!(copy_sections(b"abcde", &sections, 1, &mut out), Ok(4));
+    assert_eq!(out, *b"cdea\xaa\xaa\xaa\xaa");
+    assert_eq!(copy_sections(b"abcde", &sections, 5, &mut out), Ok(0));
+    assert_eq!(
+        copy_sections(b"abcde", &sections, 6, &mut out),
+        Err(refused(19, 0))
+    );
+    let kept = |stream| stream_sections(&sections, stream);
+    assert_eq!(kept(Stream::Whole), [0, 3, 4, 5].map(|i| sections[i]));
+    assert_eq!(kept(Stream::Boot), [0, 3].map(|i| sections[i]));
+    assert_eq!(kept(Stream::App), [4, 5].map(|i| sections[i]));
 }

@@ -47,7 +47,7 @@ fn run(args: Args) -> Result<Status, Trouble> {
             words::shown_text(&input.name)
         )));
     };
-    output.write(data).map(|()| Status::Fine)
+    output.write(&[data]).map(|()| Status::Fine)
 }
 
 fn number(word: &OsStr) -> Result<usize, Trouble> {

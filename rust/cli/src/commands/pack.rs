@@ -66,7 +66,7 @@ fn run(args: Args) -> Result<Status, Trouble> {
     let plan = plan(&parts, &sections);
     let data: Vec<&[u8]> = sections.iter().map(|(_, data)| &data[..]).collect();
     match eif::write_to_vec(&plan, &data.concat()) {
-        Ok(image) => output.write(&image).map(|()| Status::Fine),
+        Ok(image) => output.write(&[&image]).map(|()| Status::Fine),
         Err(refusal) => {
             complain(&words::about(&output_name, &format!("{refusal}\n")));
             Ok(Status::Refused)

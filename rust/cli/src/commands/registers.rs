@@ -17,8 +17,9 @@ Computes the registers of each image, as the platform measures it: three lines
     PCR0 HEX   of the stream whole: kernel, command line, every ramdisk
     PCR1 HEX   of the stream boot: kernel, command line, first ramdisk
     PCR2 HEX   of the stream app: the other ramdisks
-Where several files are named, FILE and a colon stand before each line. Of a file
-that is refused: the answer number, where, what it means and what to do.
+each in the order in which they stand in the file. Where several files are named,
+FILE and a colon stand before each line. Of a file that is refused: the answer
+number, where, what it means and what to do.
 
   --json    one object for each file, one a line, with the keys that nitro-cli
             describe-eif prints; the manual lists them

@@ -32,7 +32,7 @@ fn run(args: Args) -> Result<Status, Trouble> {
     let output = Output::of(&args)?;
     let image = input::read(image)?;
     match eif::roll_to_vec(&image.bytes) {
-        Ok(roll) => output.write(&roll).map(|()| Status::Fine),
+        Ok(roll) => output.write(&[&roll]).map(|()| Status::Fine),
         Err(refusal) => {
             complain(&words::refusal(&image.name, &refusal));
             Ok(Status::Refused)

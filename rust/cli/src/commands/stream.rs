@@ -14,10 +14,10 @@ pub const COMMAND: Command = Command {
     help: "\
 usage: eif stream IMAGE whole|boot|app [--output FILE] [--force]
 
-Writes the bytes of a measured stream of an image:
-    whole   kernel, command line, then every ramdisk in file order
-    boot    kernel, command line, and the first ramdisk if there is one
-    app     the ramdisks but the first, in file order
+Writes the bytes of a measured stream of an image, its sections in file order:
+    whole   kernel, command line and every ramdisk
+    boot    kernel, command line and the first ramdisk if there is one
+    app     the ramdisks but the first
 
   --output FILE   write to FILE, whole or not at all; otherwise to standard output
   --force         replace FILE if it exists
@@ -37,8 +37,11 @@ fn run(args: Args) -> Result<Status, Trouble> {
     let stream = named(stream)?;
     let output = Output::of(&args)?;
     let image = input::read(image)?;
-    match eif::stream_to_vec(&image.bytes, stream) {
-        Ok(bytes) => output.write(&bytes).map(|()| Status::Fine),
+    match eif::read(&image.bytes) {
+        Ok(read) => {
+            let sections: Vec<&[u8]> = read.stream_sections(stream).collect();
+            output.write(&sections).map(|()| Status::Fine)
+        }
         Err(refusal) => {
             complain(&words::refusal(&image.name, &refusal));
             Ok(Status::Refused)
