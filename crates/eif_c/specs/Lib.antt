@@ -1,3 +1,4 @@
 pub mod Flat
 pub mod Measure
 pub mod Listed
+pub mod Arrival

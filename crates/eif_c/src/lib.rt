@@ -1,7 +1,8 @@
 // The library's calls for programs in C and Rust: answers are flat structs with the answer number (0: accepted) and its index
 // instead of a verdict. A slice is a pointer and a length. include/eif.h declares these functions to C.
 //
-// The digest and the registers stand in measure.rt.
+// The digest and the registers stand in measure.rt, the reader of an image that arrives in pieces in arrival.rt.
+mod arrival;
 mod measure;
 mod sections;
 
@@ -19,6 +20,7 @@ use eif::DataLength;
 use eif::FilePosition;
 use eif::PLACES;
 use eif::Plan;
+use eif::Reading;
 use eif::RollPosition;
 use eif::RollRecord;
 use eif::Section;
@@ -182,13 +184,9 @@ fn flat_records(records: [RollRecord; PLACES]) -> [EifRollRecord; PLACES]
     flat
 }
 
-// ---- reading and writing an image
-
-#[no_mangle]
-pub extern "C" fn eif_read(image: &[u8]) -> EifReading
-    ensures { λ r. ⌜ r ≡ flatReading (readImage (now (image .entry))) ⌝ }
+fn flat_reading(reading: Reading) -> EifReading
+    ensures { λ r. ⌜ r ≡ flatReading reading ⌝ }
 {
-    let reading = eif_reader::read(image);
     let verdict = reading.verdict;
     let sections = reading.sections;
     EifReading {
@@ -206,6 +204,15 @@ pub extern "C" fn eif_read(image: &[u8]) -> EifReading
         reserved_after: 0,
         sections: flat_sections(sections),
     }
+}
+
+// ---- reading and writing an image
+
+#[no_mangle]
+pub extern "C" fn eif_read(image: &[u8]) -> EifReading
+    ensures { λ r. ⌜ r ≡ flatReading (readImage (now (image .entry))) ⌝ }
+{
+    flat_reading(eif_reader::read(image))
 }
 
 #[no_mangle]

@@ -1,12 +1,12 @@
 -- The steps of reading: the rules 1 to 12 from what each step before answered, then 13; and what a reading's verdict is.
 -- Assumes nothing.
-use Prim.Native.Nat.{ℕ}
+use Prim.Native.Nat.{ℕ, _<_}
 use mathlib.Core.Path.{_≡_, refl, sym, ap, _∙_}
 use mathlib.Core.Bool.{Bool, true, false, not}
 use mathlib.Core.List.{List}
-use borrow.Author.Tests.{eq-eqb, ne-eqb}
+use borrow.Author.Tests.{lt-ltb, eq-eqb, ne-eqb}
 use lib.Dec.{eqb}
-use Rattle.eif.specs.Numbers.{checksumDiffers}
+use Rattle.eif.specs.Numbers.{sizeLimit, imageTooLong, checksumDiffers}
 use Rattle.eif.specs.Logic.{choose}
 use Rattle.eif.specs.Answers.{refuse, andThen, wholeVerdict}
 use Rattle.eif.specs.Rules.{firstFault}
@@ -78,6 +78,11 @@ module _ (reading : Reading) (stored computed : ℕ) where
 pub reading-verdict : (s : List ℕ) → readImage s .verdict ≡ verdictOf s
 unfolding readView
 reading-verdict s = verdict-kept (viewOf s) (verdictOf s)
+
+-- longer than an image may be: refused for that, whatever the checksum
+pub read-too-long : (v : View) (computed : ℕ) → sizeLimit < v .size → readView v computed ≡ blankReading (refuse imageTooLong 0)
+unfolding readView verdictIn judged headerRule
+read-too-long v computed h = simp (lt-ltb sizeLimit (v .size) h)
 
 pub reading-accepted : (s : List ℕ) → verdictOf s ≡ Accepted → readImage s ≡ readingOf (viewOf s) Accepted
 unfolding readView

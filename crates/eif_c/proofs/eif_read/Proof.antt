@@ -1,6 +1,8 @@
--- `eif_read` meets its contract: what it calls ensures the answer, made flat.
+-- `eif_read` meets its contract: the reader's answer, made flat.
 -- Assumes nothing.
+use mathlib.Core.Path.{ap, _∙_}
 use borrow.Author.Needs.{needs}
+use Rattle.eif_c.specs.Flat.{flatReading}
 use Rattle.eif_c.proofs.eif_read.Statement.{statement}
 use Rattle.eif_c.proofs.eif_read.Tie as tie
 
@@ -10,8 +12,4 @@ eif-read-spec =
     (tie.spec
     (λ c κs. search needs)
     (λ c κs. search needs)
-    (λ c κs. search needs)
-    (λ c κs. search needs)
-    (λ c κs. search needs)
-    (λ c κs. search needs)
-    (λ c. cc))
+    (λ c. c .flat-reading .ensures ∙ ap flatReading (c .before .read .ensures)))

@@ -1,0 +1,16 @@
+-- `arriving::begin` meets its contract: of no bytes nothing is kept, which is zero everywhere, and the remainder is the one to start from.
+-- Assumes nothing.
+use mathlib.Core.Path.{refl}
+use Rattle.octets.specs.Bytes.{beValue, field}
+use Rattle.crc32.specs.Crc.{crcFrom}
+use Rattle.eif.specs.Plan.{joinFrom}
+use Rattle.arriving.specs.State.{padded, keptFrom, headsOf, keptOf, stateOf}
+use Rattle.arriving.proofs.begin.Statement.{statement}
+use Rattle.arriving.proofs.begin.Tie as tie
+
+returns : tie.Need-returns
+unfolding stateOf keptOf padded headsOf crcFrom joinFrom keptFrom field beValue
+returns c = refl
+
+pub begin-spec : {M : Type 1} → statement M
+begin-spec = tie.close (tie.spec returns)

@@ -1,0 +1,207 @@
+// The reader of an image that arrives in pieces (FORMAT.md, Check while it arrives).
+//
+// A state goes in by value and comes back: `begin`, then `feed` for each piece, then `finish` when the file has ended. It keeps what
+// the rules look at and no more, and answers only at the end, by the whole reader's own rules. Every public function is total: each
+// contract holds for any state, and the laws of a state begun fresh are in arriving_laws.
+ghost use mathlib.Core.Path.{_≡_};
+ghost use mathlib.Core.List.{[]};
+ghost use Prim.Native.Nat.{_+_, _-_, _*_, _<_, _≤_, min};
+ghost use lib.ListN.{length};
+ghost use Rattle.crc32.specs.Crc.{crcFrom};
+ghost use Rattle.eif.specs.Numbers.{placeCount};
+ghost use Rattle.eif.specs.Layout.{sectionHeaderSize};
+ghost use Rattle.arriving.specs.State.{countLimit, keptFrom, checkedAfter, stateOf};
+ghost use Rattle.arriving.specs.Calls.{keptOver, headsOver, grown, fed, finished};
+use eif::Header;
+use eif::Reading;
+use eif::SectionHeader;
+
+// Twelve bytes for each place of the section table.
+pub const HEADS: usize = SectionHeader::SIZE * eif::PLACES;
+
+// The largest count of bytes; the counter stops there.
+pub const COUNT_LIMIT: u64 = 0xFFFFFFFFFFFFFFFF;
+
+// What is kept of the bytes so far: how many were taken; the file's header and the sections' own headers one after the other, zero
+// where they have not come; the checksum's remainder; and whether the end was told (0: no). In this order C leaves no room between
+// the fields.
+#[repr(C)]
+pub struct Arriving {
+    pub taken: u64,
+    pub header: [u8; Header::SIZE],
+    pub heads: [u8; HEADS],
+    pub checksum: u32,
+    pub ended: u64,
+}
+
+// What a piece is answered with: the state after it, and how many of its bytes were taken.
+#[repr(C)]
+pub struct Fed {
+    pub state: Arriving,
+    pub count: u64,
+}
+
+// What telling the end is answered with: the state after it, and the reading of the bytes taken.
+pub struct Finished {
+    pub state: Arriving,
+    pub reading: Reading,
+}
+
+// ---- numbers
+
+fn lesser(a: u64, b: u64) -> u64
+    ensures { λ r. ⌜ r ≡ min a b ⌝ }
+{
+    if a < b { a } else { b }
+}
+
+// How far a position lies past another; 0 where it does not.
+fn past(position: u64, other: u64) -> u64
+    ensures { λ r. ⌜ r ≡ position - other ⌝ }
+{
+    if position < other {
+        return 0;
+    }
+    position - other
+}
+
+// ---- the sections' own headers
+
+// Where the own header of a section is kept from.
+fn kept_from(header: &[u8], i: usize) -> u64
+    requires { ⌜ i < placeCount ⌝ }
+    ensures { λ r. ⌜ r ≡ keptFrom (now (header .entry)) i ⌝ }
+{
+    let offset = octets::be64(header, Header::OFFSETS_AT + 8 * i);
+    if offset < Header::SIZE as u64 {
+        return Header::SIZE as u64;
+    }
+    offset
+}
+
+// The bytes of one of them that a piece has, which comes after `taken` bytes: `held` came before, and `skip` of the piece lie before it.
+fn keep_head(heads: &mut [u8], at: usize, from: u64, taken: u64, piece: &[u8])
+    requires { ⌜ at + sectionHeaderSize ≤ length (now heads) ⌝ }
+    ensures { λ _. ⌜ now (heads .exit) ≡ keptOver (now (heads .entry)) at from taken (now (piece .entry)) ⌝ }
+{
+    let held = past(taken, from);
+    let skip = past(from, taken);
+    let size = SectionHeader::SIZE as u64;
+    let len = piece.len() as u64;
+    if size <= held {
+        return;
+    }
+    if len <= skip {
+        return;
+    }
+    let start = skip as usize;
+    let end = start + lesser(size - held, len - skip) as usize;
+    octets::copy(heads, at + held as usize, &piece[start..end]);
+}
+
+fn keep_heads(heads: &mut [u8], header: &[u8], taken: u64, piece: &[u8])
+    requires { ⌜ length (now heads) ≡ sectionHeaderSize * placeCount ⌝ }
+    ensures { λ _. ⌜ now (heads .exit) ≡ headsOver (now (header .entry)) taken (now (piece .entry)) placeCount 0 (now (heads .entry)) ⌝ }
+{
+    let mut i: usize = 0;
+    while i < eif::PLACES {
+        keep_head(
+            heads,
+            SectionHeader::SIZE * i,
+            kept_from(header, i),
+            taken,
+            piece,
+        );
+        i += 1;
+    }
+}
+
+// ---- the checksum
+
+// The remainder after a piece that comes after `taken` bytes: the checksum's own bytes are left out.
+fn remainder(checksum: u32, taken: u64, piece: &[u8]) -> u32
+    ensures { λ r. ⌜ r ≡ crcFrom checksum (checkedAfter taken (now (piece .entry))) ⌝ }
+{
+    if Header::SIZE as u64 <= taken {
+        return crc32::update(checksum, piece);
+    }
+    let len = piece.len() as u64;
+    let end = lesser(past(Header::CHECKSUM_AT as u64, taken), len) as usize;
+    let start = lesser(past(Header::SIZE as u64, taken), len) as usize;
+    let before = crc32::update(checksum, &piece[..end]);
+    crc32::update(before, &piece[start..])
+}
+
+// ---- the three calls
+
+// The state before the first byte.
+pub fn begin() -> Arriving
+    ensures { λ r. ⌜ r ≡ stateOf [] ⌝ }
+{
+    Arriving {
+        taken: 0,
+        header: [0u8; Header::SIZE],
+        heads: [0u8; HEADS],
+        checksum: crc32::START,
+        ended: 0,
+    }
+}
+
+// The state after bytes for which the counter has room.
+fn grow(state: Arriving, piece: &[u8]) -> Arriving
+    requires { ⌜ state .taken + length (now piece) ≤ countLimit ⌝ }
+    ensures { λ r. ⌜ r ≡ grown state (now (piece .entry)) ⌝ }
+{
+    let taken = state.taken;
+    let mut header = state.header;
+    octets::copy(&mut header, taken as usize, piece);
+    let mut heads = state.heads;
+    keep_heads(&mut heads, &header, taken, piece);
+    Arriving {
+        taken: taken + piece.len() as u64,
+        header,
+        heads,
+        checksum: remainder(state.checksum, taken, piece),
+        ended: state.ended,
+    }
+}
+
+// A piece, of which at most `allowance` bytes are taken, and none once the end was told.
+pub fn feed(state: Arriving, piece: &[u8], allowance: u64) -> Fed
+    ensures { λ r. ⌜ r ≡ fed state (now (piece .entry)) allowance ⌝ }
+{
+    if state.ended != 0 {
+        return Fed { state, count: 0 };
+    }
+    let count = lesser(allowance, piece.len() as u64);
+    let room = COUNT_LIMIT - state.taken;
+    let kept = lesser(room, count) as usize;
+    let after = grow(state, &piece[..kept]);
+    Fed {
+        state: after,
+        count,
+    }
+}
+
+// The file has ended. Nothing is answered before: a longer file is refused for its length, and one that ends too soon for that,
+// whatever the bytes that came.
+pub fn finish(state: Arriving) -> Finished
+    ensures { λ r. ⌜ r ≡ finished state ⌝ }
+{
+    let header = state.header;
+    let heads = state.heads;
+    let early = eif_judge::judge(&header, &heads, state.taken);
+    let stored = octets::be32(&header, Header::CHECKSUM_AT);
+    let reading = eif_judge::seal(early, stored, crc32::finish(state.checksum));
+    let told = Arriving {
+        taken: state.taken,
+        header,
+        heads,
+        checksum: state.checksum,
+        ended: 1,
+    };
+    Finished {
+        state: told,
+        reading,
+    }
+}

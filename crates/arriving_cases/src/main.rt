@@ -1,0 +1,252 @@
+// Runs cases of reading an image that arrives in pieces, one line each: how it was handed over, how many bytes were taken, and the answer.
+use arriving::Arriving;
+use eif::Reading;
+use eif::Refusal;
+use eif::SectionType;
+use eif::Verdict;
+
+// The length of the worked example.
+const LENGTH: usize = 586;
+
+// More than any piece here has.
+const ALL: u64 = 1000;
+
+// The worked example: version 2, kernel 4b, command line 61, an empty ramdisk; sections at 548, 561 and 574.
+fn worked(image: &mut [u8]) {
+    case_images::put_header(image, 2, 0, 3);
+    case_images::put_section(image, 0, 548, SectionType::KERNEL, 0, b"K");
+    case_images::put_section(image, 1, 561, SectionType::COMMAND_LINE, 0, b"a");
+    case_images::put_section(image, 2, 574, SectionType::RAMDISK, 0, b"");
+    case_images::seal(image);
+}
+
+// ---- answers
+
+fn text(bytes: &[u8]) {
+    io::write_all(libc::STDOUT_FILENO, bytes);
+}
+
+fn number(n: u64) {
+    io::print_decimal(libc::STDOUT_FILENO, n);
+}
+
+fn labelled(what: &[u8], n: u64) {
+    text(what);
+    number(n);
+}
+
+fn refusal(r: Refusal) {
+    labelled(b": refused ", r.number as u64);
+    labelled(b" at ", r.index);
+}
+
+fn accepted(reading: Reading) {
+    labelled(b": accepted, version ", reading.version as u64);
+    labelled(b", sections ", reading.count as u64);
+    labelled(b", ramdisk mark ", reading.ramdisks as u64);
+}
+
+fn answer(reading: Reading) {
+    let verdict = reading.verdict;
+    match verdict {
+        Verdict::Accepted => accepted(reading),
+        Verdict::Refused(r) => refusal(r),
+    }
+}
+
+// The end is told; the state after it.
+fn ends(state: Arriving) -> Arriving {
+    let done = arriving::finish(state);
+    let reading = done.reading;
+    let after = done.state;
+    labelled(b": taken ", after.taken);
+    answer(reading);
+    text(b"\n");
+    after
+}
+
+// ---- pieces
+
+// The bytes from a position on, at most so many.
+fn part(image: &[u8], at: usize, size: usize) -> &[u8] {
+    if image.len() <= at {
+        return &image[..0];
+    }
+    if image.len() - at <= size {
+        return &image[at..];
+    }
+    &image[at..at + size]
+}
+
+fn fed(state: Arriving, piece: &[u8], allowance: u64) -> Arriving {
+    let answer = arriving::feed(state, piece, allowance);
+    let after = answer.state;
+    after
+}
+
+// A call whose count is shown.
+fn counted(state: Arriving, piece: &[u8], allowance: u64) -> Arriving {
+    let answer = arriving::feed(state, piece, allowance);
+    let after = answer.state;
+    labelled(b", count ", answer.count);
+    after
+}
+
+// All of an image in pieces of a size, each with an allowance, up to a call that takes nothing; what a call does not take is handed over again.
+// Each call before takes a byte, so that as many as the image has bytes are enough.
+fn whole(image: &[u8], size: usize, allowance: u64) -> Arriving {
+    let mut state = arriving::begin();
+    let mut calls: usize = 0;
+    while calls < image.len() {
+        let answer = arriving::feed(state, part(image, state.taken as usize, size), allowance);
+        let next = answer.state;
+        state = next;
+        if answer.count == 0 {
+            return state;
+        }
+        calls += 1;
+    }
+    state
+}
+
+// ---- cases
+
+const PLACES: [usize; 8] = [0, 1, 2, 11, 12, 547, 548, 549];
+
+// In two pieces.
+fn cut(image: &[u8], at: usize) {
+    labelled(b"cut at ", at as u64);
+    let first = fed(arriving::begin(), part(image, 0, at), ALL);
+    ends(fed(first, part(image, at, LENGTH), ALL));
+}
+
+// Of the image only so many bytes.
+fn short(image: &[u8], size: usize) {
+    labelled(b"ends after ", size as u64);
+    ends(fed(arriving::begin(), part(image, 0, size), ALL));
+}
+
+fn of_size(image: &[u8], size: usize) {
+    labelled(b"pieces of ", size as u64);
+    ends(whole(image, size, ALL));
+}
+
+fn of_allowance(image: &[u8], allowance: u64) {
+    labelled(b"all that is left with allowance ", allowance);
+    ends(whole(image, LENGTH, allowance));
+}
+
+fn at_place(image: &[u8], place: usize) {
+    cut(image, place);
+    short(image, place);
+    of_size(image, place);
+    of_allowance(image, place as u64);
+}
+
+fn at_each_place(image: &[u8]) {
+    let places = PLACES;
+    let mut i: usize = 0;
+    while i < 8 {
+        at_place(image, places[i]);
+        i += 1;
+    }
+}
+
+// Empty pieces before, between and after, and a call that may take nothing.
+fn nothing_taken(image: &[u8]) {
+    text(b"empty pieces");
+    let before = counted(arriving::begin(), part(image, 0, 0), ALL);
+    let half = counted(before, part(image, 0, 300), ALL);
+    let between = counted(half, part(image, 300, 0), ALL);
+    let rest = counted(between, part(image, 300, LENGTH), ALL);
+    ends(counted(rest, part(image, LENGTH, 0), ALL));
+}
+
+fn nothing_allowed(image: &[u8]) {
+    text(b"allowance 0, 5 and 1000");
+    let none = counted(arriving::begin(), image, 0);
+    let five = counted(none, image, 5);
+    ends(counted(five, part(image, 5, LENGTH), ALL));
+}
+
+// The end is told three times, with a piece after the first, which is not taken.
+fn after_the_end(image: &[u8]) {
+    text(b"a whole image");
+    let told = ends(fed(arriving::begin(), image, ALL));
+    text(b"a piece after the end");
+    let again = ends(counted(told, image, ALL));
+    text(b"the end once more");
+    ends(again);
+}
+
+// The end told of no bytes: the image that comes then is not read.
+fn told_first(image: &[u8]) {
+    text(b"the end first");
+    let told = ends(arriving::begin());
+    text(b"and an image after it");
+    ends(counted(told, image, ALL));
+}
+
+// ---- damage: two bytes at a position
+
+struct Damage {
+    at: usize,
+    value: u16,
+}
+
+// Magic, version, number of sections; section 1 too early, too long, of another size than its own header says; of section 2 a type that is not
+// allowed and one that was there; a ramdisk first; no command line; another checksum.
+const DAMAGES: [Damage; 11] = [
+    Damage { at: 0, value: 0 },
+    Damage { at: 4, value: 5 },
+    Damage { at: 26, value: 1 },
+    Damage { at: 42, value: 560 },
+    Damage {
+        at: 298,
+        value: 60000,
+    },
+    Damage { at: 571, value: 2 },
+    Damage { at: 574, value: 9 },
+    Damage { at: 574, value: 1 },
+    Damage { at: 548, value: 3 },
+    Damage { at: 561, value: 3 },
+    Damage { at: 544, value: 0 },
+];
+
+fn damaged(image: &[u8], damage: Damage, size: usize) {
+    let mut other = [0u8; LENGTH];
+    octets::copy(&mut other, 0, part(image, 0, size));
+    octets::put_be16(&mut other, damage.at, damage.value);
+    labelled(b"damaged at ", damage.at as u64);
+    let left = part(&other, 0, size);
+    ends(whole(left, 11, ALL));
+}
+
+fn each_damage(image: &[u8]) {
+    let damages = DAMAGES;
+    let mut i: usize = 0;
+    while i < 11 {
+        damaged(image, damages[i], LENGTH);
+        i += 1;
+    }
+}
+
+// A wrong magic number is no answer before the end: the file may end too soon.
+fn wrong_magic(image: &[u8]) {
+    let damages = DAMAGES;
+    damaged(image, damages[0], 4);
+    damaged(image, damages[0], 547);
+    damaged(image, damages[0], 548);
+}
+
+fn main() {
+    let mut image = [0u8; LENGTH];
+    worked(&mut image);
+    at_each_place(&image);
+    nothing_taken(&image);
+    nothing_allowed(&image);
+    after_the_end(&image);
+    told_first(&image);
+    each_damage(&image);
+    wrong_magic(&image);
+}

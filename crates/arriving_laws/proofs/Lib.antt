@@ -1,0 +1,4 @@
+pub mod Padded
+pub mod Growth
+pub mod Answer
+pub mod Runs
