@@ -6,7 +6,7 @@ use Prim.Native.Nat.{ℕ}
 
 -- the longest image, in bytes
 abbrev pub sizeLimit : ℕ
-sizeLimit = 16777216
+sizeLimit = 1073741824
 
 -- the places of the section table, and with them the most sections
 abbrev pub placeCount : ℕ

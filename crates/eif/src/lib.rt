@@ -7,7 +7,7 @@ ghost use Rattle.eif.specs.Rules.{allowedIn};
 // ---- limits
 
 // The longest image, in bytes.
-pub const SIZE_LIMIT: usize = 16777216;
+pub const SIZE_LIMIT: usize = 1073741824;
 
 // The places of the section table, and with them the most sections; and the fewest sections.
 pub const PLACES: usize = 32;

@@ -7,6 +7,11 @@ use eif::Refusal;
 use eif::SectionType;
 use eif::Verdict;
 
+const LIMIT: u64 = eif::SIZE_LIMIT as u64;
+
+// The data that an image of three sections has where it is as long as the limit.
+const LONGEST: u64 = LIMIT - 548 - 3 * 12;
+
 fn text(bytes: &[u8]) {
     io::write_all(libc::STDOUT_FILENO, bytes);
 }
@@ -202,7 +207,8 @@ fn one_at_a_time() {
     );
     refused(b"no command line", types(2, 1, 3, 3));
     refused(b"version 4 without metadata", types(4, 1, 2, 3));
-    refused(b"one byte over the limit", lengths(3, 16776632, 1, 0));
+    refused(b"as long as the limit, no data", lengths(3, LONGEST, 0, 0));
+    refused(b"one byte over the limit", lengths(3, LONGEST, 1, 0));
     refused(
         b"lengths that pass 2 to the 64",
         lengths(3, 0x8000000000000000, 0x8000000000000000, 2),
@@ -227,9 +233,9 @@ fn two_at_once() {
     refused(b"11 at 2 and 12", types(2, 1, 3, 1));
     refused(
         b"12 and 1",
-        plan(2, 3, place(1, 16777216), place(3, 0), place(3, 0)),
+        plan(2, 3, place(1, LIMIT), place(3, 0), place(3, 0)),
     );
-    refused(b"1 and 15", lengths(3, 16777216, 0, 0));
+    refused(b"1 and 15", lengths(3, LIMIT, 0, 0));
     refused_data(b"15, with room for more", lengths(3, 3, 0, 0), b"Ka");
 }
 
