@@ -79,8 +79,10 @@ c-test: $(archive)
 	    $(CXX) -std=c++11 $(C_WARNINGS) -Iinclude -x c++ tests/c/$$name.c -x none $(EIF_LIB_DIR)/libeif_c.a -o target/c-test/$$name-cpp && \
 	    target/c-test/$$name-cpp || exit 1; \
 	done
-	$(CC) -std=c99 $(C_WARNINGS) -Iinclude tests/c/stack.c $(EIF_LIB_DIR)/libeif_c.a -o target/c-test/stack
-	target/c-test/stack
+	for name in stack station; do \
+	    $(CC) -std=c99 $(C_WARNINGS) -Iinclude tests/c/$$name.c $(EIF_LIB_DIR)/libeif_c.a -o target/c-test/$$name && \
+	    target/c-test/$$name || exit 1; \
+	done
 
 rust-test: $(archive)
 	@tests/cargo.sh $(CARGO)

@@ -15,13 +15,13 @@
  *     that the call itself writes. Where the length is 0, any pointer will do, null too;
  *   - the output buffer overlaps no input.
  *
- * The answer of a call that can refuse begins with a number: 0 where the call is accepted, and
- * otherwise the first of the numbers below that applies, in the order that FORMAT.md gives for the
- * call. Beside a refusal
+ * The answer of a call that can refuse begins with a number (eif_arriving_finish's has it in its
+ * reading): 0 where the call is accepted, and otherwise the first of the numbers below that applies, in
+ * the order that FORMAT.md gives for the call. Beside a refusal
  *   - no byte of the output buffer has changed;
  *   - index is the index of the section or record for 6 to 11, 16 and 17, and 0 for the others;
- *   - all else in the answer is 0, but first_ramdisk, which is EIF_NO_RAMDISK, and the state that
- *     eif_sha384_update answers, which is as it was.
+ *   - all else in the answer is 0, but first_ramdisk, which is EIF_NO_RAMDISK, and the states that
+ *     eif_sha384_update and eif_arriving_finish answer.
  *
  * Answers have no padding, and their reserved fields are 0: equal answers are equal by memcmp.
  *
@@ -229,6 +229,29 @@ typedef struct eif_reading {
     eif_section sections[EIF_MAX_SECTIONS]; /* in file order, then zeros */
 } eif_reading;
 
+/* An image that arrives in pieces, a value that can be kept, copied and gone on from. Any value whatever is
+ * one; a fresh one comes from eif_arriving_begin. */
+typedef struct eif_arriving {
+    uint64_t taken;                    /* how many bytes were taken; it stays at 2^64 - 1 once there */
+    uint8_t header[EIF_HEADER_LENGTH]; /* the file's first bytes, 0 where they have not come */
+    uint8_t section_headers[EIF_MAX_SECTIONS * EIF_SECTION_HEADER_LENGTH]; /* the sections' own headers,
+                                        * 12 bytes for each, 0 where they have not come */
+    uint32_t checksum; /* CRC-32 of the checked bytes so far, before the last inversion */
+    uint64_t ended;    /* 0 until the end is told, then 1; any other value counts as told */
+} eif_arriving;
+
+/* What a piece makes of an image that arrives. */
+typedef struct eif_arriving_fed {
+    eif_arriving state; /* after the call */
+    uint64_t count;     /* how many bytes of the piece were taken */
+} eif_arriving_fed;
+
+/* What telling the end makes of it. */
+typedef struct eif_arriving_finished {
+    eif_arriving state;  /* as it was, its end told */
+    eif_reading reading; /* what eif_read answers on the bytes taken */
+} eif_arriving_finished;
+
 /* A length, or a refusal. */
 typedef struct eif_answer {
     uint8_t number;
@@ -292,6 +315,23 @@ typedef struct eif_roll_reading {
 
 /* Reads an image (FORMAT.md, Reading an image). Refusals: 1 to 13. */
 EIF_MUST_USE eif_reading eif_read(const uint8_t *image, size_t image_length);
+
+/* Reads an image that arrives in pieces of any size, with no room for its bytes (FORMAT.md, Check while
+ * it arrives):
+ *
+ *     eif_arriving state = eif_arriving_begin();
+ *     eif_arriving_fed fed = eif_arriving_feed(state, piece, piece_length, allowance);
+ *     ... go on with fed.state and what was not taken of the piece, then with the next piece ...
+ *     eif_reading reading = eif_arriving_finish(fed.state).reading;
+ *
+ * However the file was cut, the reading is that of eif_read on the bytes taken. A call takes bytes from
+ * the piece's start and answers their count: until the end is told, the lesser of allowance and
+ * piece_length; after it 0. Nothing is refused before the end is told, because the file's length can
+ * change the answer until then. Telling the end again gives the same reading. */
+EIF_MUST_USE eif_arriving eif_arriving_begin(void);
+EIF_MUST_USE eif_arriving_fed eif_arriving_feed(eif_arriving state, const uint8_t *piece,
+                                                size_t piece_length, uint64_t allowance);
+EIF_MUST_USE eif_arriving_finished eif_arriving_finish(eif_arriving state);
 
 /* The length of a plan's image. Refusals, in this order: 4, 5, 9 to 11 for each section, 12, 1. */
 EIF_MUST_USE eif_answer eif_plan_length(eif_plan plan);

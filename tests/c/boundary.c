@@ -15,6 +15,15 @@ typedef char layout_of_plan[sizeof(eif_plan) == 544 ? 1 : -1];
 typedef char layout_of_plan_places[offsetof(eif_plan, places) == 32 ? 1 : -1];
 typedef char layout_of_reading[sizeof(eif_reading) == 48 + 32 * 24 ? 1 : -1];
 typedef char layout_of_reading_sections[offsetof(eif_reading, sections) == 48 ? 1 : -1];
+typedef char layout_of_arriving[sizeof(eif_arriving) == 8 + 548 + 384 + 4 + 8 ? 1 : -1];
+typedef char layout_of_arriving_header[offsetof(eif_arriving, header) == 8 ? 1 : -1];
+typedef char layout_of_arriving_sections[offsetof(eif_arriving, section_headers) == 556 ? 1 : -1];
+typedef char layout_of_arriving_checksum[offsetof(eif_arriving, checksum) == 940 ? 1 : -1];
+typedef char layout_of_arriving_ended[offsetof(eif_arriving, ended) == 944 ? 1 : -1];
+typedef char layout_of_arriving_fed[sizeof(eif_arriving_fed) == 960 ? 1 : -1];
+typedef char layout_of_arriving_count[offsetof(eif_arriving_fed, count) == 952 ? 1 : -1];
+typedef char layout_of_arriving_finished[sizeof(eif_arriving_finished) == 952 + 816 ? 1 : -1];
+typedef char layout_of_arriving_reading[offsetof(eif_arriving_finished, reading) == 952 ? 1 : -1];
 typedef char layout_of_answer[sizeof(eif_answer) == 24 ? 1 : -1];
 typedef char layout_of_stream_sections[sizeof(eif_stream_sections) == 8 + 32 * 24 ? 1 : -1];
 typedef char layout_of_stream_list[offsetof(eif_stream_sections, sections) == 8 ? 1 : -1];
@@ -78,6 +87,7 @@ static void try_null(const uint8_t *image) {
     check(eif_roll_read(NULL, 0).number == EIF_RECORD_CUT, "roll read of null");
     check(eif_registers(NULL, 0).number == EIF_IMAGE_TOO_SHORT, "registers of null");
     check(eif_sha384_update(eif_sha384_begin(), NULL, 0).number == EIF_ACCEPTED, "a piece of null");
+    check(eif_arriving_feed(eif_arriving_begin(), NULL, 0, UINT64_MAX).count == 0, "null arrives");
     check(eif_write(empty, NULL, 0, NULL, 0).number == EIF_OUTPUT_TOO_SHORT, "write to null");
 
     check(eif_copy_whole(image, IMAGE_LENGTH, start(), NULL, 0).number == EIF_ACCEPTED, "whole to null");
@@ -185,6 +195,26 @@ static void try_registers(const uint8_t *image, size_t length) {
     check(zero(one.reserved, sizeof one.reserved), "reserved of registers");
 }
 
+static void try_arriving(const uint8_t *image, size_t length) {
+    static eif_arriving_fed one, other;
+    static eif_arriving_finished end, other_end;
+    eif_arriving state = eif_arriving_begin();
+    memset(&one, 0x55, sizeof one);
+    memset(&other, 0xaa, sizeof other);
+    soil(0x11);
+    one = eif_arriving_feed(state, image, length, UINT64_MAX);
+    soil(0xee);
+    other = eif_arriving_feed(state, image, length, UINT64_MAX);
+    check(memcmp(&one, &other, sizeof one) == 0, "equal arriving states by memcmp");
+    memset(&end, 0x55, sizeof end);
+    memset(&other_end, 0xaa, sizeof other_end);
+    soil(0x11);
+    end = eif_arriving_finish(one.state);
+    soil(0xee);
+    other_end = eif_arriving_finish(one.state);
+    check(memcmp(&end, &other_end, sizeof end) == 0, "equal ends by memcmp");
+}
+
 /* A piece that is taken or, with a larger total, one that is refused. */
 static void try_sha384(uint64_t total) {
     static const uint8_t piece[3] = {1, 2, 3};
@@ -230,6 +260,8 @@ int main(void) {
     try_answer(image, IMAGE_LENGTH, roll, ROLL_LENGTH - 1);
     try_registers(image, IMAGE_LENGTH);
     try_registers(image, 547);
+    try_arriving(image, IMAGE_LENGTH);
+    try_arriving(image, 547);
     try_sha384(0);
     try_sha384(EIF_MAX_MESSAGE_LENGTH);
     try_words();

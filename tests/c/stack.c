@@ -25,6 +25,9 @@ static eif_stream_position start;
 static eif_reading reading;
 static eif_roll_reading roll_reading;
 static eif_answer answer;
+static eif_arriving arriving;
+static eif_arriving_fed arriving_fed;
+static eif_arriving_finished arrived;
 static eif_stream_sections sections;
 static eif_registers_answer registers;
 static eif_sha384 begun;
@@ -33,6 +36,11 @@ static eif_digest digest;
 
 static void nothing(void) {}
 static void call_read(void) { reading = eif_read(image, image_length); }
+static void call_arriving_begin(void) { arriving = eif_arriving_begin(); }
+static void call_arriving_feed(void) {
+    arriving_fed = eif_arriving_feed(arriving, image, image_length, UINT64_MAX);
+}
+static void call_arriving_finish(void) { arrived = eif_arriving_finish(arriving_fed.state); }
 static void call_plan_length(void) { answer = eif_plan_length(plan); }
 static void call_write(void) { answer = eif_write(plan, data, sizeof data, out, sizeof out); }
 static void call_whole_length(void) { answer = eif_whole_length(image, image_length); }
@@ -104,6 +112,9 @@ int main(void) {
         void (*function)(void);
     } calls[] = {
         {"eif_read", call_read},
+        {"eif_arriving_begin", call_arriving_begin},
+        {"eif_arriving_feed", call_arriving_feed},
+        {"eif_arriving_finish", call_arriving_finish},
         {"eif_plan_length", call_plan_length},
         {"eif_write", call_write},
         {"eif_whole_length", call_whole_length},
@@ -133,9 +144,10 @@ int main(void) {
     for (size_t i = 0; i < sizeof calls / sizeof calls[0]; i++) {
         size_t bytes = used(calls[i].function) - least;
         int fits = bytes <= (size_t)EIF_STACK_KIB * 1024;
-        printf("stack: %-18s %6zu bytes%s\n", calls[i].name, bytes, fits ? "" : ": too many");
-        failures += !fits || reading.number != 0 || roll_reading.number != 0 || answer.number != 0 ||
-                    registers.number != 0 || fed.number != 0;
+        printf("stack: %-20s %6zu bytes%s\n", calls[i].name, bytes, fits ? "" : ": too many");
+        failures += !fits || reading.number != 0 || arrived.reading.number != 0 ||
+                    roll_reading.number != 0 || answer.number != 0 || registers.number != 0 ||
+                    fed.number != 0;
     }
     return failures != 0;
 }

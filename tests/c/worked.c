@@ -120,6 +120,44 @@ static void try_read(const uint8_t *image) {
     check(refused.first_ramdisk == EIF_NO_RAMDISK, "first ramdisk beside a refusal");
 }
 
+static int same_reading(const eif_reading *a, const eif_reading *b) {
+    return memcmp(a, b, sizeof *a) == 0;
+}
+
+/* The image in pieces of every length, with an allowance smaller than the pieces. */
+static void try_arriving(const uint8_t *image) {
+    eif_reading whole = eif_read(image, IMAGE_LENGTH);
+    for (size_t length = 1; length <= IMAGE_LENGTH; length++) {
+        uint64_t allowance = 1 + length / 2;
+        eif_arriving state = eif_arriving_begin();
+        for (size_t at = 0; at < IMAGE_LENGTH;) {
+            size_t piece = IMAGE_LENGTH - at < length ? IMAGE_LENGTH - at : length;
+            eif_arriving_fed fed = eif_arriving_feed(state, image + at, piece, allowance);
+            check(fed.count == (piece < allowance ? piece : allowance), "bytes taken of a piece");
+            at += (size_t)fed.count;
+            check(fed.state.taken == at, "bytes taken in all");
+            state = fed.state;
+        }
+        eif_arriving_finished end = eif_arriving_finish(state);
+        check(same_reading(&end.reading, &whole), "reading of what arrived");
+    }
+}
+
+static void try_arriving_end(const uint8_t *image) {
+    eif_arriving state = eif_arriving_begin();
+    eif_arriving_fed fed = eif_arriving_feed(state, image, 547, UINT64_MAX);
+    eif_arriving_fed none = eif_arriving_feed(fed.state, image, IMAGE_LENGTH, 0);
+    check(none.count == 0 && memcmp(&none.state, &fed.state, sizeof state) == 0, "allowance 0");
+    eif_arriving_finished end = eif_arriving_finish(fed.state);
+    eif_reading refused = eif_read(image, 547);
+    check(same_reading(&end.reading, &refused), "547 bytes arrived");
+    check(end.state.ended == 1 && end.state.taken == 547, "end told");
+    fed = eif_arriving_feed(end.state, image + 547, IMAGE_LENGTH - 547, UINT64_MAX);
+    check(fed.count == 0 && memcmp(&fed.state, &end.state, sizeof state) == 0, "after the end");
+    eif_arriving_finished again = eif_arriving_finish(fed.state);
+    check(memcmp(&again, &end, sizeof end) == 0, "end told again");
+}
+
 static void try_streams(const uint8_t *image) {
     uint8_t out[4];
     memset(out, STAYS, sizeof out);
@@ -274,6 +312,8 @@ int main(void) {
     expect_image(image);
     try_write(image);
     try_read(image);
+    try_arriving(image);
+    try_arriving_end(image);
     try_streams(image);
     try_sections(image);
     try_file_order();

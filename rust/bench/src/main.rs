@@ -3,6 +3,7 @@
 //! All are called on the same inputs in one run, in turn, and the one that goes first changes from
 //! round to round. A time is the median over the rounds.
 
+mod arriving;
 mod hashing;
 mod images;
 mod pieces;
@@ -55,9 +56,22 @@ fn main() {
     for length in [MIB, 64 * MIB] {
         hashing::memory(length);
     }
+    arriving_beside_whole();
     pieces_beside_rereading();
     registers_beside_parts();
     files_beside_openssl();
+}
+
+fn arriving_beside_whole() {
+    println!();
+    println!(
+        "An image that arrives in pieces, beside the library's whole reader on the same bytes. \
+         Each piece is handed over where it lies; none is copied."
+    );
+    table::head("whole");
+    for length in [MIB, 16 * MIB] {
+        arriving::beside_whole(length);
+    }
 }
 
 fn pieces_beside_rereading() {

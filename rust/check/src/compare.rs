@@ -10,13 +10,13 @@ use std::fmt::{self, Debug, Display};
 use std::io::Read;
 
 /// Names an input in a message.
-struct Input<'a> {
-    kind: &'static str,
-    ordinal: u64,
+pub(crate) struct Input<'a> {
+    pub(crate) kind: &'static str,
+    pub(crate) ordinal: u64,
     /// Of a plan, the lent data.
-    bytes: &'a [u8],
-    /// A plan, or a reading and a list.
-    other: Option<&'a dyn Debug>,
+    pub(crate) bytes: &'a [u8],
+    /// A plan, a reading and a list, or a state and an allowance.
+    pub(crate) other: Option<&'a dyn Debug>,
 }
 
 impl Display for Input<'_> {
@@ -34,7 +34,7 @@ impl Display for Input<'_> {
     }
 }
 
-fn same<T: PartialEq + Debug>(input: &Input, what: &str, library: T, twin: T) {
+pub(crate) fn same<T: PartialEq + Debug>(input: &Input, what: &str, library: T, twin: T) {
     assert!(
         library == twin,
         "{what}: the library has {library:?}, the twin {twin:?}, for {input}"
@@ -42,7 +42,7 @@ fn same<T: PartialEq + Debug>(input: &Input, what: &str, library: T, twin: T) {
 }
 
 /// A refusal as number and index.
-fn pair(refusal: Refusal) -> (u8, u64) {
+pub(crate) fn pair(refusal: Refusal) -> (u8, u64) {
     (refusal.number(), refusal.index())
 }
 
@@ -96,7 +96,7 @@ fn twin_stream(stream: Stream) -> twin::Stream {
     }
 }
 
-fn twin_reading(answer: &Result<twin::Reading, twin::Refusal>) -> Reading {
+pub(crate) fn twin_reading(answer: &Result<twin::Reading, twin::Refusal>) -> Reading {
     let reading = match answer {
         Ok(reading) => reading,
         Err(refusal) => {

@@ -5,6 +5,7 @@
 #![forbid(unsafe_code)]
 #![deny(missing_docs)]
 
+mod arriving;
 mod compare;
 mod images;
 mod messages;
@@ -15,6 +16,7 @@ mod rng;
 mod rolls;
 mod tally;
 
+pub use arriving::{compare_arriving, compare_arriving_state, state_of, LENGTHS};
 pub use compare::{compare_image, compare_message, compare_plan, compare_reading, compare_roll};
 pub use images::{accepted_layout, any_image};
 pub use messages::{any_message, Message};

@@ -15,6 +15,8 @@ const PLANS: u64 = 60_000;
 const ROLLS: u64 = 80_000;
 const MESSAGES: u64 = 40_000;
 const READINGS: u64 = 40_000;
+const ARRIVALS: u64 = 40_000;
+const STATES: u64 = 40_000;
 
 fn variable(name: &str, default: u64) -> u64 {
     let Ok(text) = env::var(name) else {
@@ -67,6 +69,21 @@ fn readings(seed: u64, ordinals: Range<u64>, tally: &mut Tally) {
         let mut rng = Rng::of_input(seed.rotate_left(16), ordinal);
         let given = any_reading_input(&mut rng);
         compare_reading(&mut rng, ordinal, &given, tally);
+    }
+}
+
+fn arrivals(seed: u64, ordinals: Range<u64>, tally: &mut Tally) {
+    for ordinal in ordinals {
+        let mut rng = Rng::of_input(seed.rotate_left(48), ordinal);
+        let image = any_image(&mut rng);
+        compare_arriving(&mut rng, ordinal, &image, tally);
+    }
+}
+
+fn states(seed: u64, ordinals: Range<u64>, tally: &mut Tally) {
+    for ordinal in ordinals {
+        let mut rng = Rng::of_input(!seed.rotate_left(48), ordinal);
+        compare_arriving_state(&mut rng, ordinal, tally);
     }
 }
 
@@ -138,6 +155,8 @@ fn library_and_twin_agree() {
             rolls(seed, share(ROLLS * times, part, parts), &mut tally);
             messages(seed, share(MESSAGES * times, part, parts), &mut tally);
             readings(seed, share(READINGS * times, part, parts), &mut tally);
+            arrivals(seed, share(ARRIVALS * times, part, parts), &mut tally);
+            states(seed, share(STATES * times, part, parts), &mut tally);
             if part == 0 {
                 long_images(seed, &mut tally);
                 long_plans(seed, &mut tally);
@@ -166,5 +185,5 @@ fn library_and_twin_agree() {
     for &reason in eif::Reason::ALL {
         assert!(total.of_number(reason as u8) > 0, "{reason} never occurred");
     }
-    assert!(total.inputs() >= 800_000);
+    assert!(total.inputs() >= 900_000);
 }

@@ -1,12 +1,13 @@
 //! What a file holds: an image or a roll, as the library's readers say.
 
+use crate::input::{may_be_roll, Arrived};
 use crate::words;
-use eif::{Image, Reason, Refusal, Roll};
+use eif::{Reading, Refusal, Roll};
 use std::ffi::OsStr;
 
 /// An accepted image or an accepted roll. No bytes are both.
 pub enum Content<'a> {
-    Image(Image<'a>),
+    Image(&'a Reading),
     Roll(Roll<'a>),
 }
 
@@ -18,17 +19,19 @@ pub struct Neither {
     roll: Option<Refusal>,
 }
 
-/// Asks the readers.
-pub fn read(bytes: &[u8]) -> Result<Content<'_>, Neither> {
-    let image = match eif::read(bytes) {
-        Ok(image) => return Ok(Content::Image(image)),
-        Err(refusal) => refusal,
+/// What an input holds, whose bytes were kept where it may be a roll.
+pub fn of(arrived: &Arrived) -> Result<Content<'_>, Neither> {
+    let image = match &arrived.answer {
+        Ok(reading) => return Ok(Content::Image(reading)),
+        Err(refusal) => *refusal,
     };
-    match eif::read_roll(bytes) {
+    if !may_be_roll(&arrived.answer) {
+        return Err(Neither { image, roll: None });
+    }
+    match eif::read_roll(&arrived.bytes) {
         Ok(roll) => Ok(Content::Roll(roll)),
         Err(refusal) => {
-            let unlike_image = [Reason::WrongMagic, Reason::ImageTooShort];
-            let roll = unlike_image.contains(&image.reason()).then_some(refusal);
+            let roll = Some(refusal);
             Err(Neither { image, roll })
         }
     }

@@ -2,6 +2,7 @@
 
 use crate::progress::Progress;
 use crate::status::{Status, Trouble};
+use eif::{Arriving, Reading, Reason, Refusal};
 use std::ffi::{OsStr, OsString};
 use std::fs::File;
 use std::io::{self, Read};
@@ -10,6 +11,25 @@ use std::io::{self, Read};
 pub struct Input {
     pub name: OsString,
     pub bytes: Vec<u8>,
+}
+
+/// What the library's reader said of an input while it arrived.
+pub struct Arrived {
+    pub name: OsString,
+    pub answer: Result<Reading, Refusal>,
+    /// The input's bytes, or none where they were not kept.
+    pub bytes: Vec<u8>,
+}
+
+/// Which bytes of an arriving input are kept.
+#[derive(Clone, Copy, PartialEq, Eq)]
+pub enum Keep {
+    /// None: the answer is all that is wanted.
+    Nothing,
+    /// Those of an input that may be a roll.
+    Rolls,
+    /// Those of every input.
+    All,
 }
 
 /// No answer depends on bytes past these: a longer image, or a plan with such a part, is refused as too
@@ -21,27 +41,76 @@ const PIECE: usize = 1 << 16;
 
 /// Reads an input.
 pub fn read(name: &OsStr) -> Result<Input, Trouble> {
-    let bytes = if name == "-" {
-        read_all(name, io::stdin().lock())
-    } else {
-        File::open(name).and_then(|file| read_all(name, file))
-    };
-    let bytes = bytes.map_err(|error| Trouble::system(name, error))?;
+    let mut bytes = Vec::new();
+    pieces(name, |piece| append(&mut bytes, piece))?;
     let name = name.to_os_string();
     Ok(Input { name, bytes })
 }
 
-fn read_all(name: &OsStr, source: impl Read) -> io::Result<Vec<u8>> {
+/// Has an input read while it arrives.
+pub fn arrive(name: &OsStr, keep: Keep) -> Result<Arrived, Trouble> {
+    let mut arriving = Arriving::new();
+    let mut bytes = Vec::new();
+    let mut keep = keep;
+    pieces(name, |piece| {
+        arriving.feed(piece);
+        if keep == Keep::Rolls && !may_be_roll(&arriving.clone().finish()) {
+            keep = Keep::Nothing;
+            bytes = Vec::new();
+        }
+        match keep {
+            Keep::Nothing => Ok(()),
+            Keep::Rolls | Keep::All => append(&mut bytes, piece),
+        }
+    })?;
+    let answer = arriving.finish();
+    let name = name.to_os_string();
+    Ok(Arrived {
+        name,
+        answer,
+        bytes,
+    })
+}
+
+/// Whether bytes that the image's reader answers so, or bytes that begin with them, may be a roll. Those
+/// that have a whole header with the right magic are none: as a roll's first length, the magic is that of a
+/// section longer than any image.
+pub fn may_be_roll(answer: &Result<Reading, Refusal>) -> bool {
+    let unlike_image = [Reason::WrongMagic, Reason::ImageTooShort];
+    answer
+        .as_ref()
+        .is_err_and(|refusal| unlike_image.contains(&refusal.reason()))
+}
+
+fn append(bytes: &mut Vec<u8>, piece: &[u8]) -> io::Result<()> {
+    bytes.try_reserve(piece.len())?;
+    bytes.extend_from_slice(piece);
+    Ok(())
+}
+
+/// Hands an input over piece by piece.
+fn pieces(name: &OsStr, take: impl FnMut(&[u8]) -> io::Result<()>) -> Result<(), Trouble> {
+    let done = if name == "-" {
+        pieces_of(name, io::stdin().lock(), take)
+    } else {
+        File::open(name).and_then(|file| pieces_of(name, file, take))
+    };
+    done.map_err(|error| Trouble::system(name, error))
+}
+
+fn pieces_of(
+    name: &OsStr,
+    source: impl Read,
+    mut take: impl FnMut(&[u8]) -> io::Result<()>,
+) -> io::Result<()> {
     let progress = Progress::start(name);
     let mut source = source.take(MOST);
-    let mut bytes = Vec::new();
     let mut piece = vec![0; PIECE];
     loop {
         match source.read(&mut piece) {
-            Ok(0) => return Ok(bytes),
+            Ok(0) => return Ok(()),
             Ok(count) => {
-                bytes.try_reserve(count)?;
-                bytes.extend_from_slice(&piece[..count]);
+                take(&piece[..count])?;
                 progress.add(count);
             }
             Err(error) if error.kind() == io::ErrorKind::Interrupted => {}
@@ -50,10 +119,11 @@ fn read_all(name: &OsStr, source: impl Read) -> io::Result<Vec<u8>> {
     }
 }
 
-/// Answers each input in turn. The worst status counts, and one that cannot be read is reported.
-pub fn each(
+/// Reads and answers each input in turn. The worst status counts, and one that cannot be read is reported.
+pub fn each<T>(
     names: &[OsString],
-    answer: impl Fn(&Input) -> Result<Status, Trouble>,
+    read: impl Fn(&OsStr) -> Result<T, Trouble>,
+    answer: impl Fn(&T) -> Result<Status, Trouble>,
 ) -> Result<Status, Trouble> {
     one_standard_input(names)?;
     let mut worst = Status::Fine;

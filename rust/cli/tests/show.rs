@@ -3,9 +3,10 @@
 mod common;
 
 use common::json::{parse, Value};
-use common::Folder;
+use common::{Ended, Folder};
 use eif::Reason;
 use eif_cases::{image_cases, image_of_length, worked_image, Layout, Section, MAX_IMAGE};
+use std::process::Command;
 
 const SHOWN: &str = "\
 packed.eif: image
@@ -202,6 +203,28 @@ fn the_longest_image_and_one_byte_more() {
     let lines = "longest: accepted\nlonger: refused 1 at 0: image longer than 16,777,216 bytes\n";
     folder.eif("check longest longer").says(1, lines);
     folder.eif("check --quiet longest").says(0, "");
+}
+
+/// With less memory than the image has bytes.
+#[test]
+fn an_image_takes_no_memory_of_its_size() {
+    let folder = Folder::new();
+    let size = 12 << 20;
+    folder.put("large", image_of_length(size));
+    for (words, shown) in [
+        ("check large", "large: accepted\n"),
+        ("show large", "large: image\n"),
+        ("check - <large", "-: accepted\n"),
+        ("show - <large", "-: image\n"),
+    ] {
+        let script = format!("ulimit -v {}; exec \"$0\" {words}", size / 1024);
+        let mut command = Command::new("sh");
+        command.args(["-c", &script, env!("CARGO_BIN_EXE_eif")]);
+        let output = command.current_dir(folder.path("")).output();
+        let ended: Ended = output.unwrap().into();
+        assert_eq!((ended.status, &ended.error[..]), (0, ""), "{words}");
+        assert!(ended.text().starts_with(shown), "{words}");
+    }
 }
 
 #[test]

@@ -4,6 +4,7 @@ use crate::{
     raw, Architecture, DataLength, FilePosition, Place, Plan, Refusal, Registers, SectionType,
     SECTION_HEADER_LENGTH,
 };
+use std::ops::Deref;
 
 /// A section of an accepted image.
 #[derive(Clone, Copy, Debug, Default, PartialEq, Eq)]
@@ -25,13 +26,27 @@ impl Section {
     }
 }
 
-/// An accepted image: its bytes, borrowed, and what they hold.
+/// What an accepted image holds, without its bytes.
+#[derive(Clone, Debug, PartialEq, Eq)]
+pub struct Reading {
+    answer: raw::Reading,
+    /// Those of the answer that are used.
+    sections: Vec<Section>,
+}
+
+/// An accepted image: its bytes, borrowed, and its [`Reading`], whose methods are the image's too.
 #[derive(Clone, Debug)]
 pub struct Image<'a> {
     bytes: &'a [u8],
-    reading: raw::Reading,
-    /// Those of the reading that are used.
-    sections: Vec<Section>,
+    reading: Reading,
+}
+
+impl Deref for Image<'_> {
+    type Target = Reading;
+
+    fn deref(&self) -> &Reading {
+        &self.reading
+    }
 }
 
 /// Reads an image (FORMAT.md, Reading an image).
@@ -45,14 +60,10 @@ pub struct Image<'a> {
 ///
 /// The first of 1 to 13 that applies, in the order of reading.
 pub fn read(image: &[u8]) -> Result<Image<'_>, Refusal> {
-    let reading = raw::read(image);
-    Refusal::check(reading.number, reading.index)?;
-    let used = reading.sections.into_iter();
-    let used = used.take(usize::from(reading.count));
+    let reading = Reading::accepted(raw::read(image))?;
     Ok(Image {
         bytes: image,
         reading,
-        sections: used.map(Section::from).collect(),
     })
 }
 
@@ -61,25 +72,31 @@ pub(crate) fn data_at(image: &[u8], position: FilePosition, length: DataLength) 
     &image[position.0 as usize..][..length.0 as usize]
 }
 
-impl<'a> Image<'a> {
-    /// The image's bytes, those that were read.
-    pub fn bytes(&self) -> &'a [u8] {
-        self.bytes
+impl Reading {
+    /// The reading that a reader answered, or its refusal.
+    pub(crate) fn accepted(answer: raw::Reading) -> Result<Reading, Refusal> {
+        Refusal::check(answer.number, answer.index)?;
+        let used = answer.sections.into_iter();
+        let used = used.take(usize::from(answer.count));
+        Ok(Reading {
+            answer,
+            sections: used.map(Section::from).collect(),
+        })
     }
 
-    /// What reading them answered.
-    pub(crate) fn reading(&self) -> raw::Reading {
-        self.reading
+    /// What the reader answered.
+    pub(crate) fn answer(&self) -> raw::Reading {
+        self.answer
     }
 
     /// The header's version: 2, 3 or 4.
     pub fn version(&self) -> u16 {
-        self.reading.version
+        self.answer.version
     }
 
     /// The header's flags, carried and not judged.
     pub fn flags(&self) -> u16 {
-        self.reading.flags
+        self.answer.flags
     }
 
     /// The processor that the flags tell.
@@ -89,17 +106,57 @@ impl<'a> Image<'a> {
 
     /// The header's default_mem, carried and not judged.
     pub fn default_mem(&self) -> u64 {
-        self.reading.default_mem
+        self.answer.default_mem
     }
 
     /// The header's default_cpus, carried and not judged.
     pub fn default_cpus(&self) -> u64 {
-        self.reading.default_cpus
+        self.answer.default_cpus
     }
 
     /// The sections in file order, 2 to 32 of them.
     pub fn sections(&self) -> &[Section] {
         &self.sections
+    }
+
+    /// The ramdisk mark: bit i is one exactly when section i is a ramdisk.
+    pub fn ramdisk_mark(&self) -> u32 {
+        self.answer.ramdisk_mark
+    }
+
+    /// How many sections are ramdisks.
+    pub fn ramdisk_count(&self) -> usize {
+        self.answer.ramdisk_count as usize
+    }
+
+    /// The index of the first ramdisk.
+    pub fn first_ramdisk(&self) -> Option<usize> {
+        let first = self.answer.first_ramdisk;
+        (first != raw::NO_RAMDISK).then_some(first as usize)
+    }
+
+    /// The plan with this image's fields and sections. Where the image is plain, [`write`](crate::write)
+    /// of this plan and of [`joined_data`](Image::joined_data) gives the image again.
+    pub fn plan(&self) -> Plan {
+        let place = |section: &Section| Place {
+            section_type: section.section_type,
+            flags: section.flags,
+            length: section.length,
+        };
+        Plan {
+            version: self.version(),
+            flags: self.flags(),
+            default_mem: self.default_mem(),
+            default_cpus: self.default_cpus(),
+            places: self.sections().iter().map(place).collect(),
+        }
+    }
+}
+
+impl<'a> Image<'a> {
+    /// The image's bytes, those that were read.
+    pub fn bytes(&self) -> &'a [u8] {
+        self.bytes
     }
 
     /// The data of section `index`.
@@ -152,43 +209,10 @@ impl<'a> Image<'a> {
         data_at(self.bytes, section.position, section.length)
     }
 
-    /// The ramdisk mark: bit i is one exactly when section i is a ramdisk.
-    pub fn ramdisk_mark(&self) -> u32 {
-        self.reading.ramdisk_mark
-    }
-
-    /// How many sections are ramdisks.
-    pub fn ramdisk_count(&self) -> usize {
-        self.reading.ramdisk_count as usize
-    }
-
-    /// The index of the first ramdisk.
-    pub fn first_ramdisk(&self) -> Option<usize> {
-        let first = self.reading.first_ramdisk;
-        (first != raw::NO_RAMDISK).then_some(first as usize)
-    }
-
     /// The image's registers. The image is read again for them.
     pub fn registers(&self) -> Registers {
         // These bytes were accepted, so there is no refusal.
         Registers(raw::registers(self.bytes).registers)
-    }
-
-    /// The plan with this image's fields and sections. Where the image is plain, [`write`](crate::write)
-    /// of this plan and of [`joined_data`](Image::joined_data) gives the image again.
-    pub fn plan(&self) -> Plan {
-        let place = |section: &Section| Place {
-            section_type: section.section_type,
-            flags: section.flags,
-            length: section.length,
-        };
-        Plan {
-            version: self.version(),
-            flags: self.flags(),
-            default_mem: self.default_mem(),
-            default_cpus: self.default_cpus(),
-            places: self.sections().iter().map(place).collect(),
-        }
     }
 
     /// The data of all sections, joined in file order.

@@ -7,6 +7,7 @@
 //! | call | what it does |
 //! |---|---|
 //! | [`read`] | accepts or refuses an image and lists its sections |
+//! | [`Arriving`] | the same of an image that arrives in pieces, with no memory for its bytes |
 //! | [`write()`], [`plan_length`], [`write_to_vec`] | the plain image of a [`Plan`] |
 //! | [`copy_stream`], [`stream_length`], [`stream_to_vec`] | the three measured streams |
 //! | [`Image::stream_sections`], [`Image::stream_reader`], [`Image::copy_stream`] | the same of an image that was read, without reading it again |
@@ -80,6 +81,7 @@
 //! links into x86-64 programs only.
 #![deny(missing_docs)]
 
+mod arriving;
 mod image;
 mod numbers;
 mod plan;
@@ -90,7 +92,8 @@ mod roll;
 mod sha384;
 mod stream;
 
-pub use image::{read, Image, Section};
+pub use arriving::Arriving;
+pub use image::{read, Image, Reading, Section};
 pub use numbers::{
     Architecture, DataLength, FilePosition, RollPosition, SectionType, StreamPosition, UnknownName,
 };

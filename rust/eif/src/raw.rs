@@ -6,7 +6,7 @@
 
 use crate::{
     DataLength, Digest, FilePosition, Place, RollPosition, SectionType, StreamPosition,
-    DIGEST_LENGTH, MAX_SECTIONS, REGISTERS,
+    DIGEST_LENGTH, HEADER_LENGTH, MAX_SECTIONS, REGISTERS, SECTION_HEADER_LENGTH,
 };
 use std::mem::{align_of, offset_of, size_of};
 
@@ -176,6 +176,45 @@ pub struct RegistersAnswer {
     pub registers: [Digest; REGISTERS],
 }
 
+/// How many bytes of the sections' own headers an [`Arriving`] keeps.
+pub const SECTION_HEADERS_LENGTH: usize = MAX_SECTIONS * SECTION_HEADER_LENGTH;
+
+/// An image that arrives in pieces. Any value whatever is one; a fresh one is [`arriving_begin`]'s.
+#[repr(C)]
+#[derive(Clone, Copy, Debug, PartialEq, Eq)]
+pub struct Arriving {
+    /// How many bytes were taken; it stays at 2 to the 64 less 1 once there.
+    pub taken: u64,
+    /// The file's first bytes, 0 where they have not come.
+    pub header: [u8; HEADER_LENGTH],
+    /// The sections' own headers, 12 bytes for each of 32, 0 where they have not come.
+    pub section_headers: [u8; SECTION_HEADERS_LENGTH],
+    /// The CRC-32 remainder over the checked bytes so far, before the last inversion.
+    pub checksum: u32,
+    /// 0 until the end is told, then 1. Any other value counts as told.
+    pub ended: u64,
+}
+
+/// What [`arriving_feed`] answers.
+#[repr(C)]
+#[derive(Clone, Copy, Debug, PartialEq, Eq)]
+pub struct ArrivingFed {
+    /// The state after the call.
+    pub state: Arriving,
+    /// How many bytes of the piece were taken.
+    pub count: u64,
+}
+
+/// What [`arriving_finish`] answers.
+#[repr(C)]
+#[derive(Clone, Copy, Debug, PartialEq, Eq)]
+pub struct ArrivingFinished {
+    /// The state as it was, with its end told.
+    pub state: Arriving,
+    /// What [`read`] answers on the bytes taken.
+    pub reading: Reading,
+}
+
 // The layout that eif.h gives to a C compiler. Each size is the sum of the fields' sizes, so an answer
 // has no padding.
 const _: () = {
@@ -197,6 +236,13 @@ const _: () = {
     assert!(size_of::<Digest>() == DIGEST_LENGTH && align_of::<Digest>() == 1);
     assert!(size_of::<RegistersAnswer>() == 1 + 7 + 8 + REGISTERS * DIGEST_LENGTH);
     assert!(offset_of!(RegistersAnswer, registers) == 16);
+    assert!(size_of::<Arriving>() == 8 + HEADER_LENGTH + SECTION_HEADERS_LENGTH + 4 + 8);
+    assert!(offset_of!(Arriving, header) == 8 && offset_of!(Arriving, section_headers) == 556);
+    assert!(offset_of!(Arriving, checksum) == 940 && offset_of!(Arriving, ended) == 944);
+    assert!(size_of::<ArrivingFed>() == size_of::<Arriving>() + 8);
+    assert!(offset_of!(ArrivingFed, count) == 952);
+    assert!(size_of::<ArrivingFinished>() == size_of::<Arriving>() + size_of::<Reading>());
+    assert!(offset_of!(ArrivingFinished, reading) == 952 && align_of::<Arriving>() == 8);
     assert!(size_of::<Place>() == 16);
     assert!(size_of::<Plan>() == 544 && offset_of!(Plan, places) == 32);
 };
@@ -224,12 +270,20 @@ impl From<RollRecord> for crate::RollRecord {
 
 mod c {
     use super::{
-        Answer, Digest, Plan, Reading, RegistersAnswer, RollReading, Sha384, Sha384Fed,
-        StreamPosition, StreamSections,
+        Answer, Arriving, ArrivingFed, ArrivingFinished, Digest, Plan, Reading, RegistersAnswer,
+        RollReading, Sha384, Sha384Fed, StreamPosition, StreamSections,
     };
 
     extern "C" {
         pub fn eif_read(image: *const u8, image_length: usize) -> Reading;
+        pub fn eif_arriving_begin() -> Arriving;
+        pub fn eif_arriving_feed(
+            state: Arriving,
+            piece: *const u8,
+            piece_length: usize,
+            allowance: u64,
+        ) -> ArrivingFed;
+        pub fn eif_arriving_finish(state: Arriving) -> ArrivingFinished;
         pub fn eif_plan_length(plan: Plan) -> Answer;
         pub fn eif_write(
             plan: Plan,
@@ -293,6 +347,24 @@ mod c {
 pub fn read(image: &[u8]) -> Reading {
     // SAFETY: pointer and length are those of a slice, here and below.
     unsafe { c::eif_read(image.as_ptr(), image.len()) }
+}
+
+/// `eif_arriving_begin`.
+pub fn arriving_begin() -> Arriving {
+    // SAFETY: there is no pointer.
+    unsafe { c::eif_arriving_begin() }
+}
+
+/// `eif_arriving_feed`.
+pub fn arriving_feed(state: Arriving, piece: &[u8], allowance: u64) -> ArrivingFed {
+    // SAFETY: as for `read`.
+    unsafe { c::eif_arriving_feed(state, piece.as_ptr(), piece.len(), allowance) }
+}
+
+/// `eif_arriving_finish`.
+pub fn arriving_finish(state: Arriving) -> ArrivingFinished {
+    // SAFETY: there is no pointer.
+    unsafe { c::eif_arriving_finish(state) }
 }
 
 /// `eif_plan_length`.
@@ -511,6 +583,8 @@ mod tests {
             assert_eq!(c::eif_registers(null(), 0), registers(&[]));
             let fed = c::eif_sha384_update(sha384_begin(), null(), 0);
             assert_eq!((fed.number, fed.state), (0, sha384_begin()));
+            let fed = c::eif_arriving_feed(arriving_begin(), null(), 0, u64::MAX);
+            assert_eq!((fed.count, fed.state), (0, arriving_begin()));
         }
     }
 
@@ -553,6 +627,11 @@ mod tests {
         assert_eq!(bytes_of(&registers(image)), bytes_of(&registers(&copy)));
         let fed = [(); 2].map(|()| sha384_update(sha384_begin(), &copy));
         assert_eq!(bytes_of(&fed[0]), bytes_of(&fed[1]));
+        let fed = [image, &copy].map(|image| arriving_feed(arriving_begin(), image, 600));
+        assert_eq!(bytes_of(&fed[0]), bytes_of(&fed[1]));
+        let finished = fed.map(|fed| arriving_finish(fed.state));
+        assert_eq!(bytes_of(&finished[0]), bytes_of(&finished[1]));
+        assert_eq!(bytes_of(&finished[0].reading), bytes_of(&read(image)));
     }
 
     #[test]

@@ -1,6 +1,6 @@
 //! The boot roll: kernel, command line and ramdisks of an image, in file order.
 
-use crate::{raw, DataLength, Refusal, RollPosition, SectionType, MAX_SECTIONS};
+use crate::{raw, DataLength, Refusal, RollPosition, SectionType};
 
 /// A record of an accepted roll.
 #[derive(Clone, Copy, Debug, Default, PartialEq, Eq)]
@@ -17,8 +17,7 @@ pub struct RollRecord {
 #[derive(Clone, Debug)]
 pub struct Roll<'a> {
     bytes: &'a [u8],
-    count: usize,
-    records: [RollRecord; MAX_SECTIONS],
+    records: Vec<RollRecord>,
 }
 
 /// The length of the roll of `image`, which is less than the image's. The image is read for it.
@@ -69,10 +68,10 @@ pub fn roll_to_vec(image: &[u8]) -> Result<Vec<u8>, Refusal> {
 pub fn read_roll(roll: &[u8]) -> Result<Roll<'_>, Refusal> {
     let reading = raw::roll_read(roll);
     Refusal::check(reading.number, reading.index)?;
+    let used = reading.records.into_iter().take(reading.count as usize);
     Ok(Roll {
         bytes: roll,
-        count: reading.count as usize,
-        records: reading.records.map(RollRecord::from),
+        records: used.map(RollRecord::from).collect(),
     })
 }
 
@@ -84,7 +83,7 @@ impl<'a> Roll<'a> {
 
     /// The records in order, without the end record.
     pub fn records(&self) -> &[RollRecord] {
-        &self.records[..self.count]
+        &self.records
     }
 
     /// The data of record `index`.

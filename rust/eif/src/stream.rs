@@ -69,7 +69,7 @@ impl FromStr for Stream {
 impl<'a> Image<'a> {
     /// The data of a stream's sections in its order, borrowed from the image. Joined they are the stream.
     pub fn stream_sections(&self, stream: Stream) -> StreamSections<'a> {
-        let list = stream.sections_of(self.reading());
+        let list = stream.sections_of(self.answer());
         StreamSections {
             image: self.bytes(),
             sections: list.sections.into_iter().take(list.count as usize),
@@ -96,7 +96,7 @@ impl<'a> Image<'a> {
         from: StreamPosition,
         out: &mut [u8],
     ) -> Result<usize, Refusal> {
-        let list = stream.sections_of(self.reading());
+        let list = stream.sections_of(self.answer());
         raw::copy_sections(self.bytes(), list, from, out).accepted_part()
     }
 }

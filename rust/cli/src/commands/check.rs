@@ -2,8 +2,10 @@
 
 use super::Command;
 use crate::args::{Args, Options};
+use crate::input::{self, Keep};
 use crate::status::{Status, Trouble};
-use crate::{input, output, words};
+use crate::{output, words};
+use std::ffi::OsStr;
 
 pub const COMMAND: Command = Command {
     name: "check",
@@ -28,8 +30,9 @@ Exit status: 0 all are accepted, 1 one is refused, 2 one cannot be read.
 
 fn run(args: Args) -> Result<Status, Trouble> {
     let names = args.some_operands("FILE")?;
-    input::each(names, |input| {
-        let (status, verdict) = match eif::read(&input.bytes) {
+    let read = |name: &OsStr| input::arrive(name, Keep::Nothing);
+    input::each(names, read, |input| {
+        let (status, verdict) = match &input.answer {
             Ok(_) => (Status::Fine, "accepted".to_string()),
             Err(refusal) => (Status::Refused, refusal.to_string()),
         };

@@ -42,7 +42,7 @@ fn run(args: Args) -> Result<Status, Trouble> {
         [_] => lines,
         _ => named_lines,
     };
-    input::each(names, |input| {
+    input::each(names, input::read, |input| {
         let answer = eif::registers(&input.bytes);
         output::print(&form(&input.name, &answer))?;
         Ok(answer.map_or(Status::Refused, |_| Status::Fine))

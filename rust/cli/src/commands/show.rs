@@ -3,10 +3,11 @@
 use super::Command;
 use crate::args::{Args, Options};
 use crate::content::{self, Content, Neither};
+use crate::input::{self, Arrived, Keep};
 use crate::json::{self, Object};
 use crate::status::{Status, Trouble};
-use crate::{input, objects, output, words};
-use eif::{Image, RollRecord, Section, SectionType};
+use crate::{objects, output, words};
+use eif::{Reading, RollRecord, Section, SectionType};
 use std::ffi::OsStr;
 
 pub const COMMAND: Command = Command {
@@ -35,15 +36,22 @@ type Answer<'a> = Result<Content<'a>, Neither>;
 
 fn run(args: Args) -> Result<Status, Trouble> {
     let names = args.some_operands("FILE")?;
-    let form = if args.has("--json") { object } else { text };
-    input::each(names, |input| {
-        let answer = content::read(&input.bytes);
-        output::print(&form(&input.name, &answer))?;
+    // The registers, which the objects have, are computed from the bytes.
+    let (form, keep): (fn(&Arrived, &Answer) -> Vec<u8>, _) = if args.has("--json") {
+        (object, Keep::All)
+    } else {
+        (text, Keep::Rolls)
+    };
+    let read = |name: &OsStr| input::arrive(name, keep);
+    input::each(names, read, |arrived| {
+        let answer = content::of(arrived);
+        output::print(&form(arrived, &answer))?;
         Ok(answer.map_or(Status::Refused, |_| Status::Fine))
     })
 }
 
-fn text(name: &OsStr, answer: &Answer) -> Vec<u8> {
+fn text(arrived: &Arrived, answer: &Answer) -> Vec<u8> {
+    let name = &arrived.name;
     match answer {
         Ok(Content::Image(image)) => words::about(name, &image_text(image)),
         Ok(Content::Roll(roll)) => words::about(name, &roll_text(roll.records())),
@@ -51,7 +59,7 @@ fn text(name: &OsStr, answer: &Answer) -> Vec<u8> {
     }
 }
 
-fn image_text(image: &Image) -> String {
+fn image_text(image: &Reading) -> String {
     let mut text = format!(
         "image\n  version       {}\n  flags         {:#06x} ({})\n  default_mem   {}\n  default_cpus  {}\n",
         image.version(),
@@ -94,9 +102,10 @@ fn row(
     format!("  {index:>5}  {kind:12}  {place:>10}  {size:>10}\n")
 }
 
-fn object(name: &OsStr, answer: &Answer) -> Vec<u8> {
+fn object(arrived: &Arrived, answer: &Answer) -> Vec<u8> {
+    let name = &arrived.name;
     let object = match answer {
-        Ok(Content::Image(image)) => image_members(objects::on_file(name, true), image),
+        Ok(Content::Image(image)) => image_object(arrived, image),
         Ok(Content::Roll(roll)) => {
             let records = roll.records().iter().enumerate();
             let records = records.map(|(index, record)| record_object(index, record));
@@ -107,17 +116,21 @@ fn object(name: &OsStr, answer: &Answer) -> Vec<u8> {
     (object.text() + "\n").into_bytes()
 }
 
-fn image_members(object: Object, image: &Image) -> Object {
+fn image_object(arrived: &Arrived, image: &Reading) -> Object {
     let sections = image.sections().iter().enumerate();
     let sections = sections.map(|(index, section)| section_object(index, section));
-    let object = object
+    let object = objects::on_file(&arrived.name, true)
         .put("version", image.version())
         .put("flags", image.flags())
         .put("architecture", json::string(image.architecture().name()))
         .put("default_mem", image.default_mem())
         .put("default_cpus", image.default_cpus())
         .put("sections", json::list(sections));
-    objects::put_measurements(object, &image.registers())
+    match eif::registers(&arrived.bytes) {
+        Ok(registers) => objects::put_measurements(object, &registers),
+        // These bytes were accepted, so there is no refusal.
+        Err(refusal) => objects::refused(&arrived.name, &refusal),
+    }
 }
 
 fn section_object(index: usize, section: &Section) -> String {

@@ -7,11 +7,13 @@
 use super::Command;
 use crate::args::{Args, Options};
 use crate::content::{self, Content};
-use crate::input::{self, Input};
+use crate::input::{self, Arrived, Keep};
 use crate::output;
 use crate::status::{Status, Trouble};
 use crate::words;
+use eif::{Image, Refusal};
 use side::Side;
+use std::borrow::Cow;
 
 mod difference;
 mod elsewhere;
@@ -47,7 +49,7 @@ Exit status: 0 same, 1 different or refused, 2 one cannot be read.
 fn run(args: Args) -> Result<Status, Trouble> {
     let names = args.operands(["A", "B"])?;
     input::one_standard_input(&names.map(|name| name.to_os_string()))?;
-    let [a, b] = names.map(input::read);
+    let [a, b] = names.map(|name| input::arrive(name, Keep::All));
     let (a, b) = (a?, b?);
     let (status, text) = match (accepted(&a), accepted(&b)) {
         (Ok(of_a), Ok(of_b)) => compare((&a, of_a), (&b, of_b)),
@@ -62,26 +64,34 @@ fn run(args: Args) -> Result<Status, Trouble> {
     output::print(&text).map(|()| status)
 }
 
-/// What an input holds and its roll, or its refusal in words.
-type Accepted<'a> = (Content<'a>, Vec<u8>);
+/// What an input holds, if that is an image, and its roll.
+type Accepted<'a> = (Option<Image<'a>>, Cow<'a, [u8]>);
 
-fn accepted(input: &Input) -> Result<Accepted<'_>, Vec<u8>> {
-    let content = content::read(&input.bytes).map_err(|neither| neither.lines(&input.name))?;
-    let roll = match content {
-        Content::Image(_) => eif::roll_to_vec(&input.bytes),
-        Content::Roll(_) => Ok(input.bytes.clone()),
-    };
-    match roll {
-        Ok(roll) => Ok((content, roll)),
-        Err(refusal) => Err(words::refusal(&input.name, &refusal)),
+/// The same, or its refusal in words.
+fn accepted(input: &Arrived) -> Result<Accepted<'_>, Vec<u8>> {
+    match content::of(input) {
+        Ok(Content::Image(_)) => {
+            image_and_roll(&input.bytes).map_err(|refusal| words::refusal(&input.name, &refusal))
+        }
+        Ok(Content::Roll(roll)) => Ok((None, Cow::Borrowed(roll.bytes()))),
+        Err(neither) => Err(neither.lines(&input.name)),
     }
 }
 
-fn compare(a: (&Input, Accepted), b: (&Input, Accepted)) -> (Status, Vec<u8>) {
+fn image_and_roll(bytes: &[u8]) -> Result<Accepted<'_>, Refusal> {
+    let image = eif::read(bytes)?;
+    // A roll is shorter than its image, so that its length need not be asked for.
+    let mut roll = vec![0; bytes.len()];
+    let length = eif::write_roll(bytes, &mut roll)?;
+    roll.truncate(length);
+    Ok((Some(image), Cow::Owned(roll)))
+}
+
+fn compare(a: (&Arrived, Accepted), b: (&Arrived, Accepted)) -> (Status, Vec<u8>) {
     let (a_name, b_name) = (&a.0.name, &b.0.name);
     let (a, b) = (
-        Side::new("A", &a.1 .0, &a.1 .1),
-        Side::new("B", &b.1 .0, &b.1 .1),
+        Side::new("A", a.1 .0.as_ref(), &a.1 .1),
+        Side::new("B", b.1 .0.as_ref(), &b.1 .1),
     );
     let same = a.roll == b.roll;
     let (status, verdict): (_, &[u8]) = if same {

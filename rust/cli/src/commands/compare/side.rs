@@ -1,6 +1,5 @@
 //! One of the two that are compared.
 
-use crate::content::Content;
 use crate::words;
 use eif::{Image, Section, SectionType};
 
@@ -26,11 +25,11 @@ pub struct Side<'a> {
 }
 
 impl<'a> Side<'a> {
-    pub fn new(letter: &'static str, content: &'a Content<'a>, roll: &'a [u8]) -> Side<'a> {
+    pub fn new(letter: &'static str, image: Option<&'a Image<'a>>, roll: &'a [u8]) -> Side<'a> {
         let mut side = Side {
             letter,
             roll,
-            image: None,
+            image,
             records: Vec::new(),
             others: Vec::new(),
         };
@@ -47,8 +46,7 @@ impl<'a> Side<'a> {
                 });
             side.records = records.collect();
         }
-        if let Content::Image(image) = content {
-            side.image = Some(image);
+        if let Some(image) = image {
             side.find_sections(image);
         }
         side
