@@ -1,8 +1,8 @@
-# `make run` shows an image, `make test` proves and tests everything. README.md says what each needs.
+# `make run` checks an image, `make test` proves and tests everything. README.md says what each needs.
 SHELL := /bin/sh
 .DEFAULT_GOAL := help
 .NOTPARALLEL:
-.PHONY: help run test prove kit staticlib eif show-test c-test rust-test rust-lint install-test bench doc install
+.PHONY: help run test test-large prove kit staticlib eif show-test c-test rust-test rust-lint install-test bench doc install
 
 IMAGE ?= samples/worked.eif
 PREFIX ?= /usr/local
@@ -27,12 +27,13 @@ export EIF_LIB_DIR
 
 help:
 	@echo 'make eif                  the command: target/bin/eif'
-	@echo 'make run [IMAGE=file]     show an image with the small proved program, samples/worked.eif if none is named'
+	@echo 'make run [IMAGE=file]     check an image of any size with the small proved program, samples/worked.eif if none is named'
 	@echo 'make test                 prove every crate, try every must-fail edit, run every program and test'
 	@echo 'make prove                the proofs, edits and programs alone: rt ci'
 	@echo 'make rust-test c-test     the command and the library from Rust; the library from C'
 	@echo 'make rust-lint doc        lints of the Rust code, its documentation'
-	@echo 'make bench                speed beside the plain Rust twin'
+	@echo 'make test-large           the tests that keep images of 1 GiB in memory: minutes, 6 GiB'
+	@echo 'make bench                speed beside the plain Rust twin; BENCH_LARGE=1: images of 1 GiB too'
 	@echo 'make install PREFIX=dir   command, man page, C header, archive, pkg-config file'
 
 kit:
@@ -40,9 +41,9 @@ kit:
 
 run: kit
 	@mkdir -p target
-	@test -x target/bin/eif_show || echo 'proving and building the program first: a minute or two' >&2
-	@$(RT) check eif_show >target/run.log 2>&1 || { cat target/run.log; exit 1; }
-	@target/bin/eif_show <'$(IMAGE)'
+	@test -x target/bin/eif_check || echo 'proving and building the program first: a minute or two' >&2
+	@$(RT) check eif_check >target/run.log 2>&1 || { cat target/run.log; exit 1; }
+	@target/bin/eif_check <'$(IMAGE)'
 
 # Where cargo is too old for the Rust tests, the rest is tried all the same and the last line says what is missing. Otherwise the
 # last line is the kit's verdict.
@@ -66,6 +67,8 @@ eif: $(archive)
 show-test: kit
 	$(RT) check eif_show
 	tests/show.sh target/bin/eif_show
+	$(RT) check eif_check
+	tests/check.sh target/bin/eif_check
 
 c-test: $(archive)
 	tests/need.sh gcc $(CC)
@@ -88,12 +91,16 @@ rust-test: $(archive)
 	@tests/cargo.sh $(CARGO)
 	cd rust && $(CARGO) test --release $(CARGO_FLAGS)
 
+test-large: $(archive)
+	@tests/cargo.sh $(CARGO)
+	cd rust && $(CARGO) test --release $(CARGO_FLAGS) large -- --ignored --test-threads 1
+
 rust-lint:
 	cd rust && $(CARGO) fmt --check
 	cd rust && $(CARGO) clippy --release --all-targets $(CARGO_FLAGS) -- -D warnings
 
 bench: $(archive)
-	cd rust && $(CARGO) run --release $(CARGO_FLAGS) -p eif-bench
+	cd rust && BENCH_LARGE=$(BENCH_LARGE) $(CARGO) run --release $(CARGO_FLAGS) -p eif-bench
 
 doc:
 	cd rust && RUSTDOCFLAGS="-D warnings" $(CARGO) doc --no-deps $(CARGO_FLAGS)

@@ -57,7 +57,7 @@ extern "C" {
 #endif
 
 /* The longest image in bytes. A buffer of this length takes any image, roll or stream. */
-#define EIF_MAX_IMAGE_LENGTH 16777216
+#define EIF_MAX_IMAGE_LENGTH 1073741824
 
 /* Length of the image's header. A plain image has EIF_HEADER_LENGTH bytes and, for each section,
  * EIF_SECTION_HEADER_LENGTH bytes and its data. */
@@ -115,7 +115,7 @@ enum eif_number {
 static inline const char *eif_meaning(uint8_t number) {
     switch (number) {
     case EIF_ACCEPTED: return "accepted";
-    case EIF_IMAGE_TOO_LONG: return "image longer than 16,777,216 bytes";
+    case EIF_IMAGE_TOO_LONG: return "image longer than 1,073,741,824 bytes";
     case EIF_IMAGE_TOO_SHORT: return "image shorter than 548 bytes";
     case EIF_WRONG_MAGIC: return "wrong magic";
     case EIF_WRONG_VERSION: return "version not 2, 3 or 4";

@@ -93,6 +93,11 @@ static void try_write(const uint8_t *image) {
     check(is(eif_write(plan, data, 2, out, sizeof out), EIF_ACCEPTED, IMAGE_LENGTH), "write");
     check(memcmp(out, image, IMAGE_LENGTH) == 0, "image written");
     check(stays(out, IMAGE_LENGTH, sizeof out), "output past the image");
+
+    put_place(&plan, 0, EIF_KERNEL, EIF_MAX_IMAGE_LENGTH - IMAGE_LENGTH + 1);
+    check(is(eif_plan_length(plan), EIF_ACCEPTED, EIF_MAX_IMAGE_LENGTH), "the longest image");
+    put_place(&plan, 2, EIF_RAMDISK, 1);
+    check(is(eif_plan_length(plan), EIF_IMAGE_TOO_LONG, 0), "a byte more than the longest");
 }
 
 static void try_read(const uint8_t *image) {

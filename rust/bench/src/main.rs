@@ -11,6 +11,7 @@ mod sample;
 mod table;
 mod timing;
 
+use std::env;
 use std::fs;
 use std::process::Command;
 
@@ -36,19 +37,31 @@ fn machine() -> String {
 
 const MIB: usize = 1 << 20;
 
+/// The lengths of the images: to 64 MiB and, where BENCH_LARGE is set, the longest, which takes minutes and
+/// 6 GiB.
+fn lengths() -> Vec<usize> {
+    let large = env::var_os("BENCH_LARGE").is_some_and(|value| !value.is_empty());
+    let longest = large.then_some(eif::MAX_IMAGE_LENGTH);
+    [MIB, 16 * MIB, 64 * MIB]
+        .into_iter()
+        .chain(longest)
+        .collect()
+}
+
 fn main() {
     println!("Machine: {}.", machine());
     println!();
     println!(
-        "Library and twin in one run, in turn, {} rounds, both built for release; times are \
-         medians. The twin computes the checksum by a table of 256 entries, SHA-384 by the \
+        "Library and twin in one run, in turn, {} rounds, {} where a call takes longer than half a \
+         second, both built for release; times are medians. The twin computes the checksum by a table of 256 entries, SHA-384 by the \
          standard's loops, and for the registers hashes all three streams. Each has an output \
          buffer of its own, which its first, untimed call fills and which is not cleared between \
          calls; inputs are the same bytes in the same place.",
-        timing::ROUNDS
+        timing::ROUNDS,
+        timing::FEW_ROUNDS,
     );
     table::head("twin");
-    for length in [MIB, 16 * MIB] {
+    for length in lengths() {
         images::measure(length);
         pieces::beside_twin(length);
         hashing::registers(length);
@@ -69,7 +82,7 @@ fn arriving_beside_whole() {
          Each piece is handed over where it lies; none is copied."
     );
     table::head("whole");
-    for length in [MIB, 16 * MIB] {
+    for length in lengths() {
         arriving::beside_whole(length);
     }
 }

@@ -5,6 +5,10 @@ use std::time::{Duration, Instant};
 
 /// How many rounds there are.
 pub const ROUNDS: usize = 31;
+/// How many there are of calls that take long.
+pub const FEW_ROUNDS: usize = 5;
+/// What is long.
+const LONG: Duration = Duration::from_millis(500);
 /// A round repeats a short call until it has taken about this long.
 const ROUND_TIME: Duration = Duration::from_millis(4);
 
@@ -27,8 +31,9 @@ fn median(mut times: Vec<f64>) -> f64 {
 
 /// Seconds for one call of each: medians over the rounds. In each round all are called in turn, and the
 /// one that goes first changes.
-pub fn medians<const N: usize>(calls: [Call; N]) -> [f64; N] {
-    medians_of(ROUNDS, calls)
+pub fn medians<const N: usize>(mut calls: [Call; N]) -> [f64; N] {
+    let long = calls.iter_mut().any(|call| time(1, *call) > LONG);
+    medians_of(if long { FEW_ROUNDS } else { ROUNDS }, calls)
 }
 
 /// The same over so many rounds, for calls that take seconds.

@@ -114,6 +114,37 @@ pub fn image_of_length(length: usize) -> Vec<u8> {
     Layout::new(2, vec![Section::new(1, &kernel), Section::new(2, &[])]).image()
 }
 
+/// An image of exactly `length` bytes that meets every rule but perhaps the first: an empty command line and
+/// a kernel of zeros. The zeros are the allocator's own and take no memory until they are written to, so
+/// that the longest image can be had.
+///
+/// # Panics
+///
+/// As [`image_of_length`].
+pub fn zero_image(length: usize) -> Vec<u8> {
+    let mut image = vec![0; length];
+    put(&mut image, 0, &zero_image_start(length));
+    image
+}
+
+/// The bytes of [`zero_image`] before the kernel's zeros.
+///
+/// # Panics
+///
+/// As [`image_of_length`].
+pub fn zero_image_start(length: usize) -> Vec<u8> {
+    let layout = Layout::new(2, vec![Section::new(2, &[]), Section::new(1, &[])]);
+    let mut start = layout.unsealed();
+    let zeros = length - start.len();
+    put_number(&mut start, SIZES_AT + 8, zeros as u64);
+    let own_size = start.len() - 8;
+    put_number(&mut start, own_size, zeros as u64);
+    let checksum = crc32(&[&start[..CHECKSUM_AT], &start[HEADER..]]);
+    let checksum = crc32_then_zeros(checksum, zeros);
+    put(&mut start, CHECKSUM_AT, &checksum.to_be_bytes());
+    start
+}
+
 /// The worked image with an edit, then sealed again.
 fn edited(edit: impl FnOnce(&mut Vec<u8>)) -> Vec<u8> {
     let mut image = worked_layout().image();

@@ -1,7 +1,5 @@
 //! Images laid out byte by byte, with no rule judged.
 
-/// The longest image.
-pub const MAX_IMAGE: usize = 16_777_216;
 /// The most sections.
 pub const MAX_SECTIONS: usize = 32;
 /// Length of the image's header.
@@ -21,14 +19,35 @@ pub const CHECKSUM_AT: usize = 544;
 
 /// CRC-32 of `parts` joined, bit by bit.
 pub fn crc32(parts: &[&[u8]]) -> u32 {
-    let mut crc = !0;
-    for &byte in parts.iter().copied().flatten() {
-        crc ^= u32::from(byte);
-        for _ in 0..8 {
-            crc = (crc >> 1) ^ (0xEDB8_8320 & (crc & 1).wrapping_neg());
+    let bytes = parts.iter().copied().flatten();
+    !bytes.fold(!0, |crc, &byte| after_zero_byte(crc ^ u32::from(byte)))
+}
+
+/// The remainder after a zero byte.
+fn after_zero_byte(remainder: u32) -> u32 {
+    (0..8).fold(remainder, |crc, _| {
+        (crc >> 1) ^ (0xEDB8_8320 & (crc & 1).wrapping_neg())
+    })
+}
+
+/// CRC-32 of bytes whose own is `crc` and of `count` zero bytes after them. What a zero byte makes of a
+/// remainder is linear, so that it is given by what it makes of each bit, and doing it twice is too.
+pub fn crc32_then_zeros(crc: u32, count: usize) -> u32 {
+    let apply = |zeros: &[u32; 32], remainder: u32| {
+        let bits = (0..32).filter(|bit| remainder >> bit & 1 == 1);
+        bits.fold(0, |sum, bit| sum ^ zeros[bit])
+    };
+    let mut zeros: [u32; 32] = std::array::from_fn(|bit| after_zero_byte(1 << bit));
+    // A remainder is the inverse of a checksum.
+    let (mut remainder, mut left) = (!crc, count);
+    while left > 0 {
+        if left % 2 == 1 {
+            remainder = apply(&zeros, remainder);
         }
+        zeros = zeros.map(|of_bit| apply(&zeros, of_bit));
+        left /= 2;
     }
-    !crc
+    !remainder
 }
 
 /// Writes `bytes` over `image` from `at`.

@@ -7,6 +7,7 @@
 //! let image = eif_cases::worked_image();
 //! assert_eq!(image.len(), 586);
 //! assert_eq!(eif_cases::crc32(&[b"123456789"]), 0xCBF4_3926);
+//! assert_eq!(eif_cases::crc32_then_zeros(0xCBF4_3926, 9), eif_cases::crc32(&[b"123456789", &[0; 9]]));
 //! ```
 #![forbid(unsafe_code)]
 #![deny(missing_docs)]
@@ -19,10 +20,10 @@ mod rolls;
 pub use digests::{digest_cases, hex, register_cases, DigestCase};
 pub use images::{
     command_line_first, image_cases, image_of_length, stream_cases, two_sections, worked_image,
-    ImageCase, StreamCase,
+    zero_image, zero_image_start, ImageCase, StreamCase,
 };
 pub use layout::{
-    crc32, put, put_number, seal, section_end, Layout, Section, CHECKSUM_AT, COUNT_AT, HEADER,
-    MAX_IMAGE, MAX_SECTIONS, OFFSETS_AT, SECTION_HEADER, SIZES_AT, VERSION_AT,
+    crc32, crc32_then_zeros, put, put_number, seal, section_end, Layout, Section, CHECKSUM_AT,
+    COUNT_AT, HEADER, MAX_SECTIONS, OFFSETS_AT, SECTION_HEADER, SIZES_AT, VERSION_AT,
 };
 pub use rolls::{record, roll_cases, roll_of, RollCase, Row, RECORD_HEADER, WORKED_ROLL};

@@ -2,7 +2,7 @@
 
 use eif::raw::{self, Arriving as State};
 use eif::{Arriving, Reading, Refusal};
-use eif_cases::{image_cases, image_of_length, worked_image, MAX_IMAGE};
+use eif_cases::{image_cases, worked_image};
 use eif_check::{state_of, LENGTHS};
 use std::io::{self, Write};
 
@@ -99,27 +99,6 @@ fn nothing_is_taken_after_the_end() -> io::Result<()> {
     let error = arriving.write_all(b"x").unwrap_err();
     assert_eq!(error.kind(), io::ErrorKind::WriteZero);
     arriving.flush()
-}
-
-/// A long file's magic is wrong before its end, and its answer is 1 all the same.
-#[test]
-fn nothing_is_answered_too_soon() {
-    let mut arriving = Arriving::new();
-    let zeros = vec![0; 1 << 16];
-    while arriving.taken() <= MAX_IMAGE as u64 {
-        let so_far = arriving.clone().finish().unwrap_err().number();
-        assert_eq!(so_far, if arriving.taken() < 548 { 2 } else { 3 });
-        arriving.feed(&zeros);
-    }
-    assert_eq!(arriving.finish().unwrap_err().number(), 1);
-}
-
-#[test]
-fn the_longest_image() {
-    let longer = image_of_length(MAX_IMAGE + 1);
-    assert_eq!(arrived(longer.chunks(4096)).unwrap_err().number(), 1);
-    let longest = image_of_length(MAX_IMAGE);
-    assert_eq!(arrived(longest.chunks(4096)), read(&longest));
 }
 
 /// The counter stops at its end: bytes are still taken, and the answer is 1.

@@ -2,7 +2,8 @@
 //!
 //! The environment variable EIF_SEED gives another seed, and EIF_TIMES that many times the inputs.
 
-use eif_cases::{image_of_length, record, MAX_IMAGE};
+use eif::MAX_IMAGE_LENGTH;
+use eif_cases::{put, record, zero_image, RECORD_HEADER};
 use eif_check::*;
 use std::env;
 use std::io::{self, Write};
@@ -87,39 +88,20 @@ fn states(seed: u64, ordinals: Range<u64>, tally: &mut Tally) {
     }
 }
 
-/// Images about as long as they may be.
+/// Images longer than they may be. No call looks at their bytes.
 fn long_images(seed: u64, tally: &mut Tally) {
     let mut rng = Rng::of_input(seed, u64::MAX);
-    for length in [MAX_IMAGE - 1, MAX_IMAGE] {
-        compare_image(&mut rng, length as u64, &image_of_length(length), tally);
-    }
-    let longer = image_of_length(MAX_IMAGE + 100);
-    for length in MAX_IMAGE + 1..=longer.len() {
+    let longer = zero_image(MAX_IMAGE_LENGTH + 100);
+    for length in MAX_IMAGE_LENGTH + 1..=longer.len() {
         compare_image(&mut rng, length as u64, &longer[..length], tally);
     }
 }
 
-/// Plans whose images are about as long as they may be, with their data.
-fn long_plans(seed: u64, tally: &mut Tally) {
-    let mut rng = Rng::of_input(!seed, u64::MAX);
-    for length in MAX_IMAGE - 1..=MAX_IMAGE + 1 {
-        for output in [length - 1, length, length + 9] {
-            let mut given = accepted_plan(&mut rng);
-            let missing = length - 548 - 12 * usize::from(given.plan.count) - given.data.len();
-            given.plan.places[0].length.0 += missing as u64;
-            given.data.resize(given.data.len() + missing, 0x5a);
-            given.output = output;
-            compare_plan(&mut rng, length as u64, &given, tally);
-        }
-    }
-}
-
-/// Rolls whose images would be about as long as they may be.
+/// Rolls whose images would be about as long as they may be. Their data are zeros that take no memory.
 fn long_rolls(tally: &mut Tally) {
-    let most = MAX_IMAGE - 548 - 24;
+    let most = MAX_IMAGE_LENGTH - 548 - 24;
     for length in most - 3..most + 4 {
-        let mut roll = record(length as u64, 1, &vec![0x5a; length]);
-        let kernel = roll.len();
+        let kernel = RECORD_HEADER + length;
         for rest in [
             &[record(0, 2, &[]), record(0, 0, &[])][..],
             &[record(1, 2, &[7]), record(0, 0, &[])],
@@ -128,8 +110,10 @@ fn long_rolls(tally: &mut Tally) {
             &[record(0, 3, &[]), record(0, 0, &[])],
             &[record(0, 2, &[])],
         ] {
-            roll.truncate(kernel);
-            roll.extend(rest.concat());
+            let rest = rest.concat();
+            let mut roll = vec![0; kernel + rest.len()];
+            put(&mut roll, 0, &record(length as u64, 1, &[]));
+            put(&mut roll, kernel, &rest);
             compare_roll(length as u64, &roll, tally);
         }
     }
@@ -159,7 +143,6 @@ fn library_and_twin_agree() {
             states(seed, share(STATES * times, part, parts), &mut tally);
             if part == 0 {
                 long_images(seed, &mut tally);
-                long_plans(seed, &mut tally);
             }
             if part == parts - 1 {
                 long_rolls(&mut tally);

@@ -3,8 +3,8 @@
 use eif::raw::{self, Answer};
 use eif::{DataLength, Place, Plan, Refusal, SectionType, Stream, StreamPosition};
 use eif_cases::{
-    command_line_first, image_cases, image_of_length, roll_cases, stream_cases, two_sections,
-    worked_image, MAX_IMAGE, WORKED_ROLL,
+    command_line_first, image_cases, roll_cases, stream_cases, two_sections, worked_image,
+    WORKED_ROLL,
 };
 use std::io::Read;
 
@@ -111,15 +111,6 @@ fn images() {
             assert_eq!(reading, refused, "{}", case.name);
         }
     }
-}
-
-#[test]
-fn the_longest_image() {
-    let longest = image_of_length(MAX_IMAGE);
-    let image = eif::read(&longest).unwrap();
-    assert_eq!(image.section_data(0).len(), MAX_IMAGE - 548 - 24);
-    let longer = image_of_length(MAX_IMAGE + 1);
-    assert_eq!(eif::read(&longer).map_err(pair).unwrap_err(), (1, 0));
 }
 
 #[test]

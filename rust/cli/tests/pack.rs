@@ -3,8 +3,10 @@
 mod common;
 
 use common::{repository, Folder};
-use eif_cases::{stream_cases, worked_image, WORKED_ROLL};
+use eif::{Reason, MAX_IMAGE_LENGTH};
+use eif_cases::{stream_cases, worked_image, zero_image_start, WORKED_ROLL};
 use std::fs;
+use std::process::Command;
 
 #[test]
 fn what_is_packed_comes_back() {
@@ -103,10 +105,6 @@ fn a_plan_that_is_refused_leaves_nothing() {
             "--format 3 --metadata metadata",
             "refused 9 at 2: type not allowed in this version",
         ),
-        (
-            "--ramdisk /dev/zero",
-            "refused 1 at 0: image longer than 16,777,216 bytes",
-        ),
     ] {
         let ended = folder.eif(&format!("{words} {options}"));
         ended.complains(1, &format!("new.eif: {refusal}\n"));
@@ -118,6 +116,43 @@ fn a_plan_that_is_refused_leaves_nothing() {
         "new.eif: refused 5 at 0: number of sections not 2 to 32\n",
     );
     assert_eq!(folder.names(), before);
+}
+
+#[test]
+#[ignore = "keeps a GiB in memory: make test-large"]
+fn large_a_part_without_end() {
+    let folder = Folder::new();
+    folder.pack("image", &["old"], "");
+    let before = folder.names();
+    let words = "pack --kernel kernel --cmdline quiet --ramdisk /dev/zero --output new.eif";
+    let refusal = format!("new.eif: refused 1 at 0: {}\n", Reason::ImageTooLong);
+    folder.eif(words).complains(1, &refusal);
+    assert_eq!(folder.names(), before);
+}
+
+/// The longest image goes through every subcommand that keeps its bytes.
+#[test]
+#[ignore = "keeps some GiB in memory and on disk: make test-large"]
+fn large_the_longest_image() {
+    let folder = Folder::new();
+    let start = zero_image_start(MAX_IMAGE_LENGTH);
+    let zeros = MAX_IMAGE_LENGTH - start.len();
+    folder.put_sparse("longest", start, MAX_IMAGE_LENGTH);
+    assert_eq!(folder.eif("show --json longest").status, 0);
+    folder.eif("roll longest --output roll").says(0, "");
+    let said = folder.eif("compare longest roll");
+    assert!(said.text().starts_with("same boot content\n"));
+    assert_eq!(said.status, 0);
+    assert!(folder
+        .eif("show roll")
+        .text()
+        .starts_with("roll: boot roll\n"));
+    folder.put_sparse("zeros", [], zeros);
+    folder.eif("extract longest 1 --output kernel").says(0, "");
+    let same = Command::new("cmp")
+        .args([folder.path("kernel"), folder.path("zeros")])
+        .status();
+    assert!(same.unwrap().success());
 }
 
 #[test]

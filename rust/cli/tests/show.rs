@@ -4,8 +4,8 @@ mod common;
 
 use common::json::{parse, Value};
 use common::{Ended, Folder};
-use eif::Reason;
-use eif_cases::{image_cases, image_of_length, worked_image, Layout, Section, MAX_IMAGE};
+use eif::{Reason, MAX_IMAGE_LENGTH};
+use eif_cases::{image_cases, image_of_length, worked_image, zero_image_start, Layout, Section};
 use std::process::Command;
 
 const SHOWN: &str = "\
@@ -198,11 +198,18 @@ fn every_number_of_the_reader_is_told() {
 #[test]
 fn the_longest_image_and_one_byte_more() {
     let folder = Folder::new();
-    folder.put("longest", image_of_length(MAX_IMAGE));
-    folder.put("longer", image_of_length(MAX_IMAGE + 1));
-    let lines = "longest: accepted\nlonger: refused 1 at 0: image longer than 16,777,216 bytes\n";
-    folder.eif("check longest longer").says(1, lines);
-    folder.eif("check --quiet longest").says(0, "");
+    for (name, length) in [
+        ("longest", MAX_IMAGE_LENGTH),
+        ("longer", MAX_IMAGE_LENGTH + 1),
+    ] {
+        folder.put_sparse(name, zero_image_start(length), length);
+    }
+    let lines = format!("longest: accepted\nlonger: {}\n", too_long());
+    folder.eif("check longest longer").says(1, &lines);
+}
+
+fn too_long() -> String {
+    format!("refused 1 at 0: {}", Reason::ImageTooLong)
 }
 
 /// With less memory than the image has bytes.
@@ -229,8 +236,8 @@ fn an_image_takes_no_memory_of_its_size() {
 
 #[test]
 fn input_without_end_ends() {
-    let refused = "/dev/zero: refused 1 at 0: image longer than 16,777,216 bytes\n";
-    Folder::new().eif("check /dev/zero").says(1, refused);
+    let refused = format!("/dev/zero: {}\n", too_long());
+    Folder::new().eif("check /dev/zero").says(1, &refused);
 }
 
 #[test]

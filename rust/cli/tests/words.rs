@@ -116,6 +116,30 @@ fn the_header_has_the_same_limits() {
     assert_eq!(macro_value(&header, "EIF_MAX_MESSAGE_LENGTH"), most);
 }
 
+/// `1,073,741,824`.
+fn grouped(number: usize) -> String {
+    let digits = number.to_string();
+    let groups: Vec<&str> = digits
+        .as_bytes()
+        .rchunks(3)
+        .rev()
+        .map(|group| std::str::from_utf8(group).expect("digits"))
+        .collect();
+    groups.join(",")
+}
+
+/// Words that name the longest image: in the crate, to which the header and the manual are held, and in
+/// the rules.
+#[test]
+fn one_limit() {
+    let most = grouped(eif::MAX_IMAGE_LENGTH);
+    let meaning = format!("image longer than {most} bytes");
+    assert_eq!(Reason::ImageTooLong.meaning(), meaning);
+    let format = repository_text("docs/FORMAT.md");
+    assert!(format
+        .contains(&format!("\n| 1 | the {meaning} | 0 |\n").replace("the image", "the image is")));
+}
+
 #[test]
 fn one_version() {
     let header = repository_text("include/eif.h");

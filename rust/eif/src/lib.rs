@@ -105,7 +105,7 @@ pub use sha384::{Digest, Sha384};
 pub use stream::{copy_stream, stream_length, stream_to_vec, Stream, StreamReader, StreamSections};
 
 /// The longest image, in bytes. A buffer of this length takes any image, roll or stream.
-pub const MAX_IMAGE_LENGTH: usize = 16_777_216;
+pub const MAX_IMAGE_LENGTH: usize = 1_073_741_824;
 
 /// The most sections that an image can have, and the most records that a roll can have beside its
 /// end record.

@@ -54,7 +54,7 @@ macro_rules! reasons {
 }
 
 reasons! {
-    1 ImageTooLong: "image longer than 16,777,216 bytes",
+    1 ImageTooLong: "image longer than 1,073,741,824 bytes",
         "ask for the file's size and fetch it again";
     2 ImageTooShort: "image shorter than 548 bytes",
         "fetch it again";

@@ -27,6 +27,6 @@ pub use image::{read, Reading, Section};
 pub use plan::{plan_length, write, Place, Plan};
 pub use registers::registers;
 pub use roll::{read_roll, roll_length, write_roll, Record};
-pub use rules::Refusal;
+pub use rules::{Refusal, MAX_IMAGE};
 pub use sha384::Sha384;
 pub use stream::{copy_sections, copy_stream, stream_length, stream_sections, Stream};

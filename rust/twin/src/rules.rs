@@ -1,6 +1,8 @@
 //! What the reader, the writer and the roll have in common.
 
-pub(crate) const MAX_IMAGE: usize = 16_777_216;
+/// The longest image, in bytes.
+pub const MAX_IMAGE: usize = 1_073_741_824;
+
 pub(crate) const MAX_SECTIONS: usize = 32;
 pub(crate) const HEADER: usize = 548;
 pub(crate) const SECTION_HEADER: usize = 12;

@@ -1,8 +1,7 @@
 //! The examples of docs/FORMAT.md through the twin.
 
 use eif_cases::{
-    image_cases, image_of_length, roll_cases, stream_cases, two_sections, worked_image, MAX_IMAGE,
-    WORKED_ROLL,
+    image_cases, roll_cases, stream_cases, two_sections, worked_image, zero_image, WORKED_ROLL,
 };
 use eif_twin::*;
 
@@ -120,8 +119,8 @@ fn images() {
 
 #[test]
 fn the_longest_image() {
-    assert!(read(&image_of_length(MAX_IMAGE)).is_ok());
-    let longer = image_of_length(MAX_IMAGE + 1);
+    assert!(read(&zero_image(MAX_IMAGE)).is_ok());
+    let longer = zero_image(MAX_IMAGE + 1);
     assert_eq!(read(&longer), Err(refused(1, 0)));
 }
 

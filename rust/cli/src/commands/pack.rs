@@ -65,7 +65,9 @@ fn run(args: Args) -> Result<Status, Trouble> {
     let sections = read_sections(&parts)?;
     let plan = plan(&parts, &sections);
     let data: Vec<&[u8]> = sections.iter().map(|(_, data)| &data[..]).collect();
-    match eif::write_to_vec(&plan, &data.concat()) {
+    // The length is asked first, so that no parts are joined that are too long.
+    let image = eif::plan_length(&plan).and_then(|_| eif::write_to_vec(&plan, &data.concat()));
+    match image {
         Ok(image) => output.write(&[&image]).map(|()| Status::Fine),
         Err(refusal) => {
             complain(&words::about(&output_name, &format!("{refusal}\n")));

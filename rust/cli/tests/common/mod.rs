@@ -74,6 +74,14 @@ impl Folder {
         fs::write(self.path(name), bytes).expect("a file is written");
     }
 
+    /// A file of these bytes and then zeros, which take no room on the disk.
+    pub fn put_sparse(&self, name: &str, start: impl AsRef<[u8]>, length: usize) {
+        self.put(name, start);
+        let file = fs::File::options().write(true).open(self.path(name));
+        let sized = file.and_then(|file| file.set_len(length as u64));
+        sized.expect("a file is made longer");
+    }
+
     pub fn get(&self, name: impl AsRef<OsStr>) -> Vec<u8> {
         fs::read(self.path(name)).expect("a file is read")
     }

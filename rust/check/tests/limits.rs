@@ -1,0 +1,137 @@
+//! The longest image and one byte more: read whole and while it arrives, written, and as a roll.
+//!
+//! The images are of zeros that take no memory until they are written to, so that only the writer's output
+//! takes as much as it says.
+
+use eif::{Arriving, DataLength, Place, Plan, Refusal, SectionType, MAX_IMAGE_LENGTH};
+use eif_cases::{put, record, zero_image, zero_image_start, RECORD_HEADER};
+use eif_check::{compare_image, Rng, Tally};
+use eif_twin as twin;
+
+/// What a plan and an image of an empty command line and a kernel have beside the kernel's data.
+const BESIDE: usize = 548 + 2 * 12;
+
+fn number(refusal: Refusal) -> (u8, u64) {
+    (refusal.number(), refusal.index())
+}
+
+const TOO_LONG: (u8, u64) = (1, 0);
+
+#[test]
+fn read() {
+    assert_eq!(MAX_IMAGE_LENGTH, twin::MAX_IMAGE);
+    let longest = zero_image(MAX_IMAGE_LENGTH);
+    let image = eif::read(&longest).unwrap();
+    let lengths: Vec<u64> = image.sections().iter().map(|s| s.length.0).collect();
+    assert_eq!(lengths, [0, (MAX_IMAGE_LENGTH - BESIDE) as u64]);
+    assert!(twin::read(&longest).is_ok());
+    let longer = zero_image(MAX_IMAGE_LENGTH + 1);
+    assert_eq!(eif::read(&longer).map_err(number).unwrap_err(), TOO_LONG);
+}
+
+/// Feeds zeros until so many bytes were taken.
+fn feed_zeros(arriving: &mut Arriving, until: usize) {
+    let zeros = [0; 1 << 16];
+    while arriving.taken() < until as u64 {
+        arriving.feed_at_most(&zeros, until as u64 - arriving.taken());
+    }
+}
+
+/// With no memory for the image.
+#[test]
+fn arriving() {
+    let mut arriving = Arriving::new();
+    arriving.feed(&zero_image_start(MAX_IMAGE_LENGTH));
+    feed_zeros(&mut arriving, MAX_IMAGE_LENGTH);
+    let mut longer = arriving.clone();
+    let reading = arriving.finish().unwrap();
+    assert_eq!(
+        reading.sections()[1].length,
+        DataLength((MAX_IMAGE_LENGTH - BESIDE) as u64)
+    );
+    feed_zeros(&mut longer, MAX_IMAGE_LENGTH + 1);
+    assert_eq!(longer.finish().map_err(number), Err(TOO_LONG));
+}
+
+/// A long file's magic is wrong before its end, and its answer is 1 all the same. Bytes past the limit are
+/// still taken and counted, past 32 bits too.
+#[test]
+fn arriving_past_the_limit() {
+    let mut arriving = Arriving::new();
+    feed_zeros(&mut arriving, MAX_IMAGE_LENGTH);
+    assert_eq!(arriving.clone().finish().map_err(number), Err((3, 0)));
+    arriving.feed(&[0]);
+    assert_eq!(arriving.clone().finish().map_err(number), Err(TOO_LONG));
+    for bits in [31, 32, 33, 63] {
+        // As if so many bytes more had come.
+        let mut state = eif::raw::Arriving::from(arriving.clone());
+        state.taken = (1 << bits) - 1;
+        let mut later = Arriving::from(state);
+        assert_eq!(later.feed(&[0; 600]), 600);
+        assert_eq!(later.taken(), (1 << bits) + 599);
+        assert_eq!(later.finish().map_err(number), Err(TOO_LONG));
+    }
+}
+
+fn plan(kernel: usize) -> Plan {
+    Plan {
+        version: 2,
+        places: vec![
+            Place::new(SectionType::COMMAND_LINE, DataLength(0)),
+            Place::new(SectionType::KERNEL, DataLength(kernel as u64)),
+        ],
+        ..Plan::default()
+    }
+}
+
+#[test]
+fn write() {
+    let kernel = MAX_IMAGE_LENGTH - BESIDE;
+    assert_eq!(eif::plan_length(&plan(kernel)), Ok(MAX_IMAGE_LENGTH));
+    let longer = eif::plan_length(&plan(kernel + 1));
+    assert_eq!(longer.map_err(number), Err(TOO_LONG));
+    let mut out = [0xaa; 600];
+    let longer = eif::write(&plan(kernel + 1), &[], &mut out);
+    assert_eq!(longer.map_err(number), Err(TOO_LONG));
+    assert_eq!(out, [0xaa; 600]);
+
+    let mut image = vec![0; MAX_IMAGE_LENGTH];
+    let written = eif::write(&plan(kernel), &vec![0; kernel], &mut image);
+    assert_eq!(written, Ok(MAX_IMAGE_LENGTH));
+    let start = zero_image_start(MAX_IMAGE_LENGTH);
+    assert!(image.starts_with(&start));
+    assert!(image[start.len()..]
+        .chunks(1 << 16)
+        .all(|c| c == &[0; 1 << 16][..c.len()]));
+}
+
+/// A roll of an empty command line and a kernel of so many zeros.
+fn roll(kernel: usize) -> Vec<u8> {
+    let heads = [record(0, 2, &[]), record(kernel as u64, 1, &[])].concat();
+    let mut roll = vec![0; heads.len() + kernel + RECORD_HEADER];
+    put(&mut roll, 0, &heads);
+    roll
+}
+
+#[test]
+fn rolls() {
+    let kernel = MAX_IMAGE_LENGTH - BESIDE;
+    let longest = roll(kernel);
+    assert_eq!(eif::read_roll(&longest).unwrap().records().len(), 2);
+    let longer = roll(kernel + 1);
+    assert_eq!(
+        eif::read_roll(&longer).map_err(number).unwrap_err(),
+        TOO_LONG
+    );
+    assert!(twin::read_roll(&longest).is_ok());
+    assert!(twin::read_roll(&longer).is_err());
+}
+
+/// Every call on the longest image, beside the twin.
+#[test]
+#[ignore = "minutes and some GiB: make test-large"]
+fn large_every_call() {
+    let mut rng = Rng::of_input(30, 0);
+    let longest = zero_image(MAX_IMAGE_LENGTH);
+    compare_image(&mut rng, 0, &longest, &mut Tally::default());
+}
