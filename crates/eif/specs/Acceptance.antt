@@ -6,7 +6,7 @@ use mathlib.Core.List.{List}
 use mathlib.Core.Logic.{_⊎_}
 use lib.ListN.{length}
 use Rattle.eif.specs.Numbers.{sizeLimit, placeCount, fewestSections, oldestVersion, newestVersion, signatureVersion, metadataVersion, kernel, commandLine, ramdisk, signature, metadata}
-use Rattle.eif.specs.Layout.{magicNumber, headerSize, viewOf, magic, checksum, versionOf, countOf, offsetAt, sizeAt, endAt, kindAt, ownSizeAt}
+use Rattle.eif.specs.Layout.{magicNumber, headerSize, viewOf, magic, checksum, versionOf, countOf, offsetAt, sizeAt, startAt, endAt, kindAt, ownSizeAt}
 use Rattle.eif.specs.Reading.{checksumOf}
 
 -- a type that a version may hold
@@ -28,9 +28,11 @@ pub record MeetsRules (s : List ℕ) : Type 0 where
   pub right-magic : magic (viewOf s) ≡ magicNumber
   pub known-version : (oldestVersion ≤ versionOf s) × (versionOf s ≤ newestVersion)
   pub known-count : (fewestSections ≤ countOf s) × (countOf s ≤ placeCount)
-  -- 6: the first section starts after the header, each other one after the one before it
-  pub after-header : headerSize ≤ offsetAt s 0
-  pub ascending : (i : ℕ) → suc i < countOf s → endAt s i ≤ offsetAt s (suc i)
+  -- 6 and 20: the first section starts at the end of the header, each other one at the end of the one before it, and the file ends
+  -- where the last one does
+  pub first-starts : offsetAt s 0 ≡ headerSize
+  pub next-starts : (i : ℕ) → suc i < countOf s → offsetAt s (suc i) ≡ endAt s i
+  pub file-ends : length s ≡ startAt s (countOf s)
   -- 7, 8, 9
   pub in-file : (i : ℕ) → i < countOf s → endAt s i ≤ length s
   pub sizes-agree : (i : ℕ) → i < countOf s → ownSizeAt s i ≡ sizeAt s i

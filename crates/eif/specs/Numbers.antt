@@ -107,5 +107,8 @@ bytesAfterEnd = 18
 abbrev pub pastStreamEnd : ℕ
 pastStreamEnd = 19
 
+abbrev pub notPacked : ℕ
+notPacked = 20
+
 abbrev pub messageTooLong : ℕ
 messageTooLong = 29

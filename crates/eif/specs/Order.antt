@@ -5,12 +5,12 @@ use mathlib.Core.Bool.{Bool, true, not}
 use mathlib.Core.List.{List, [], _∷_, _++_}
 use lib.Dec.{ltb, leb, eqb}
 use lib.ListN.{length}
-use Rattle.eif.specs.Numbers.{sizeLimit, placeCount, oldestVersion, kernel, ramdisk, imageTooLong, imageTooShort, wrongMagic, wrongVersion, wrongCount, startsEarly, endsLate, sizesDiffer, typeNotAllowed, ramdiskBeforeKernel, typeRepeated, sectionMissing, checksumDiffers, outputTooShort, dataLengthDiffers, recordCut, recordTypeWrong, bytesAfterEnd, pastStreamEnd}
+use Rattle.eif.specs.Numbers.{sizeLimit, placeCount, oldestVersion, kernel, ramdisk, imageTooLong, imageTooShort, wrongMagic, wrongVersion, wrongCount, startsEarly, endsLate, sizesDiffer, typeNotAllowed, ramdiskBeforeKernel, typeRepeated, sectionMissing, checksumDiffers, notPacked, outputTooShort, dataLengthDiffers, recordCut, recordTypeWrong, bytesAfterEnd, pastStreamEnd}
 use Rattle.eif.specs.Logic.{both, either, choose}
 use Rattle.eif.specs.Answers.{refuse}
 use Rattle.eif.specs.Rules.{versionKnown, countKnown, allowedIn, seen, missing}
 use Rattle.eif.specs.Layout.{magicNumber, headerSize, View, viewOf, magic, version, count, offset, size, checksum, end, start}
-use Rattle.eif.specs.Reading.{checksumOf}
+use Rattle.eif.specs.Reading.{hasTail, checksumOf}
 use Rattle.eif.specs.Plan.{plannedKind, plainSize, dataBefore}
 use Rattle.eif.specs.Stream.{streamOf, listedBytes}
 use Rattle.eif.specs.Roll.{recordHeadSize, recordAt, recordSize, recordKind, isEnd, imageSize, rollBytes}
@@ -52,7 +52,7 @@ unfoldable pub rulesFrom : (ℕ → List Rule) → ℕ → ℕ → List Rule
 rulesFrom at zero i = []
 rulesFrom at (suc n) i = at i ++ rulesFrom at n (suc i)
 
--- ---- reading an image: 1 to 5, then 6 to 11 section by section, then 12, then 13
+-- ---- reading an image: 1 to 5, then 6, 20 and 7 to 11 section by section, then 12, 20, 13
 
 unfoldable pub headerRules : View → List Rule
 headerRules v =
@@ -66,6 +66,7 @@ headerRules v =
 unfoldable pub sectionRules : View → ℕ → List Rule
 sectionRules v i =
     rule (ltb (offset v i) (start v i)) startsEarly i
+    ∷ rule (not (eqb (offset v i) (start v i))) notPacked i
     ∷ rule (ltb (v .size) (end v i)) endsLate i
     ∷ rule (not (eqb (v .ownSize i) (size v i))) sizesDiffer i
     ∷ typeRules (version v) (v .kind) i
@@ -74,6 +75,7 @@ unfoldable pub viewRules : View → ℕ → List Rule
 viewRules v computed =
     headerRules v ++ (rulesFrom (sectionRules v) (count v) 0
     ++ (rule (missing (v .kind) (version v) (count v)) sectionMissing 0
+    ∷ rule (hasTail v) notPacked 0
     ∷ rule (not (eqb (checksum v) computed)) checksumDiffers 0
     ∷ []))
 

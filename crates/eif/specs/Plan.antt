@@ -14,7 +14,7 @@ use Rattle.eif.specs.Logic.{choose}
 use Rattle.eif.specs.Answers.{refuse, andThen, wholeVerdict, beside}
 use Rattle.eif.specs.Rules.{versionKnown, countKnown, typeFault, missing, firstFault}
 use Rattle.eif.specs.Table.{filled}
-use Rattle.eif.specs.Layout.{magicNumber, headerSize, sectionHeaderSize, viewOf, reserved, reservedAfter, countOf, offsetAt, sizeAt, startAt}
+use Rattle.eif.specs.Layout.{magicNumber, headerSize, sectionHeaderSize, viewOf, reserved, reservedAfter, countOf, offsetAt, sizeAt}
 use Rattle.eif.specs.Reading.{verdictOf, blankSection, dataOf}
 use Rattle.eif.specs.Output.{outputFor}
 use Rattle.eif.specs.declared.Section.{Section}
@@ -148,15 +148,13 @@ writeOutput p given d = outputFor (writeVerdict p (length given) (length d)) (pl
 
 -- ---- an image read and written again
 
--- an accepted image of that form: reserved fields and unused entries zero, sections packed, nothing after the last
+-- an accepted image of that form: reserved fields and unused entries are zero; the sections of any accepted image are packed
 pub record Plain (s : List ℕ) : Type 0 where
   pub accepted : verdictOf s ≡ Accepted
   pub reserved-zero : reserved (viewOf s) ≡ 0
   pub reserved-after-zero : reservedAfter (viewOf s) ≡ 0
   pub unused-offset : (i : ℕ) → countOf s ≤ i → i < placeCount → offsetAt s i ≡ 0
   pub unused-size : (i : ℕ) → countOf s ≤ i → i < placeCount → sizeAt s i ≡ 0
-  pub packed : (i : ℕ) → i < countOf s → offsetAt s i ≡ startAt s i
-  pub ends : length s ≡ startAt s (countOf s)
 
 abbrev pub placeOf : Section → Place
 placeOf x = record { kind = x .kind; flags = x .flags; length = x .length }

@@ -1,12 +1,12 @@
--- Reading an image: the rules 1 to 13 in their order, and what a reading holds (FORMAT.md, Reading an image).
+-- Reading an image: the rules in their order, and what a reading holds (FORMAT.md, Reading an image).
 -- Assumes nothing.
 use Prim.Native.Nat.{ℕ, suc, _+_, _*_}
-use mathlib.Core.Bool.{not}
+use mathlib.Core.Bool.{Bool, not}
 use mathlib.Core.List.{List, [], _∷_, _++_}
 use lib.Dec.{ltb, eqb}
 use lib.ListN.{replicate, take, drop}
 use Rattle.crc32.specs.Crc.{crc32}
-use Rattle.eif.specs.Numbers.{sizeLimit, placeCount, ramdisk, imageTooLong, imageTooShort, wrongMagic, wrongVersion, wrongCount, startsEarly, endsLate, sizesDiffer, typeNotAllowed, sectionMissing, checksumDiffers}
+use Rattle.eif.specs.Numbers.{sizeLimit, placeCount, ramdisk, imageTooLong, imageTooShort, wrongMagic, wrongVersion, wrongCount, startsEarly, endsLate, sizesDiffer, typeNotAllowed, sectionMissing, checksumDiffers, notPacked}
 use Rattle.eif.specs.Logic.{choose}
 use Rattle.eif.specs.Answers.{refuse, andThen, wholeVerdict}
 use Rattle.eif.specs.Rules.{versionKnown, countKnown, allowedIn, orderFault, missing, firstFault}
@@ -29,23 +29,31 @@ headerRule v =
     (choose (not (countKnown (count v))) wrongCount
     0))))
 
--- 6 to 9 at section i
+-- 6, 20 and 7 to 9 at section i
 unfoldable pub entryRule : View → ℕ → ℕ
 entryRule v i =
     choose (ltb (offset v i) (start v i)) startsEarly
+    (choose (not (eqb (offset v i) (start v i))) notPacked
     (choose (ltb (v .size) (end v i)) endsLate
     (choose (not (eqb (v .ownSize i) (size v i))) sizesDiffer
     (choose (not (allowedIn (version v) (v .kind i))) typeNotAllowed
-    0)))
+    0))))
 
--- 6 to 11 at section i
+-- 6, 20 and 7 to 11 at section i
 unfoldable pub sectionRule : View → ℕ → ℕ
 sectionRule v i =
     choose (eqb (entryRule v i) 0) (orderFault (v .kind) (v .kind i) i) (entryRule v i)
 
--- 12
-unfoldable pub missingRule : View → ℕ
-missingRule v = choose (missing (v .kind) (version v) (count v)) sectionMissing 0
+-- bytes after the last section
+abbrev pub hasTail : View → Bool
+hasTail v = ltb (start v (count v)) (v .size)
+
+-- 12, then 20 for bytes after the last section
+unfoldable pub fileRule : View → ℕ
+fileRule v =
+    choose (missing (v .kind) (version v) (count v)) sectionMissing
+    (choose (hasTail v) notPacked
+    0)
 
 -- 13, for the checksum that was computed
 unfoldable pub checksumRule : View → ℕ → ℕ
@@ -53,12 +61,12 @@ checksumRule v computed = choose (not (eqb (checksum v) computed)) checksumDiffe
 
 -- ---- the verdict
 
--- by the rules 1 to 12: the header, then the sections in ascending index up to the first that fails, then what is missing
+-- by all rules but 13: the header, then the sections in ascending index up to the first that fails, then the file as a whole
 unfoldable pub judged : View → Verdict
 judged v =
     andThen (wholeVerdict (headerRule v))
     (andThen (firstFault (sectionRule v) (count v) 0)
-    (wholeVerdict (missingRule v)))
+    (wholeVerdict (fileRule v)))
 
 -- by all rules
 unfoldable pub verdictIn : View → ℕ → Verdict
@@ -152,11 +160,11 @@ readingOf v Accepted =
       ramdisks = markOf (sections v);
     }
 
--- by the rules 1 to 12
+-- by all rules but 13
 unfoldable pub readEarly : View → Reading
 readEarly v = readingOf v (judged v)
 
--- a reading by the rules 1 to 12, and then by 13: the stored checksum against the one that was computed
+-- a reading by all rules but 13, and then by 13: the stored checksum against the one that was computed
 abbrev pub sealedFor : Verdict → Reading → ℕ → ℕ → Reading
 sealedFor (Refused r) reading stored computed = reading
 sealedFor Accepted reading stored computed = choose (eqb stored computed) reading (blankReading (refuse checksumDiffers 0))

@@ -3,14 +3,15 @@
 -- Its checksum is the one that other programs compute. Assumes nothing.
 use Prim.Native.Nat.{ℕ}
 use mathlib.Core.Path.{_≡_, refl}
-use mathlib.Core.List.{List, [], _∷_, map}
+use mathlib.Core.List.{List, [], _∷_, _++_, map}
 use lib.ListN.{length, replicate}
 use Rattle.octets.specs.Bytes.{beValue, field}
 use Rattle.crc32.specs.Crc.{crc32, crcFrom, shiftBits, shiftBit}
-use Rattle.eif.specs.Numbers.{kernel, commandLine, ramdisk}
+use Rattle.eif.specs.Numbers.{kernel, commandLine, ramdisk, signature, sectionMissing, notPacked}
 use Rattle.eif.specs.Rules.{allowedIn, seen, orderFault, missing, firstFault}
+use Rattle.eif.specs.Answers.{refuse}
 use Rattle.eif.specs.Layout.{offsetAt}
-use Rattle.eif.specs.Reading.{headerRule, entryRule, sectionRule, missingRule, checksumRule, judged, verdictIn, checksumOf, verdictOf, blankSection, sectionsOf}
+use Rattle.eif.specs.Reading.{headerRule, entryRule, sectionRule, fileRule, checksumRule, judged, verdictIn, checksumOf, verdictOf, blankSection, sectionsOf}
 use Rattle.eif.specs.Plan.{blankPlace, packedAt, dataBefore, fixedFields, offsetTable, sizeTable, headerBytes, sectionHeader, sectionBytes, plainImage}
 use Rattle.eif.specs.Roll.{headOf, rollOf, recordsIn, rollBytes}
 use Rattle.eif.specs.Stream.{keeps, kept, streamSections}
@@ -51,8 +52,30 @@ unfolding checksumOf crc32 crcFrom shiftBits shiftBit plainImage headerBytes fix
 worked-checksum = refl
 
 pub worked-accepted : verdictOf workedImage ≡ Accepted
-unfolding verdictIn judged headerRule firstFault sectionRule entryRule allowedIn orderFault seen missingRule missing checksumRule field beValue checksumOf crc32 crcFrom shiftBits shiftBit plainImage headerBytes fixedFields offsetTable sizeTable packedAt sectionBytes sectionHeader dataBefore
+unfolding verdictIn judged headerRule firstFault sectionRule entryRule allowedIn orderFault seen fileRule missing checksumRule field beValue checksumOf crc32 crcFrom shiftBits shiftBit plainImage headerBytes fixedFields offsetTable sizeTable packedAt sectionBytes sectionHeader dataBefore
 worked-accepted = refl
+
+-- a byte after the last section is told after 12 and before 13
+
+pub tail-before-checksum : verdictOf (workedImage ++ 0 ∷ []) ≡ refuse notPacked 0
+unfolding verdictIn judged headerRule firstFault sectionRule entryRule allowedIn orderFault seen fileRule missing checksumRule field beValue checksumOf crc32 crcFrom shiftBits shiftBit plainImage headerBytes fixedFields offsetTable sizeTable packedAt sectionBytes sectionHeader dataBefore
+tail-before-checksum = refl
+
+-- version 3 with a kernel and a signature, and no command line
+abbrev incomplete : Plan
+incomplete =
+    record {
+      version = 3;
+      flags = 0;
+      memory = 0;
+      cpus = 0;
+      count = 2;
+      places = place kernel 1 ∷ place signature 1 ∷ replicate 30 blankPlace;
+    }
+
+pub missing-before-tail : verdictOf (plainImage incomplete (0x4b ∷ 0x61 ∷ []) ++ 0 ∷ []) ≡ refuse sectionMissing 0
+unfolding verdictIn judged headerRule firstFault sectionRule entryRule allowedIn orderFault seen fileRule missing checksumRule field beValue checksumOf crc32 crcFrom shiftBits shiftBit plainImage headerBytes fixedFields offsetTable sizeTable packedAt sectionBytes sectionHeader dataBefore
+missing-before-tail = refl
 
 abbrev read : ℕ → ℕ → ℕ → Section
 read kind position size = record { kind = kind; flags = 0; position = record { 0 = position }; length = record { 0 = size } }

@@ -178,6 +178,8 @@ impl Refusal {
 
     pub const PAST_STREAM_END: u8 = 19;
 
+    pub const NOT_PACKED: u8 = 20;
+
     pub const MESSAGE_TOO_LONG: u8 = 29;
 }
 

@@ -254,12 +254,35 @@ fn zeros_counted(label: &[u8]) {
     answer(label, &image);
 }
 
-// Bytes between the sections and after the last one.
-fn gaps_and_tail(label: &[u8]) {
-    let mut image = [0xeeu8; 700];
+// One byte after the last section of the worked example, counted by the checksum.
+fn tail(label: &[u8]) {
+    let mut image = [0u8; 587];
+    worked(&mut image);
+    case_images::seal(&mut image);
+    answer(label, &image);
+}
+
+// The same with no checksum.
+fn tail_unsealed(label: &[u8]) {
+    let mut image = [0u8; 587];
+    worked(&mut image);
+    answer(label, &image);
+}
+
+// Two sections and one byte after them.
+fn paired_tail(label: &[u8], version: u16, first: u16, second: u16) {
+    let mut image = [0u8; 574];
+    pair(&mut image, version, first, second);
+    case_images::seal(&mut image);
+    answer(label, &image);
+}
+
+// The second section one byte further on, and with it the end: a gap of one byte and no tail.
+fn gap(label: &[u8]) {
+    let mut image = [0u8; 574];
     case_images::put_header(&mut image, 2, 0, 2);
-    case_images::put_section(&mut image, 0, 560, SectionType::KERNEL, 0, b"K");
-    case_images::put_section(&mut image, 1, 600, SectionType::COMMAND_LINE, 0, b"a");
+    case_images::put_section(&mut image, 0, 548, SectionType::KERNEL, 0, b"K");
+    case_images::put_section(&mut image, 1, 562, SectionType::COMMAND_LINE, 0, b"");
     case_images::seal(&mut image);
     answer(label, &image);
 }
@@ -288,7 +311,8 @@ fn of_the_rules() {
     one_off(b"checksum one off");
     zeros_counted(b"checksum over its field as zeros");
     paired(b"command line before the kernel", 2, 2, 1);
-    gaps_and_tail(b"gaps and a tail");
+    gap(b"a gap of one byte");
+    tail(b"one byte after the last section");
 }
 
 // The numbers that are about no one section.
@@ -305,22 +329,25 @@ fn of_the_header() {
     after_seal(b"13", eight(8, 1));
 }
 
-// 6 to 11 at a first, an inner and a last section.
+// 6, 20 and 7 to 11 at a first, an inner and a last section.
 fn of_a_section() {
     full(b"6 first", eight(28, 540), nothing());
     full(b"6 inner", eight(44, 573), nothing());
     full(b"6 last", eight(68, 613), nothing());
+    full(b"20 first", eight(28, 549), nothing());
+    full(b"20 inner", eight(44, 575), nothing());
+    full(b"20 last", eight(68, 615), nothing());
+    full(
+        b"20 offset of all ones",
+        eight(44, 0xffffffffffffffff),
+        nothing(),
+    );
     full(b"7 first", eight(284, 69), nothing());
     full(b"7 inner", eight(300, 43), nothing());
     full(b"7 last", eight(324, 3), nothing());
     full(
-        b"7 offset of all ones",
-        eight(44, 0xffffffffffffffff),
-        nothing(),
-    );
-    full(
         b"7 end that wraps to 0",
-        eight(44, 0xfffffffffffffff2),
+        eight(300, 0xfffffffffffffdb6),
         nothing(),
     );
     full(b"8 first", eight(552, 2), nothing());
@@ -341,6 +368,13 @@ fn two_at_once() {
     small(b"3 and 4", four(0, 0), two(4, 9));
     small(b"4 and 5", two(4, 9), two(26, 1));
     small(b"5 and 6", two(26, 1), eight(28, 547));
+    full(b"6 at 1, 20 at 3", eight(36, 560), eight(52, 589));
+    full(b"20 at 1, 6 at 3", eight(36, 562), eight(52, 587));
+    full(
+        b"20 and 7 at 2",
+        eight(44, 575),
+        eight(300, 0xffffffffffffffff),
+    );
     full(b"6 at 1, 9 at 3", eight(36, 560), two(588, 6));
     full(b"9 at 1, 6 at 3", two(561, 6), eight(52, 587));
     full(
@@ -358,6 +392,9 @@ fn two_at_once() {
     full(b"11 at 1, 9 at 2", two(561, 1), two(574, 6));
     full(b"9 at 5, and 12", two(614, 9), nothing());
     unsealed(b"12 and 13", 4, 1, 2);
+    paired_tail(b"12, and a byte after the last section", 3, 1, 4);
+    tail_unsealed(b"a byte after the last section, and 13");
+    after_seal(b"20 at 0, and 13", eight(28, 549));
 }
 
 fn main() {

@@ -1,6 +1,6 @@
 // Reading by the rules, of what a reader kept of a file: its header, twelve bytes of each section, and its size.
 //
-// `judge` goes by the rules 1 to 12 and needs no file. `seal` adds rule 13 for a checksum that was computed. So a reader
+// `judge` goes by all rules but 13 and needs no file. `seal` adds rule 13 for a checksum that was computed. So a reader
 // that has the whole file and one that sees it in pieces share every rule.
 ghost use Prim.Native.Nat.{ℕ, _+_, _*_, _<_, _≤_};
 ghost use mathlib.Core.Path.{_≡_};
@@ -136,7 +136,7 @@ fn ends_late(size: u64, offset: u64, length: u64) -> bool
     room - offset < length
 }
 
-// The rules 6 to 9 at a section that may begin at `begin`; 0: none applies.
+// The rules 6, 20 and 7 to 9 at a section that is to begin at `begin`; 0: none applies.
 fn entry_fault(header: &[u8], heads: &[u8], size: u64, i: usize, begin: u64) -> u8
     requires { ⌜ (i < placeCount) × (headerSize ≤ size) ⌝ }
     requires { ⌜ begin ≡ start (viewFrom (now header) (now heads) size) i ⌝ }
@@ -146,6 +146,9 @@ fn entry_fault(header: &[u8], heads: &[u8], size: u64, i: usize, begin: u64) -> 
     let length = size_at(header, i);
     if offset < begin {
         return Refusal::STARTS_EARLY;
+    }
+    if offset != begin {
+        return Refusal::NOT_PACKED;
     }
     if ends_late(size, offset, length) {
         return Refusal::ENDS_LATE;
@@ -161,20 +164,22 @@ fn entry_fault(header: &[u8], heads: &[u8], size: u64, i: usize, begin: u64) -> 
     }
 }
 
-// The sections up to the first that a rule refuses, and their types.
+// The sections up to the first that a rule refuses, their types, and where the last of them ends.
 struct Walked {
     verdict: Verdict,
     sections: [Section; eif::PLACES],
     kinds: [u16; eif::PLACES],
+    end: u64,
 }
 
-// The rules 6 to 11, in ascending index.
+// The rules 6, 20 and 7 to 11, in ascending index.
 fn walk(header: &[u8], heads: &[u8], size: u64, count: usize) -> Walked
     requires { ⌜ (headerSize ≤ size) × (count ≤ placeCount) ⌝ }
     ensures { λ r. ⌜ r .verdict ≡ firstFault (sectionRule (viewFrom (now (header .entry)) (now (heads .entry)) size)) count 0 ⌝ }
     ensures { λ r. ⌜ (r .verdict ≡ Verdict.Accepted →
         (r .sections ≡ filled (section (viewFrom (now (header .entry)) (now (heads .entry)) size)) blankSection placeCount count)
-        × (r .kinds ≡ filled (viewFrom (now (header .entry)) (now (heads .entry)) size .kind) 0 placeCount count)) ⌝ }
+        × (r .kinds ≡ filled (viewFrom (now (header .entry)) (now (heads .entry)) size .kind) 0 placeCount count)
+        × (r .end ≡ start (viewFrom (now (header .entry)) (now (heads .entry)) size) count)) ⌝ }
 {
     let none = blank();
     let mut sections = [none; eif::PLACES];
@@ -218,6 +223,7 @@ fn walk(header: &[u8], heads: &[u8], size: u64, count: usize) -> Walked
         verdict,
         sections,
         kinds,
+        end: begin,
     }
 }
 
@@ -240,7 +246,7 @@ fn mark(sections: [Section; eif::PLACES]) -> u32
 
 // ---- the reading
 
-// By the rules 1 to 12. `header` is the file's header or the file itself, `heads` the twelve bytes of each section's own
+// By all rules but 13. `header` is the file's header or the file itself, `heads` the twelve bytes of each section's own
 // header one after the other; past their ends they count as no bytes.
 pub fn judge(header: &[u8], heads: &[u8], size: u64) -> Reading
     ensures { λ r. ⌜ r ≡ readEarly (viewFrom (now (header .entry)) (now (heads .entry)) size) ⌝ }
@@ -261,6 +267,9 @@ pub fn judge(header: &[u8], heads: &[u8], size: u64) -> Reading
     };
     if type_rules::lacks(&kinds[..used], version) {
         return refused(Verdict::refuse(Refusal::SECTION_MISSING, 0));
+    }
+    if walked.end < size {
+        return refused(Verdict::refuse(Refusal::NOT_PACKED, 0));
     }
     Reading {
         verdict,

@@ -7,8 +7,9 @@ use mathlib.Core.List.{List}
 use mathlib.Core.Logic.{inl, inr, ⊎-elim}
 use native.Mathlib.Omega.{arith}
 use native.Mathlib.Nat.{eq-or-lt-of-le, le-of-suc-le-suc}
-use borrow.Author.Tests.{eq-eqb, ne-eqb, le-leb, leb-true, not-false}
+use borrow.Author.Tests.{eq-eqb, ne-eqb, le-ltb, le-leb, leb-true, not-false}
 use lib.Dec.{eqb}
+use lib.ListN.{length}
 use Rattle.eif.specs.Numbers.{signatureVersion, metadataVersion, kernel, commandLine, ramdisk, signature, metadata, ramdiskBeforeKernel, typeRepeated}
 use Rattle.eif.specs.Logic.{both, either, choose}
 use Rattle.eif.specs.Rules.{allowedIn, seen, orderFault, missing}
@@ -18,7 +19,7 @@ use Rattle.eif.specs.Acceptance.{AllowedType, Present, MeetsRules}
 use Rattle.eif.specs.declared.Verdict.the-variants.{Accepted}
 use Rattle.eif_rules.proofs.Logic.{choose-zero, both-true, not-both, either-false, equal-or-not}
 use Rattle.eif_rules.proofs.View.{Header, Sound, sound-of, order-of, no-fault, fault-order}
-use Rattle.eif_rules.proofs.Accept.{Passes, passes, →accepted}
+use Rattle.eif_rules.proofs.Accept.{Passes, passes, →accepted, file-ends}
 
 -- ---- a test and the fact it stands for
 
@@ -156,8 +157,9 @@ module _ (s : List ℕ) where
         right-magic = h .magic;
         known-version = (h .low, h .high);
         known-count = (h .some, h .few);
-        after-header = entry 0 (let n = h .some in omega arith) .starts;
-        ascending = λ i l. entry (suc i) l .starts;
+        first-starts = entry 0 (let n = h .some in omega arith) .starts;
+        next-starts = λ i l. entry (suc i) l .starts;
+        file-ends = file-ends s e;
         in-file = λ i l. entry i l .ends;
         sizes-agree = λ i l. entry i l .same;
         types-allowed = λ i l. allowed→ (versionOf s) (kindAt s i) (entry i l .known);
@@ -203,6 +205,7 @@ module _ (s : List ℕ) where
             };
         sections = section;
         complete = →complete (kindAt s) (versionOf s) (countOf s) complete;
+        no-tail = let f : length s ≤ startAt s (countOf s) = let e = m .file-ends in omega arith in le-ltb (startAt s (countOf s)) (length s) f;
         sum = m .right-checksum;
       })
     where
@@ -217,9 +220,9 @@ module _ (s : List ℕ) where
             metadata-there = λ v. found metadata (countOf s) (m .has-metadata v);
           }
 
-      starts : (i : ℕ) → i < countOf s → startAt s i ≤ offsetAt s i
-      starts zero l = m .after-header
-      starts (suc i) l = m .ascending i l
+      starts : (i : ℕ) → i < countOf s → offsetAt s i ≡ startAt s i
+      starts zero l = m .first-starts
+      starts (suc i) l = m .next-starts i l
 
       alone : (i : ℕ) → i < countOf s → (kindAt s i ≡ ramdisk → ⊥) → seen (kindAt s) (kindAt s i) i ≡ false
       alone i l r = go (seen (kindAt s) (kindAt s i) i) refl

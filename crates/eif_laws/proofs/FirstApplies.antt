@@ -7,12 +7,12 @@ use mathlib.Core.List.{List, [], _∷_, _++_}
 use borrow.Author.Tests.{eq-eqb}
 use lib.Dec.{ltb, leb, eqb}
 use lib.ListN.{length}
-use Rattle.eif.specs.Numbers.{sizeLimit, placeCount, oldestVersion, kernel, ramdisk, sectionMissing, checksumDiffers, outputTooShort, pastStreamEnd}
+use Rattle.eif.specs.Numbers.{sizeLimit, placeCount, oldestVersion, kernel, ramdisk, sectionMissing, checksumDiffers, notPacked, outputTooShort, pastStreamEnd}
 use Rattle.eif.specs.Logic.{both, either, choose}
 use Rattle.eif.specs.Answers.{refuse, andThen, wholeVerdict}
 use Rattle.eif.specs.Rules.{versionKnown, countKnown, allowedIn, seen, orderFault, typeFault, missing, firstFault}
 use Rattle.eif.specs.Layout.{magicNumber, headerSize, View, viewOf, magic, version, count, offset, size, checksum, end, start}
-use Rattle.eif.specs.Reading.{headerRule, entryRule, sectionRule, missingRule, checksumRule, judged, verdictIn, checksumOf, verdictOf}
+use Rattle.eif.specs.Reading.{headerRule, entryRule, sectionRule, hasTail, fileRule, checksumRule, judged, verdictIn, checksumOf, verdictOf}
 use Rattle.eif.specs.Plan.{plannedKind, plainSize, dataBefore, fieldFault, sizeFault, planFault, planVerdict, writeVerdict, planLength}
 use Rattle.eif.specs.Stream.{streamOf, copyVerdict, copyListedAnswer, lengthAnswer}
 use Rattle.eif.specs.Roll.{recordHeadSize, recordAt, recordSize, recordKind, isEnd, imageSize, rollBytes, rollVerdict, rollLength, Ending, ended, stopped, stop, headFault, bodyFault, rollFault, endFrom, rollAnswerFor, readRoll}
@@ -97,29 +97,32 @@ unfolding firstThatApplies headerRules headerRule
 header-first v =
     five (ltb sizeLimit (v .size)) (ltb (v .size) headerSize) (not (eqb (magic v) magicNumber)) (not (versionKnown (version v))) (not (countKnown (count v)))
 
-entry-by : (a b c d : Bool) (order i : ℕ)
-    → choose a (refuse 6 i) (choose b (refuse 7 i) (choose c (refuse 8 i) (at (choose d 9 order) i)))
-    ≡ at (choose (eqb (choose a 6 (choose b 7 (choose c 8 (choose d 9 0)))) 0) order (choose a 6 (choose b 7 (choose c 8 (choose d 9 0))))) i
-entry-by true b c d order i = refl
-entry-by false true c d order i = refl
-entry-by false false true d order i = refl
-entry-by false false false true order i = refl
-entry-by false false false false order i = refl
+entry-by : (a p b c d : Bool) (order i : ℕ)
+    → choose a (refuse 6 i) (choose p (refuse 20 i) (choose b (refuse 7 i) (choose c (refuse 8 i) (at (choose d 9 order) i))))
+    ≡ at (choose (eqb (choose a 6 (choose p 20 (choose b 7 (choose c 8 (choose d 9 0))))) 0) order (choose a 6 (choose p 20 (choose b 7 (choose c 8 (choose d 9 0)))))) i
+entry-by true p b c d order i = refl
+entry-by false true b c d order i = refl
+entry-by false false true c d order i = refl
+entry-by false false false true d order i = refl
+entry-by false false false false true order i = refl
+entry-by false false false false false order i = refl
 
 section-first : (v : View) (i : ℕ) → firstThatApplies (sectionRules v i) ≡ at (sectionRule v i) i
 unfolding firstThatApplies sectionRules sectionRule entryRule typeFault
 section-first v i =
     let a : Bool = ltb (offset v i) (start v i) in
+    let p : Bool = not (eqb (offset v i) (start v i)) in
     let b : Bool = ltb (v .size) (end v i) in
     let c : Bool = not (eqb (v .ownSize i) (size v i)) in
     let d : Bool = not (allowedIn (version v) (v .kind i)) in
-    ap (λ (x : Verdict). choose a (refuse 6 i) (choose b (refuse 7 i) (choose c (refuse 8 i) x))) (type-first (version v) (v .kind) i)
-    ∙ entry-by a b c d (orderFault (v .kind) (v .kind i) i) i
+    ap (λ (x : Verdict). choose a (refuse 6 i) (choose p (refuse 20 i) (choose b (refuse 7 i) (choose c (refuse 8 i) x)))) (type-first (version v) (v .kind) i)
+    ∙ entry-by a p b c d (orderFault (v .kind) (v .kind i) i) i
 
-last-by : (a b : Bool) → choose a (refuse 12 0) (choose b (refuse 13 0) Accepted) ≡ andThen (wholeVerdict (choose a 12 0)) (wholeVerdict (choose b 13 0))
-last-by true b = refl
-last-by false true = refl
-last-by false false = refl
+last-by : (a t b : Bool) → choose a (refuse 12 0) (choose t (refuse 20 0) (choose b (refuse 13 0) Accepted)) ≡ andThen (wholeVerdict (choose a 12 (choose t 20 0))) (wholeVerdict (choose b 13 0))
+last-by true t b = refl
+last-by false true b = refl
+last-by false false true = refl
+last-by false false false = refl
 
 then-then : (a b c d : Verdict) → andThen a (andThen b (andThen c d)) ≡ andThen (andThen a (andThen b c)) d
 then-then Accepted Accepted c d = refl
@@ -128,16 +131,17 @@ then-then (Refused r) b c d = refl
 
 -- the verdict on a view, and so on an image, is that of the first rule that applies
 pub view-first : (v : View) (computed : ℕ) → verdictIn v computed ≡ firstThatApplies (viewRules v computed)
-unfolding viewRules verdictIn judged missingRule checksumRule firstThatApplies
+unfolding viewRules verdictIn judged fileRule checksumRule firstThatApplies
 view-first v computed =
     let m : Bool = missing (v .kind) (version v) (count v) in
     let c : Bool = not (eqb (checksum v) computed) in
-    let last : List Rule = rule m sectionMissing 0 ∷ rule c checksumDiffers 0 ∷ [] in
+    let t : Bool = hasTail v in
+    let last : List Rule = rule m sectionMissing 0 ∷ rule t notPacked 0 ∷ rule c checksumDiffers 0 ∷ [] in
     let sections : List Rule = rulesFrom (sectionRules v) (count v) 0 in
     sym
     (first-append (headerRules v) (sections ++ last)
-    ∙ ap₂ andThen (header-first v) (first-append sections last ∙ ap₂ andThen (walk-first (sectionRules v) (sectionRule v) (section-first v) (count v) 0) (last-by m c))
-    ∙ then-then (wholeVerdict (headerRule v)) (firstFault (sectionRule v) (count v) 0) (wholeVerdict (choose m sectionMissing 0)) (wholeVerdict (choose c checksumDiffers 0)))
+    ∙ ap₂ andThen (header-first v) (first-append sections last ∙ ap₂ andThen (walk-first (sectionRules v) (sectionRule v) (section-first v) (count v) 0) (last-by m t c))
+    ∙ then-then (wholeVerdict (headerRule v)) (firstFault (sectionRule v) (count v) 0) (wholeVerdict (choose m sectionMissing (choose t notPacked 0))) (wholeVerdict (choose c checksumDiffers 0)))
 
 pub read-first : (s : List ℕ) → verdictOf s ≡ firstThatApplies (imageRules s)
 read-first s = view-first (viewOf s) (checksumOf s)

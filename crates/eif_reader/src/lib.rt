@@ -1,4 +1,4 @@
-// The reader of an image, in three steps: gather the sections' own headers, judge by the rules 1 to 12, and add rule 13.
+// The reader of an image, in three steps: gather the sections' own headers, judge by all rules but 13, and add rule 13.
 ghost use mathlib.Core.Path.{_≡_};
 ghost use Rattle.eif.specs.Numbers.{placeCount};
 ghost use Rattle.eif.specs.Reading.{readImage};

@@ -1,17 +1,17 @@
 -- What the verdict on a view that is accepted says of each rule, and back; and what an accepted image's sections are.
 -- Assumes nothing.
-use Prim.Native.Nat.{ℕ, _+_, _<_, _≤_}
-use mathlib.Core.Path.{_≡_, sym}
+use Prim.Native.Nat.{ℕ, zero, suc, _+_, _<_, _≤_}
+use mathlib.Core.Path.{_≡_, refl, sym}
 use mathlib.Core.Bool.{false, not}
 use mathlib.Core.List.{List}
 use native.Mathlib.Omega.{arith}
-use borrow.Author.Tests.{eq-eqb, eqb-true, not-false}
+use borrow.Author.Tests.{eq-eqb, eqb-true, ltb-false, not-false}
 use lib.Dec.{eqb}
 use lib.ListN.{length, length-take, length-drop}
 use Rattle.eif.specs.Numbers.{placeCount}
 use Rattle.eif.specs.Rules.{orderFault, missing}
-use Rattle.eif.specs.Layout.{View, viewOf, version, count, checksum, versionOf, countOf, kindAt}
-use Rattle.eif.specs.Reading.{sectionRule, missingRule, checksumRule, judged, verdictIn, checksumOf, verdictOf, sectionAt, blankSection, sectionsOf, dataOf}
+use Rattle.eif.specs.Layout.{View, viewOf, version, count, checksum, versionOf, countOf, startAt, kindAt}
+use Rattle.eif.specs.Reading.{sectionRule, hasTail, fileRule, checksumRule, judged, verdictIn, checksumOf, verdictOf, sectionAt, blankSection, sectionsOf, dataOf}
 use Rattle.eif.specs.declared.Section.{Section}
 use Rattle.eif.specs.declared.Verdict.the-variants.{Accepted}
 use Rattle.eif_rules.proofs.Logic.{choose-zero}
@@ -23,16 +23,19 @@ pub record Passes (v : View) (computed : ℕ) : Type 0 where
   pub head : Header v
   pub sections : (i : ℕ) → i < count v → sectionRule v i ≡ 0
   pub complete : missing (v .kind) (version v) (count v) ≡ false
+  pub no-tail : hasTail v ≡ false
   pub sum : checksum v ≡ computed
 
 module _ (v : View) where
-  missing-zero : missingRule v ≡ 0 → missing (v .kind) (version v) (count v) ≡ false
-  unfolding missingRule
-  missing-zero e = choose-zero (missing (v .kind) (version v) (count v)) 11 0 e .0
+  file-zero : fileRule v ≡ 0 → (missing (v .kind) (version v) (count v) ≡ false) × (hasTail v ≡ false)
+  unfolding fileRule
+  file-zero e =
+      let m = choose-zero (missing (v .kind) (version v) (count v)) 11 _ e in
+      (m .0, choose-zero (hasTail v) 19 0 (m .1) .0)
 
-  zero-missing : missing (v .kind) (version v) (count v) ≡ false → missingRule v ≡ 0
-  unfolding missingRule
-  zero-missing e = rw e
+  zero-file : missing (v .kind) (version v) (count v) ≡ false → hasTail v ≡ false → fileRule v ≡ 0
+  unfolding fileRule
+  zero-file m t = rw (m, t)
 
   sum-zero : (computed : ℕ) → checksumRule v computed ≡ 0 → checksum v ≡ computed
   unfolding checksumRule
@@ -51,7 +54,8 @@ module _ (v : View) where
       record {
         head = header v (whole-zero _ (a .0));
         sections = λ i h. walk-accepted (sectionRule v) (count v) 0 (b .0) i (omega arith) (omega arith);
-        complete = missing-zero (whole-zero _ (b .1));
+        complete = file-zero (whole-zero _ (b .1)) .0;
+        no-tail = file-zero (whole-zero _ (b .1)) .1;
         sum = sum-zero computed (whole-zero _ (j .1));
       }
 
@@ -61,7 +65,7 @@ module _ (v : View) where
       let h = p .head in
       let z = header0 v (h .small) (h .whole) (h .magic) (h .low) (h .high) (h .some) (h .few) in
       let w = walk-all (sectionRule v) (count v) 0 (λ j a b. p .sections j (omega arith)) in
-      let e = all-accepted _ _ _ (sym z) w (zero-missing (p .complete)) in
+      let e = all-accepted _ _ _ (sym z) w (zero-file (p .complete) (p .no-tail)) in
       rw (e, zero-sum computed (p .sum))
 
 -- ---- of an accepted image
@@ -80,6 +84,17 @@ module _ (s : List ℕ) (e : verdictOf s ≡ Accepted) where
   sections-inside =
       all-filled (Inside s) (sectionAt s) blankSection placeCount (countOf s) (omega arith)
       (λ i h. sound-of (viewOf s) i (passes .sections i h) .ends)
+
+  -- the file ends where the last section does
+  pub file-ends : length s ≡ startAt s (countOf s)
+  file-ends =
+      let t : length s ≤ startAt s (countOf s) = ltb-false (startAt s (countOf s)) (length s) (passes .no-tail) in
+      let u = last (countOf s) (omega (arith, passes .head .some)) refl in
+      omega arith
+    where
+      last : (n : ℕ) → 0 < n → countOf s ≡ n → startAt s n ≤ length s
+      last zero h f = absurd (omega arith)
+      last (suc n) h f = sound-of (viewOf s) n (passes .sections n (omega arith)) .ends
 
   pub none-missing-of : missing (kindAt s) (versionOf s) (countOf s) ≡ false
   none-missing-of = passes .complete

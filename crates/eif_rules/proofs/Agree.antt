@@ -5,7 +5,7 @@ use mathlib.Core.Path.{_≡_, refl, ap, ap₂, _∙_}
 use mathlib.Core.Bool.{not}
 use mathlib.Core.Logic.{⊎-elim}
 use native.Mathlib.Omega.{arith}
-use borrow.Author.Tests.{lt-ltb, le-ltb}
+use borrow.Author.Tests.{lt-ltb, le-ltb, eq-eqb, ne-eqb}
 use lib.Dec.{eqb}
 use Rattle.eif.specs.Numbers.{placeCount, checksumDiffers}
 use Rattle.eif.specs.Logic.{choose}
@@ -13,10 +13,11 @@ use Rattle.eif.specs.Answers.{wholeVerdict}
 use Rattle.eif.specs.Rules.{firstFault}
 use Rattle.eif.specs.Table.{filled}
 use Rattle.eif.specs.Layout.{headerSize, sectionHeaderSize, checksumAt, View, version, count, offset, size, end, start}
-use Rattle.eif.specs.Reading.{headerRule, entryRule, sectionRule, missingRule, checksumRule, judged, verdictIn, blankSection, section, sections, readingOf, readView}
+use Rattle.eif.specs.Reading.{headerRule, entryRule, sectionRule, fileRule, checksumRule, judged, verdictIn, blankSection, section, sections, readingOf, readView}
 use Rattle.eif.specs.declared.Verdict.{Verdict}
 use Rattle.eif.specs.declared.Verdict.the-variants.{Accepted, Refused}
 use Rattle.octets.proofs.Over.{le-or-lt}
+use Rattle.eif_rules.proofs.Logic.{equal-or-not}
 use Rattle.eif_rules.proofs.Verdicts.{then-accepted, then-same, whole-zero, walk-accepted, walk-same}
 use Rattle.eif_rules.proofs.Types.{order-same, missing-same}
 use Rattle.eif_rules.proofs.Table.{filled-same}
@@ -85,7 +86,7 @@ module _ (v w : View) (same : Agree v w) where
     end-same : (i : ℕ) → i < placeCount → end v i ≡ end w i
     end-same i h = ap₂ (λ (a b : ℕ). a + sectionHeaderSize + b) (offset-same i h) (size-same i h)
 
-    start-same : (i : ℕ) → i < placeCount → start v i ≡ start w i
+    start-same : (i : ℕ) → i ≤ placeCount → start v i ≡ start w i
     start-same zero h = refl
     start-same (suc i) h = end-same i (omega arith)
 
@@ -94,16 +95,21 @@ module _ (v w : View) (same : Agree v w) where
     section-same i h good =
         let low = start-low w i good in
         let before = lies w i (omega arith) good in
+        let b = start-same i (omega arith) in
         ⊎-elim
-        (λ p.
+        (λ (p : start w i ≤ offset w i).
         ⊎-elim
-        (λ q.
+        (λ (z : offset w i ≡ start w i).
+        ⊎-elim
+        (λ (q : end w i ≤ w .size).
         let l : Lies w i = record { place = h; starts = omega arith; ends = omega arith } in
         let o = order-same (v .kind) (w .kind) (w .kind i) i (λ j g. same .kinds j (before j g)) in
-        rw (offset-same i h, start-same i h, size-same i h, same .sizes, version-same, same .ownSizes i l, same .kinds i l, o))
-        (λ q. rw (offset-same i h, start-same i h, size-same i h, same .sizes) (simp (le-ltb (offset w i) (start w i) p, lt-ltb (w .size) (end w i) q)))
+        rw (offset-same i h, b, size-same i h, same .sizes, version-same, same .ownSizes i l, same .kinds i l, o))
+        (λ (q : w .size < end w i). rw (offset-same i h, b, size-same i h, same .sizes) (simp (le-ltb (offset w i) (start w i) p, eq-eqb (offset w i) (start w i) z, lt-ltb (w .size) (end w i) q)))
         (le-or-lt (end w i) (w .size)))
-        (λ p. rw (offset-same i h, start-same i h) (simp (lt-ltb (offset w i) (start w i) p)))
+        (λ (n : offset w i ≡ start w i → ⊥). rw (offset-same i h, b) (simp (le-ltb (offset w i) (start w i) p, ne-eqb (offset w i) (start w i) n)))
+        (equal-or-not (offset w i) (start w i)))
+        (λ (p : offset w i < start w i). rw (offset-same i h, b) (simp (lt-ltb (offset w i) (start w i) p)))
         (le-or-lt (start w i) (offset w i))
 
     module _ (few : count w ≤ placeCount) where
@@ -116,11 +122,11 @@ module _ (v w : View) (same : Agree v w) where
         all-lie : (j : ℕ) → j < count w → Lies w j
         all-lie = lies w (count w) few (λ k l. walk-accepted (sectionRule w) (count w) 0 accepted k (omega arith) (omega arith))
 
-        whole-same : missingRule v ≡ missingRule w
-        unfolding missingRule
+        whole-same : fileRule v ≡ fileRule w
+        unfolding fileRule
         whole-same =
             let m = missing-same (v .kind) (w .kind) (version w) (count w) (λ j l. same .kinds j (all-lie j l)) in
-            rw (version-same, count-same, m)
+            rw (version-same, count-same, m, start-same (count w) few, same .sizes)
 
         sections-same : sections v ≡ sections w
         sections-same =

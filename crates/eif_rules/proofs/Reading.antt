@@ -1,4 +1,4 @@
--- The steps of reading: the rules 1 to 12 from what each step before answered, then 13; and what a reading's verdict is.
+-- The steps of reading: all rules but 13 from what each step before answered, then 13; and what a reading's verdict is.
 -- Assumes nothing.
 use Prim.Native.Nat.{ℕ, _<_}
 use mathlib.Core.Path.{_≡_, refl, sym, ap, _∙_}
@@ -11,7 +11,7 @@ use Rattle.eif.specs.Logic.{choose}
 use Rattle.eif.specs.Answers.{refuse, andThen, wholeVerdict}
 use Rattle.eif.specs.Rules.{firstFault}
 use Rattle.eif.specs.Layout.{View, viewOf, count, checksum}
-use Rattle.eif.specs.Reading.{headerRule, sectionRule, missingRule, checksumRule, judged, verdictIn, verdictOf, blankReading, readingOf, readEarly, sealed, sealedFor, readView, readImage}
+use Rattle.eif.specs.Reading.{headerRule, sectionRule, fileRule, checksumRule, judged, verdictIn, verdictOf, blankReading, readingOf, readEarly, sealed, sealedFor, readView, readImage}
 use Rattle.eif.specs.declared.Refusal.{Refusal}
 use Rattle.eif.specs.declared.Reading.{Reading}
 use Rattle.eif.specs.declared.Verdict.{Verdict}
@@ -28,11 +28,11 @@ module _ (v : View) where
     read-walk r e = simp (clean, e)
 
     module _ (walked : firstFault (sectionRule v) (count v) 0 ≡ Accepted) where
-      pub read-missing : (missingRule v ≡ 0 → ⊥) → blankReading (refuse (missingRule v) 0) ≡ readEarly v
+      pub read-missing : (fileRule v ≡ 0 → ⊥) → blankReading (refuse (fileRule v) 0) ≡ readEarly v
       unfolding readEarly judged
       read-missing h = simp (clean, walked, ne-eqb _ _ h)
 
-      pub read-complete : missingRule v ≡ 0 → readingOf v Accepted ≡ readEarly v
+      pub read-complete : fileRule v ≡ 0 → readingOf v Accepted ≡ readEarly v
       unfolding readEarly judged
       read-complete h = simp (clean, walked, h)
 

@@ -4,6 +4,7 @@ use Prim.Native.Nat.{ℕ, _<_, _≤_}
 use mathlib.Core.Path.{_≡_}
 use mathlib.Core.Bool.{true, false, not}
 use mathlib.Core.Logic.{⊎-elim}
+use native.Mathlib.Omega.{arith}
 use borrow.Author.Tests.{lt-ltb, le-ltb, le-leb, lt-leb, eq-eqb, ne-eqb, ltb-false, eqb-true, leb-true, not-false}
 use lib.Dec.{eqb, ltb, leb}
 use Rattle.eif.specs.Numbers.{sizeLimit}
@@ -13,35 +14,42 @@ use Rattle.eif.specs.Layout.{magicNumber, headerSize, View, magic, version, cou
 use Rattle.eif.specs.Reading.{headerRule, entryRule, sectionRule}
 use Rattle.eif_rules.proofs.Logic.{choose-zero, both-true, zero-or}
 
--- ---- the rules 6 to 11
+-- ---- the rules 6, 20 and 7 to 11
 
 module _ (v : View) (i : ℕ) where
   pub fault6 : offset v i < start v i → entryRule v i ≡ 6
   unfolding entryRule
   fault6 h = simp (lt-ltb _ _ h)
 
-  module _ (starts : start v i ≤ offset v i) where
+  pub fault20 : start v i ≤ offset v i → (offset v i ≡ start v i → ⊥) → entryRule v i ≡ 20
+  unfolding entryRule
+  fault20 l h = simp (le-ltb _ _ l, ne-eqb _ _ h)
+
+  module _ (starts : offset v i ≡ start v i) where
+    not-early : start v i ≤ offset v i
+    not-early = omega arith
+
     pub fault7 : v .size < end v i → entryRule v i ≡ 7
     unfolding entryRule
-    fault7 h = simp (le-ltb _ _ starts, lt-ltb _ _ h)
+    fault7 h = simp (le-ltb _ _ not-early, eq-eqb _ _ starts, lt-ltb _ _ h)
 
     module _ (ends : end v i ≤ v .size) where
       pub fault8 : (v .ownSize i ≡ size v i → ⊥) → entryRule v i ≡ 8
       unfolding entryRule
-      fault8 h = simp (le-ltb _ _ starts, le-ltb _ _ ends, ne-eqb _ _ h)
+      fault8 h = simp (le-ltb _ _ not-early, eq-eqb _ _ starts, le-ltb _ _ ends, ne-eqb _ _ h)
 
       module _ (same : v .ownSize i ≡ size v i) where
         pub fault9 : allowedIn (version v) (v .kind i) ≡ false → entryRule v i ≡ 9
         unfolding entryRule
-        fault9 h = simp (le-ltb _ _ starts, le-ltb _ _ ends, eq-eqb _ _ same, h)
+        fault9 h = simp (le-ltb _ _ not-early, eq-eqb _ _ starts, le-ltb _ _ ends, eq-eqb _ _ same, h)
 
         pub no-fault : allowedIn (version v) (v .kind i) ≡ true → entryRule v i ≡ 0
         unfolding entryRule
-        no-fault h = simp (le-ltb _ _ starts, le-ltb _ _ ends, eq-eqb _ _ same, h)
+        no-fault h = simp (le-ltb _ _ not-early, eq-eqb _ _ starts, le-ltb _ _ ends, eq-eqb _ _ same, h)
 
 -- what an entry without a fault has
 pub record Sound (v : View) (i : ℕ) : Type 0 where
-  pub starts : start v i ≤ offset v i
+  pub starts : offset v i ≡ start v i
   pub ends : end v i ≤ v .size
   pub same : v .ownSize i ≡ size v i
   pub known : allowedIn (version v) (v .kind i) ≡ true
@@ -50,11 +58,12 @@ pub sound : (v : View) (i : ℕ) → entryRule v i ≡ 0 → Sound v i
 unfolding entryRule
 sound v i e =
     let a = choose-zero (ltb (offset v i) (start v i)) 5 _ e in
-    let b = choose-zero (ltb (v .size) (end v i)) 6 _ (a .1) in
+    let p = choose-zero (not (eqb (offset v i) (start v i))) 19 _ (a .1) in
+    let b = choose-zero (ltb (v .size) (end v i)) 6 _ (p .1) in
     let d = choose-zero (not (eqb (v .ownSize i) (size v i))) 7 _ (b .1) in
     let f = choose-zero (not (allowedIn (version v) (v .kind i))) 8 _ (d .1) in
     record {
-      starts = ltb-false _ _ (a .0);
+      starts = eqb-true _ _ (not-false _ (p .0));
       ends = ltb-false _ _ (b .0);
       same = eqb-true _ _ (not-false _ (d .0));
       known = not-false _ (f .0);

@@ -31,10 +31,6 @@ module _ (p : Plan) (d : List ℕ) (a : Planned p (length d)) where
   abbrev l : List Place
   l = p .places
 
-  ends-at : (n : ℕ) → p .count ≡ n → length (plainImage p d) ≡ startAt (plainImage p d) n
-  ends-at zero e = let h = a .some in absurd (omega arith)
-  ends-at (suc n) e = long p d a ∙ ap (packedAt l) e ∙ sym (read-end p d a n (omega arith))
-
   pub is-plain : AreBytes d → Plain (plainImage p d)
   is-plain w =
       let n = read-count p d a in
@@ -44,8 +40,6 @@ module _ (p : Plan) (d : List ℕ) (a : Planned p (length d)) where
         reserved-after-zero = read-reserved-after p d a;
         unused-offset = λ i k h. offset-entry p d a i h ∙ filled-past (packedAt l) 0 placeCount (p .count) i (omega arith);
         unused-size = λ i k h. size-entry p d a i h ∙ filled-past (plannedSize l) 0 placeCount (p .count) i (omega arith);
-        packed = λ i h. read-offset p d a i (omega arith) ∙ sym (read-start p d a i (omega arith));
-        ends = ends-at (p .count) refl ∙ ap (startAt (plainImage p d)) (sym n);
       }
 
 -- ---- the plan of an accepted image is accepted

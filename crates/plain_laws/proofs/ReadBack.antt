@@ -1,17 +1,18 @@
 -- Reading the plain image of a plan gives the plan back.
 -- Assumes nothing.
-use Prim.Native.Nat.{ℕ, suc, _+_, _<_}
-use mathlib.Core.Path.{_≡_, sym, ap, ap₂, _∙_}
+use Prim.Native.Nat.{ℕ, zero, suc, _+_, _<_, _≤_}
+use mathlib.Core.Path.{_≡_, refl, sym, ap, ap₂, _∙_}
 use mathlib.Core.Bool.{false}
 use mathlib.Core.List.{List}
 use native.Mathlib.Omega.{arith}
+use borrow.Author.Tests.{le-ltb}
 use lib.ListN.{length}
 use Rattle.octets.specs.Bytes.{AreBytes}
 use Rattle.eif.specs.Numbers.{placeCount}
 use Rattle.eif.specs.Rules.{allowedIn, orderFault, missing}
 use Rattle.eif.specs.Table.{filled}
-use Rattle.eif.specs.Layout.{sectionHeaderSize, viewOf, memory, cpus, versionOf, countOf, kindAt}
-use Rattle.eif.specs.Reading.{entryRule, checksumOf, verdictOf, sectionAt, blankSection, sectionsOf, markOf, readImage}
+use Rattle.eif.specs.Layout.{sectionHeaderSize, viewOf, memory, cpus, versionOf, countOf, startAt, kindAt}
+use Rattle.eif.specs.Reading.{entryRule, hasTail, checksumOf, verdictOf, sectionAt, blankSection, sectionsOf, markOf, readImage}
 use Rattle.eif.specs.Plan.{placeAt, plannedKind, plannedSize, packedAt, plainSize, plainImage}
 use Rattle.eif.specs.declared.Place.{Place}
 use Rattle.eif.specs.declared.Plan.{Plan}
@@ -60,6 +61,18 @@ module _ (p : Plan) (d : List ℕ) (a : Planned p (length d)) where
       ap₂ (λ (x y : ℕ). missing (kindAt s) x y) (read-version p d a) (read-count p d a)
       ∙ missing-same (kindAt s) (plannedKind l) (p .version) (p .count) (λ j q. read-kind p d a j q) ∙ a .none-missing
 
+  -- it ends with its last section
+  tail-free : hasTail (viewOf s) ≡ false
+  tail-free = by (p .count) refl
+    where
+      by : (n : ℕ) → p .count ≡ n → hasTail (viewOf s) ≡ false
+      by zero e = let h = a .some in absurd (omega arith)
+      by (suc n) e =
+          let c : startAt s (countOf s) ≡ startAt s (suc n) = ap (startAt s) (read-count p d a ∙ e) in
+          let r = read-end p d a n (omega arith) in
+          let g = long ∙ ap (packedAt l) e in
+          le-ltb (startAt s (countOf s)) (length s) (omega arith)
+
   module _ (w : AreBytes d) where
     pub plain-accepted : verdictOf s ≡ Accepted
     plain-accepted =
@@ -82,6 +95,7 @@ module _ (p : Plan) (d : List ℕ) (a : Planned p (length d)) where
           };
           sections = λ i h. fault-order (viewOf s) i (entry-fine i (omega arith)) ∙ order-fine i (omega arith);
           complete = none-missing;
+          no-tail = tail-free;
           sum = read-sum p d a w;
         })
 

@@ -17,7 +17,7 @@ use Rattle.eif.specs.declared.Plan.{Plan}
 use Rattle.eif.specs.declared.Verdict.the-variants.{Accepted}
 use Rattle.eif_rules.proofs.Table.{filled-at}
 use Rattle.eif_rules.proofs.View.{Header, Sound, sound-of}
-use Rattle.eif_rules.proofs.Accept.{passes, sum-of}
+use Rattle.eif_rules.proofs.Accept.{passes, sum-of, file-ends}
 use Rattle.plain_laws.proofs.Shape.{packed-suc, packed-zero, length-header}
 use Rattle.plain_laws.proofs.Split.{split, table-split, filled-full}
 use Rattle.plain_laws.proofs.Joined.{piece-is, join-same}
@@ -97,7 +97,7 @@ module _ (s : List ℕ) (w : AreBytes s) (pl : Plain s) where
   packed-is : (i : ℕ) → i ≤ countOf s → packedAt l i ≡ startAt s i
   packed-is zero h = packed-zero l
   packed-is (suc i) h =
-      packed-suc l i ∙ ap₂ (λ (x y : ℕ). x + 12 + y) (packed-is i (omega arith) ∙ sym (pl .packed i h)) (size-is s ok i h)
+      packed-suc l i ∙ ap₂ (λ (x y : ℕ). x + 12 + y) (packed-is i (omega arith) ∙ sym (entry s ok i h .starts)) (size-is s ok i h)
 
   abbrev b1 : List ℕ
   b1 = beBytes 4 magicNumber
@@ -139,7 +139,7 @@ module _ (s : List ℕ) (w : AreBytes s) (pl : Plain s) where
       let q = whole in
       table-split s w placeCount 28 (offsetAt s) (λ i h. refl) (omega arith)
       ∙ ap (λ (t : List ℕ). entries t ++ drop 284 s)
-      (filled-full (packedAt l) (offsetAt s) placeCount (countOf s) few (λ i h. pl .packed i h ∙ sym (packed-is i (omega arith))) (pl .unused-offset))
+      (filled-full (packedAt l) (offsetAt s) placeCount (countOf s) few (λ i h. entry s ok i h .starts ∙ sym (packed-is i (omega arith))) (pl .unused-offset))
 
   sizes-split : drop 284 s ≡ sizeTable l (countOf s) ++ drop 540 s
   unfolding sizeTable
@@ -168,7 +168,7 @@ module _ (s : List ℕ) (w : AreBytes s) (pl : Plain s) where
       let x = place-is s ok i h in
       let z12 : o + 2 + 2 + 8 ≡ o + 12 = omega arith in
       let z4 : o + 2 + 2 ≡ o + 4 = omega arith in
-      ap (λ (n : ℕ). drop n s) (sym (pl .packed i h))
+      ap (λ (n : ℕ). drop n s) (sym (entry s ok i h .starts))
       ∙ split s w 2 (kindAt s i) o refl (omega arith)
       ∙ ap (λ (r : List ℕ). beBytes 2 (kindAt s i) ++ r) (split s w 2 (flagsAt s i) (o + 2) refl (omega arith)
       ∙ ap (λ (r : List ℕ). beBytes 2 (flagsAt s i) ++ r)
@@ -183,7 +183,7 @@ module _ (s : List ℕ) (w : AreBytes s) (pl : Plain s) where
   unfolding sectionBytes
   sections-split zero i e =
       let z : i ≡ countOf s = omega arith in
-      ap (λ (n : ℕ). drop (startAt s n) s) z ∙ ap (λ (n : ℕ). drop n s) (sym (pl .ends)) ∙ drop-length s
+      ap (λ (n : ℕ). drop (startAt s n) s) z ∙ ap (λ (n : ℕ). drop n s) (sym (file-ends s ok)) ∙ drop-length s
   sections-split (suc n) i e =
       section-split i (omega arith)
       ∙ ap (λ (r : List ℕ). sectionHeader (placeAt l i) ++ (pieceAt l d i ++ r)) (sections-split n (suc i) (omega arith))
@@ -200,4 +200,4 @@ module _ (s : List ℕ) (w : AreBytes s) (pl : Plain s) where
       (split s w 4 (crc32 (headerBytes p ++ bodyBytes p d)) checksumAt c (omega arith) ∙ ap (λ (r : List ℕ). beBytes 4 (crc32 (headerBytes p ++ bodyBytes p d)) ++ r) b))
 
   pub length-plan : length s ≡ packedAt l (countOf s)
-  length-plan = pl .ends ∙ sym (packed-is (countOf s) (omega arith))
+  length-plan = file-ends s ok ∙ sym (packed-is (countOf s) (omega arith))

@@ -440,55 +440,57 @@ fn compare(label: &[u8], one: &[u8], other: &[u8]) {
     }
 }
 
-// Version 2 with gaps: kernel at 548, command line at 570, and the ramdisks at 590 and 610.
-fn put_pair(image: &mut [u8], count: u16, kernel: &[u8], command_line: &[u8]) {
+// Version 2: kernel at 548, and the command line where the kernel ends.
+fn put_pair(image: &mut [u8], count: u16, kernel: &[u8], at: u32, command_line: &[u8]) {
     case_images::put_header(image, 2, 0, count);
     case_images::put_section(image, 0, 548, SectionType::KERNEL, 0, kernel);
-    case_images::put_section(image, 1, 570, SectionType::COMMAND_LINE, 0, command_line);
+    case_images::put_section(image, 1, at, SectionType::COMMAND_LINE, 0, command_line);
 }
 
-fn put_ramdisks(image: &mut [u8], first: &[u8], second: &[u8]) {
-    case_images::put_section(image, 2, 590, SectionType::RAMDISK, 0, first);
-    case_images::put_section(image, 3, 610, SectionType::RAMDISK, 0, second);
-}
-
-fn pair_image(kernel: &[u8], command_line: &[u8]) -> [u8; 630]
-    ensures { λ r. ⌜ length r ≡ 630 ⌝ }
+// Three bytes of data in kernel and command line together.
+fn pair_image(kernel: &[u8], at: u32, command_line: &[u8]) -> [u8; 575]
+    ensures { λ r. ⌜ length r ≡ 575 ⌝ }
 {
-    let mut image = [0u8; 630];
-    put_pair(&mut image, 2, kernel, command_line);
+    let mut image = [0u8; 575];
+    put_pair(&mut image, 2, kernel, at, command_line);
     case_images::seal(&mut image);
     image
 }
 
-fn ramdisk_image(first: &[u8], second: &[u8]) -> [u8; 630]
-    ensures { λ r. ⌜ length r ≡ 630 ⌝ }
+// Two ramdisks of three bytes each, at 574 and 589.
+fn put_ramdisks(image: &mut [u8], first: &[u8], second: &[u8]) {
+    case_images::put_section(image, 2, 574, SectionType::RAMDISK, 0, first);
+    case_images::put_section(image, 3, 589, SectionType::RAMDISK, 0, second);
+}
+
+fn ramdisk_image(first: &[u8], second: &[u8]) -> [u8; 604]
+    ensures { λ r. ⌜ length r ≡ 604 ⌝ }
 {
-    let mut image = [0u8; 630];
-    put_pair(&mut image, 4, b"K", b"a");
+    let mut image = [0u8; 604];
+    put_pair(&mut image, 4, b"K", 561, b"a");
     put_ramdisks(&mut image, first, second);
     case_images::seal(&mut image);
     image
 }
 
-// Version 4 with other flags, a signature, metadata and other gaps, which are not zero.
+// Version 4 with other flags, a signature and metadata; reserved fields and unused entries are not zero.
 fn put_start(image: &mut [u8]) {
     case_images::put_header(image, 4, 65535, 6);
-    case_images::put_section(image, 0, 560, SectionType::KERNEL, 1, b"K");
-    case_images::put_section(image, 1, 580, SectionType::COMMAND_LINE, 2, b"a");
-    case_images::put_section(image, 2, 600, SectionType::SIGNATURE, 3, b"signed");
+    case_images::put_section(image, 0, 548, SectionType::KERNEL, 1, b"K");
+    case_images::put_section(image, 1, 561, SectionType::COMMAND_LINE, 2, b"a");
+    case_images::put_section(image, 2, 574, SectionType::SIGNATURE, 3, b"signed");
 }
 
 fn put_rest(image: &mut [u8]) {
-    case_images::put_section(image, 3, 620, SectionType::RAMDISK, 4, b"old");
-    case_images::put_section(image, 4, 640, SectionType::RAMDISK, 5, b"new");
-    case_images::put_section(image, 5, 660, SectionType::METADATA, 6, b"{}");
+    case_images::put_section(image, 3, 592, SectionType::RAMDISK, 4, b"old");
+    case_images::put_section(image, 4, 607, SectionType::RAMDISK, 5, b"new");
+    case_images::put_section(image, 5, 622, SectionType::METADATA, 6, b"{}");
 }
 
-fn other_image() -> [u8; 700]
-    ensures { λ r. ⌜ length r ≡ 700 ⌝ }
+fn other_image() -> [u8; 636]
+    ensures { λ r. ⌜ length r ≡ 636 ⌝ }
 {
-    let mut image = [0xaau8; 700];
+    let mut image = [0xaau8; 636];
     put_start(&mut image);
     put_rest(&mut image);
     case_images::seal(&mut image);
@@ -504,12 +506,12 @@ fn ramdisks_exchanged() {
 fn differ_elsewhere() {
     let one = ramdisk_image(b"old", b"new");
     let other = other_image();
-    compare(b"gaps, flags, version, signature", &one, &other);
+    compare(b"flags, version, signature, unused entries", &one, &other);
 }
 
 fn byte_moved() {
-    let one = pair_image(b"ab", b"c");
-    let other = pair_image(b"a", b"bc");
+    let one = pair_image(b"ab", 562, b"c");
+    let other = pair_image(b"a", 561, b"bc");
     compare(b"kernel's last byte moved", &one, &other);
 }
 

@@ -101,7 +101,7 @@ module _ (s : List ℕ) (ok : verdictOf s ≡ Accepted) where
   abbrev later : (ℕ → Section) → ℕ → ℕ → List Record
   later f m n = recordsIn s (filled (λ j. f (suc j)) blankSection m n)
 
-  sum-one : (x : Section) (rest : List Record) (i top : ℕ) → length (dataOf s x) ≤ sizeAt s i → startAt s i ≤ offsetAt s i
+  sum-one : (x : Section) (rest : List Record) (i top : ℕ) → length (dataOf s x) ≤ sizeAt s i → offsetAt s i ≡ startAt s i
       → startAt s (suc i) + sumOf rest ≤ top → (b : Bool) → startAt s i + sumOf (choose b (recordFor s x ∷ rest) rest) ≤ top
   unfolding sumOf
   sum-one x rest i top e b r true = le-trans (omega arith) r

@@ -11,7 +11,7 @@ use Rattle.eif.specs.Numbers.{placeCount}
 use Rattle.eif.specs.Answers.{refuse}
 use Rattle.eif.specs.Rules.{firstFault, missing}
 use Rattle.eif.specs.Table.{filled}
-use Rattle.eif.specs.Layout.{View, viewFrom, version, count}
+use Rattle.eif.specs.Layout.{View, viewFrom, version, count, start}
 use Rattle.eif.specs.Reading.{headerRule, sectionRule, section, blankSection, sections, blankReading}
 use Rattle.eif.specs.declared.Verdict.the-variants.{Accepted}
 use Rattle.eif_rules.proofs.Table.{filled-at, length-filled}
@@ -19,7 +19,7 @@ use Rattle.eif_rules.proofs.View.{header}
 use Rattle.eif_rules.proofs.Reading.{read-header, read-walk}
 use Rattle.type_rules.specs.Kinds.{kindIn}
 use Rattle.type_rules.proofs.Parts.{missing-part}
-use Rattle.eif_judge.proofs.Complete.{incomplete, complete}
+use Rattle.eif_judge.proofs.Complete.{incomplete, with-tail, complete}
 use Rattle.eif_judge.proofs.judge.Statement.{statement}
 use Rattle.eif_judge.proofs.judge.Tie as tie
 
@@ -58,6 +58,10 @@ module _ (c : tie.After-walk) where
     typed : (j : ℕ) → j < used → getD kinds j 0 ≡ file .kind j
     typed j h = ap (λ (l : List ℕ). getD l j 0) (c .walk .ensures .1 ok .1) ∙ filled-at (file .kind) 0 0 placeCount used j h (few (c .before))
 
+    -- where the last section ends
+    ended : c .walk .result .end ≡ start file (count file)
+    ended = c .walk .ensures .1 ok .2 ∙ ap (start file) (c .before .be162 .ensures)
+
     lacking : missing (kindIn (take used kinds)) (c .before .before .be16 .result) (length (take used kinds)) ≡ missing (file .kind) (version file) (count file)
     lacking =
         missing-part kinds (file .kind) used (rw room (few (c .before))) typed (c .before .before .be16 .result)
@@ -90,8 +94,20 @@ returns-4 c =
     let g = h .before in
     let w = g .before .before .before .before .before .before in
     let t = g .before .before .enum-told .given .1 in
+    let e = ended w t in
+    c .refused4 .ensures ∙ ap blankReading (c .before .refuse3 .ensures)
+    ∙ with-tail (file w) (clean (w .before)) (sym (walked w) ∙ t) (sym (g .lacks .ensures ∙ lacking w t) ∙ h .if2 .left) (rw e at (c .before .before .if3 .taken))
+
+returns-5 : tie.Need-returns-5
+returns-5 c =
+    let k = c .before .before .before .before in
+    let h = k .before .before in
+    let g = h .before in
+    let w = g .before .before .before .before .before .before in
+    let t = g .before .before .enum-told .given .1 in
     let l = listed w t in
-    (cc) ∙ complete (file w) (clean (w .before)) (sym (walked w) ∙ t) (sym (g .lacks .ensures ∙ lacking w t) ∙ h .if2 .left)
+    let e = ended w t in
+    (cc) ∙ complete (file w) (clean (w .before)) (sym (walked w) ∙ t) (sym (g .lacks .ensures ∙ lacking w t) ∙ h .if2 .left) (rw e at (k .if3 .left))
 
 pub judge-spec : {M : Type 1} → statement M
 judge-spec =
@@ -117,6 +133,9 @@ judge-spec =
     returns-3
     (λ c κs. search needs)
     (λ c κs. search needs)
+    returns-4
     (λ c κs. search needs)
     (λ c κs. search needs)
-    returns-4)
+    (λ c κs. search needs)
+    (λ c κs. search needs)
+    returns-5)

@@ -140,7 +140,7 @@ unfolding firstFault
 returns c =
     let l = c .before .sections in
     let e : l .i ≡ count (c .before) = omega arith in
-    (rw (e, sub-self) at (l .inv .4), λ _. (rw e at (l .inv .2), rw e at (l .inv .3)))
+    (rw (e, sub-self) at (l .inv .4), λ _. (rw e at (l .inv .2), rw e at (l .inv .3), rw e at (l .inv .1)))
 
 returns-2 : tie.Need-returns-2 Inv-loop μ-loop Inv-sections μ-sections
 returns-2 c =

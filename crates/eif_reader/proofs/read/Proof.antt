@@ -1,4 +1,4 @@
--- `eif_reader::read` meets its contract: what was gathered is judged as the image is, a refusal by the rules 1 to 12 stays
+-- `eif_reader::read` meets its contract: what was gathered is judged as the image is, a refusal by all rules but 13 stays
 -- whatever the checksum, and else rule 13 is added. Assumes nothing.
 use Prim.Native.Nat.{ℕ}
 use mathlib.Core.Path.{_≡_, refl, _∙_}
