@@ -19,7 +19,8 @@
  * reading): 0 where the call is accepted, and otherwise the first of the numbers below that applies, in
  * the order that FORMAT.md gives for the call. Beside a refusal
  *   - no byte of the output buffer has changed;
- *   - index is the index of the section or record for 6 to 11, 16 and 17, and 0 for the others;
+ *   - index is the index of the section or record for 6 to 11, 16, 17 and, where a section is not
+ *     packed, 20; and 0 for the others;
  *   - all else in the answer is 0, but first_ramdisk, which is EIF_NO_RAMDISK, and the states that
  *     eif_sha384_update and eif_arriving_finish answer.
  *
@@ -108,6 +109,7 @@ enum eif_number {
     EIF_RECORD_TYPE_WRONG = 17,
     EIF_BYTES_AFTER_END = 18,
     EIF_PAST_STREAM_END = 19,
+    EIF_NOT_PACKED = 20, /* index: of the section, or 0 for bytes after the last */
     EIF_MESSAGE_TOO_LONG = 29
 };
 
@@ -136,6 +138,7 @@ static inline const char *eif_meaning(uint8_t number) {
     case EIF_RECORD_TYPE_WRONG: return "roll record of type above 3, or type 0 with a length not 0";
     case EIF_BYTES_AFTER_END: return "bytes after the end record";
     case EIF_PAST_STREAM_END: return "stream position past the stream's end";
+    case EIF_NOT_PACKED: return "section not packed, or bytes after the last section";
     case EIF_MESSAGE_TOO_LONG: return "message longer than 2,305,843,009,213,693,951 bytes";
     default: return "unknown number";
     }
@@ -213,7 +216,7 @@ typedef struct eif_plan {
 
 /* What an image holds. */
 typedef struct eif_reading {
-    uint8_t number; /* EIF_ACCEPTED, or 1 to 13 */
+    uint8_t number; /* EIF_ACCEPTED, or one of 1 to 13 and 20 */
     uint8_t reserved;
     uint16_t version;
     uint16_t flags;
@@ -273,7 +276,7 @@ typedef struct eif_digest {
 
 /* The registers of an image. */
 typedef struct eif_registers_answer {
-    uint8_t number; /* EIF_ACCEPTED, or 1 to 13 */
+    uint8_t number; /* EIF_ACCEPTED, or one of 1 to 13 and 20 */
     uint8_t reserved[7];
     uint64_t index;
     eif_digest registers[EIF_REGISTERS]; /* all 0 beside a refusal */
@@ -313,7 +316,7 @@ typedef struct eif_roll_reading {
     eif_roll_record records[EIF_MAX_SECTIONS]; /* in order, then zeros */
 } eif_roll_reading;
 
-/* Reads an image (FORMAT.md, Reading an image). Refusals: 1 to 13. */
+/* Reads an image (FORMAT.md, Reading an image). Refusals: 1 to 13 and 20. */
 EIF_MUST_USE eif_reading eif_read(const uint8_t *image, size_t image_length);
 
 /* Reads an image that arrives in pieces of any size, with no room for its bytes (FORMAT.md, Check while

@@ -60,8 +60,10 @@ byte_by_byte samples/worked.eif | expect 'a byte at a time, by a pipe' "$worked"
 { head -c 300 samples/worked.eif; sleep 0.1; tail -c +301 samples/worked.eif; } | expect 'in two parts, by a pipe' "$worked"
 : >"$folder/input"
 expect 'no input' 'refused 2 at 0\n'
+{ head -c 560 samples/worked.eif; printf x; tail -c +562 samples/worked.eif; } >"$folder/input"
+expect 'a byte of the kernel changed' 'refused 13 at 0\n'
 { cat samples/worked.eif; printf x; } >"$folder/input"
-expect 'a byte more, checksum not mended' 'refused 13 at 0\n'
+expect 'a byte more, checksum not mended' 'refused 20 at 0\n'
 head -c 585 samples/worked.eif >"$folder/input"
 expect 'a byte less' 'refused 7 at 2\n'
 head -c 547 samples/worked.eif | expect '547 bytes, by a pipe' 'refused 2 at 0\n'

@@ -234,6 +234,8 @@ static void try_sha384(uint64_t total) {
 static void try_words(void) {
     check(strcmp(eif_meaning(EIF_ACCEPTED), "accepted") == 0, "meaning of 0");
     check(strcmp(eif_meaning(13), "checksum differs") == 0, "meaning of 13");
+    check(strcmp(eif_meaning(20), "section not packed, or bytes after the last section") == 0,
+          "meaning of 20");
     check(strcmp(eif_meaning(255), "unknown number") == 0, "meaning of 255");
     check(strcmp(eif_section_name(EIF_COMMAND_LINE), "command line") == 0, "name of 2");
     check(strcmp(eif_section_name(0), "unknown type") == 0, "name of 0");

@@ -125,6 +125,19 @@ static void try_read(const uint8_t *image) {
     check(refused.first_ramdisk == EIF_NO_RAMDISK, "first ramdisk beside a refusal");
 }
 
+/* A byte after the last section, and a gap of one byte before it. Checksums are not mended: 20 is judged
+ * before 13. */
+static void try_padded(const uint8_t *image) {
+    uint8_t padded[IMAGE_LENGTH + 1] = {0};
+    memcpy(padded, image, IMAGE_LENGTH);
+    eif_reading tail = eif_read(padded, IMAGE_LENGTH + 1);
+    check(tail.number == EIF_NOT_PACKED && tail.index == 0, "read, a byte after the last section");
+    memcpy(padded + 575, image + 574, IMAGE_LENGTH - 574);
+    padded[51] = 575 % 256;
+    eif_reading gap = eif_read(padded, IMAGE_LENGTH + 1);
+    check(gap.number == EIF_NOT_PACKED && gap.index == 2, "read, a gap before section 2");
+}
+
 static int same_reading(const eif_reading *a, const eif_reading *b) {
     return memcmp(a, b, sizeof *a) == 0;
 }
@@ -317,6 +330,7 @@ int main(void) {
     expect_image(image);
     try_write(image);
     try_read(image);
+    try_padded(image);
     try_arriving(image);
     try_arriving_end(image);
     try_streams(image);

@@ -223,5 +223,66 @@ pub fn image_cases() -> Vec<ImageCase> {
     let mut image = of_types(4, &[1, 2]);
     image[CHECKSUM_AT] ^= 1;
     case("no metadata and a wrong checksum", image, 12, 0);
+    cases.extend(packing_cases());
+    cases
+}
+
+/// The worked image with a gap of one byte before a section.
+fn with_gap(index: usize) -> Vec<u8> {
+    let mut layout = worked_layout();
+    layout.sections[index].gap = 1;
+    layout.image()
+}
+
+/// Room outside the sections, and what is judged before and after it.
+fn packing_cases() -> Vec<ImageCase> {
+    let mut cases = Vec::new();
+    let mut case = |name, image, number, index| {
+        cases.push(ImageCase {
+            name,
+            image,
+            number,
+            index,
+        });
+    };
+    let stale = |mut image: Vec<u8>| {
+        image[CHECKSUM_AT] ^= 1;
+        image
+    };
+    for index in 0..3 {
+        let image = with_gap(index);
+        case("a gap of one byte", image.clone(), 20, index as u64);
+        case("the same, wrong checksum", stale(image), 20, index as u64);
+    }
+    let tail = || edited(|image| image.push(0));
+    case("a byte after the last section", tail(), 20, 0);
+    case("the same, wrong checksum", stale(tail()), 20, 0);
+    let image = edited(|image| image.extend_from_within(..));
+    case("the file twice", image, 20, 0);
+    let mut image = of_types(2, &[1, 3]);
+    image.push(0);
+    seal(&mut image);
+    case("no command line and a tail", image, 12, 0);
+
+    for index in 0..3 {
+        let at = OFFSETS_AT + 8 * index;
+        let image = edited(|image| put_number(image, at, u64::MAX));
+        case("offset of all ones", image, 20, index as u64);
+        let image = edited(|image| put_number(image, at, 586));
+        case("offset at the file's end", image, 20, index as u64);
+        let image = edited(|image| put_number(image, at, 0));
+        case("offset 0", image, 6, index as u64);
+    }
+    let image = edited(|image| image.truncate(585));
+    case("a section cut at the file's end", image, 7, 2);
+    let mut image = with_gap(1);
+    put_number(&mut image, OFFSETS_AT + 16, 574);
+    seal(&mut image);
+    case("a gap, and 6 at a later section", image, 20, 1);
+    let image = edited(|image| {
+        put_number(image, OFFSETS_AT + 8, 560);
+        put_number(image, OFFSETS_AT + 16, 575);
+    });
+    case("6, and a gap before a later section", image, 6, 1);
     cases
 }

@@ -80,7 +80,7 @@ pub struct Section {
     pub flags: u16,
     /// Its data.
     pub data: Vec<u8>,
-    /// How many bytes stand between the end of the one before and this section.
+    /// How many bytes stand between the end of the one before and this section; 0 where it is packed.
     pub gap: usize,
 }
 

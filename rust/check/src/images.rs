@@ -27,8 +27,7 @@ pub fn accepted_layout(rng: &mut Rng) -> Layout {
         let place = kernel + 1 + rng.below(types.len() - kernel);
         types.insert(place, 3);
     }
-    let gaps = rng.once_in(4);
-    let sections = types.into_iter().map(|kind| any_section(rng, kind, gaps));
+    let sections = types.into_iter().map(|kind| any_section(rng, kind));
     Layout {
         version,
         sections: sections.collect(),
@@ -46,7 +45,7 @@ fn any_or_zero(rng: &mut Rng) -> u64 {
     }
 }
 
-fn any_section(rng: &mut Rng, kind: u16, gaps: bool) -> Section {
+fn any_section(rng: &mut Rng, kind: u16) -> Section {
     let length = match rng.below(16) {
         0..=3 => 0,
         4..=11 => 1 + rng.below(4),
@@ -57,7 +56,7 @@ fn any_section(rng: &mut Rng, kind: u16, gaps: bool) -> Section {
         kind,
         flags: any_or_zero(rng) as u16,
         data: rng.bytes(length),
-        gap: if gaps { rng.below(20) } else { 0 },
+        gap: 0,
     }
 }
 
@@ -68,7 +67,7 @@ fn any_type(rng: &mut Rng) -> u16 {
 /// Breaks, or only changes, the list of sections.
 fn damage_layout(rng: &mut Rng, layout: &mut Layout) {
     let count = layout.sections.len();
-    match rng.below(6) {
+    match rng.below(7) {
         0 => layout.version = rng.pick(&[0, 1, 2, 3, 4, 5, 0x0200, 0xffff]),
         1 if count > 0 => layout.sections[rng.below(count)].kind = any_type(rng),
         2 if count > 0 => {
@@ -76,33 +75,34 @@ fn damage_layout(rng: &mut Rng, layout: &mut Layout) {
         }
         3 if count < MAX_SECTIONS => {
             let kind = any_type(rng);
-            let section = any_section(rng, kind, false);
+            let section = any_section(rng, kind);
             layout.sections.insert(rng.below(count + 1), section);
         }
         4 if count > 0 => layout.sections.swap(rng.below(count), rng.below(count)),
         5 if count > 0 => layout.sections[..].rotate_left(rng.below(count)),
+        6 if count > 0 => layout.sections[rng.below(count)].gap = rng.pick(&[1, 1, 2, 12, 13, 400]),
         _ => {}
     }
 }
 
-/// Fills what the reader ignores: reserved fields, unused table entries, gaps and a tail.
-fn fill_ignored(rng: &mut Rng, image: &mut Vec<u8>, layout: &Layout) {
+/// The image of a layout with the right checksum, and with any bytes in its gaps and, as often as not, in
+/// what the reader ignores: reserved fields and unused table entries.
+pub fn any_image_of(rng: &mut Rng, layout: &Layout) -> Vec<u8> {
+    let mut image = layout.unsealed();
     if rng.once_in(4) {
-        put(image, 24, &rng.bytes(2));
-        put(image, 540, &rng.bytes(4));
+        put(&mut image, 24, &rng.bytes(2));
+        put(&mut image, 540, &rng.bytes(4));
     }
     if rng.once_in(4) {
         let unused = 8 * (MAX_SECTIONS - layout.sections.len());
-        put(image, SIZES_AT - unused, &rng.bytes(unused));
-        put(image, 540 - unused, &rng.bytes(unused));
+        put(&mut image, SIZES_AT - unused, &rng.bytes(unused));
+        put(&mut image, 540 - unused, &rng.bytes(unused));
     }
     for (section, offset) in layout.sections.iter().zip(layout.offsets()) {
-        put(image, offset - section.gap, &rng.bytes(section.gap));
+        put(&mut image, offset - section.gap, &rng.bytes(section.gap));
     }
-    if rng.once_in(8) {
-        let tail = 1 + rng.below(30);
-        image.extend(rng.bytes(tail));
-    }
+    seal(&mut image);
+    image
 }
 
 /// Writes over the image where it is long enough.
@@ -199,9 +199,7 @@ pub fn any_image(rng: &mut Rng) -> Vec<u8> {
     for _ in 0..layout_faults {
         damage_layout(rng, &mut layout);
     }
-    let mut image = layout.unsealed();
-    fill_ignored(rng, &mut image, &layout);
-    seal(&mut image);
+    let mut image = any_image_of(rng, &layout);
     for _ in 0..byte_faults {
         damage_bytes(rng, &mut image, &layout);
     }

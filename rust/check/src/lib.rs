@@ -18,7 +18,7 @@ mod tally;
 
 pub use arriving::{compare_arriving, compare_arriving_state, state_of, LENGTHS};
 pub use compare::{compare_image, compare_message, compare_plan, compare_reading, compare_roll};
-pub use images::{accepted_layout, any_image};
+pub use images::{accepted_layout, any_image, any_image_of};
 pub use messages::{any_message, Message};
 pub use output::Output;
 pub use plans::{accepted_plan, any_plan, PlanInput};

@@ -57,8 +57,8 @@ impl Call {
 
     /// The numbers that FORMAT.md lets this call answer.
     pub fn numbers(self) -> Vec<u8> {
-        let image = 0..=13;
-        match self {
+        let image = (0..=13).chain([20]);
+        let mut numbers: Vec<u8> = match self {
             Call::Read | Call::Arrive | Call::Length | Call::RollLength | Call::Registers => {
                 image.collect()
             }
@@ -69,7 +69,9 @@ impl Call {
             Call::RollWrite => image.chain([14]).collect(),
             Call::RollRead => vec![0, 1, 5, 10, 11, 12, 16, 17, 18],
             Call::Update => vec![0, 29],
-        }
+        };
+        numbers.sort();
+        numbers
     }
 }
 

@@ -1,8 +1,8 @@
 //! The demands, tried on generated images: round trips, and what a roll tells of its image.
 
 use eif::{Image, RollRecord, SectionType, Stream, StreamPosition};
-use eif_cases::{record, Layout, Section};
-use eif_check::{accepted_layout, accepted_plan, any_image, any_roll, Rng};
+use eif_cases::{record, seal, Layout, Section};
+use eif_check::{accepted_layout, accepted_plan, any_image, any_image_of, any_roll, Rng};
 use std::io::Read;
 
 const TIMES: u64 = 2_000;
@@ -59,19 +59,79 @@ fn a_plan_is_read_back() {
     }
 }
 
+/// Whether the reserved fields and the unused table entries of an accepted image are zero.
+fn is_plain(bytes: &[u8], count: usize) -> bool {
+    let unused = 8 * count..8 * 32;
+    let tables = [28, 284].map(|table| table + unused.start..table + unused.end);
+    let ignored = tables.into_iter().chain([24..26, 540..544]);
+    ignored
+        .flat_map(|range| &bytes[range])
+        .all(|&byte| byte == 0)
+}
+
+/// An accepted image is plain, so written again as it was, exactly when what the reader ignores is zero.
 #[test]
 fn a_plain_image_is_written_again() {
+    let (mut plain, mut others) = (0, 0);
     for ordinal in 0..TIMES {
-        let mut layout = accepted_layout(&mut Rng::of_input(2, ordinal));
-        let gaps: usize = layout.sections.iter().map(|s| s.gap).sum();
-        let bytes = layout.image();
+        let mut rng = Rng::of_input(2, ordinal);
+        let layout = accepted_layout(&mut rng);
+        let bytes = any_image_of(&mut rng, &layout);
         let image = eif::read(&bytes).unwrap();
         let mut out = vec![0; bytes.len()];
-        let length = eif::write(&image.plan(), &image.joined_data(), &mut out).unwrap();
-        assert_eq!(length, bytes.len() - gaps);
-        // Without gaps the layout is plain.
-        layout.sections.iter_mut().for_each(|s| s.gap = 0);
-        assert_eq!(out[..length], layout.image());
+        let written = eif::write(&image.plan(), &image.joined_data(), &mut out);
+        assert_eq!(written, Ok(bytes.len()));
+        assert_eq!(out, layout.image());
+        let again = is_plain(&bytes, image.sections().len());
+        assert_eq!(out == bytes, again);
+        *(if again { &mut plain } else { &mut others }) += 1;
+    }
+    assert!(plain > 100 && others > 100, "{plain} {others}");
+}
+
+/// Every byte of an accepted image is in its header or in a section.
+#[test]
+fn an_accepted_image_has_no_other_room() {
+    let mut accepted = 0;
+    for ordinal in 0..TIMES {
+        let bytes = any_image(&mut Rng::of_input(12, ordinal));
+        let Ok(image) = eif::read(&bytes) else {
+            continue;
+        };
+        let mut end = 548;
+        for section in image.sections() {
+            assert_eq!(section.offset().0, end);
+            end = section.position.0 + section.length.0;
+        }
+        assert_eq!(end, bytes.len() as u64);
+        accepted += 1;
+    }
+    assert!(accepted > 100, "{accepted}");
+}
+
+/// One byte more anywhere outside the sections, whatever it is, and with the right checksum or a stale one.
+#[test]
+fn a_byte_outside_the_sections_is_refused() {
+    for ordinal in 0..TIMES {
+        let mut rng = Rng::of_input(13, ordinal);
+        let mut layout = accepted_layout(&mut rng);
+        let index = rng.below(layout.sections.len() + 1);
+        let (mut image, place) = match layout.sections.get_mut(index) {
+            Some(section) => {
+                section.gap = 1;
+                (any_image_of(&mut rng, &layout), index)
+            }
+            None => {
+                let mut image = any_image_of(&mut rng, &layout);
+                image.push(rng.next() as u8);
+                (image, 0)
+            }
+        };
+        if rng.once_in(2) {
+            seal(&mut image);
+        }
+        let refusal = eif::read(&image).unwrap_err();
+        assert_eq!((refusal.number(), refusal.index()), (20, place as u64));
     }
 }
 
@@ -106,7 +166,6 @@ fn neighbour(rng: &mut Rng, layout: &Layout) -> Layout {
             other.default_mem = rng.next();
             for section in &mut other.sections {
                 section.flags = rng.next() as u16;
-                section.gap = rng.below(9);
             }
         }
         1 => {
@@ -134,7 +193,8 @@ fn rolls_are_equal_exactly_when_the_listed_sections_are() {
     for ordinal in 0..TIMES {
         let mut rng = Rng::of_input(4, ordinal);
         let layout = accepted_layout(&mut rng);
-        let (one, other) = (layout.image(), neighbour(&mut rng, &layout).image());
+        let other = neighbour(&mut rng, &layout);
+        let [one, other] = [&layout, &other].map(|layout| any_image_of(&mut rng, layout));
         let Ok(view) = eif::read(&other) else {
             continue;
         };

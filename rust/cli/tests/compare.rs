@@ -3,7 +3,7 @@
 mod common;
 
 use common::{repository, Folder};
-use eif_cases::{Layout, Section};
+use eif_cases::{seal, Layout, Section, OFFSETS_AT, SIZES_AT};
 
 /// Puts two images there and compares them.
 fn compared(a: &Layout, b: &Layout) -> (i32, String) {
@@ -172,15 +172,47 @@ not part of the roll:
     assert_eq!((status, &text[..]), (0, expected));
 }
 
+/// What no row tells by itself: the order of other sections, a reserved field, an unused table entry.
 #[test]
-fn bytes_outside_every_section_are_told() {
-    let a = of_ramdisks(&[b"r"]);
-    let mut b = a.clone();
-    b.sections[2].gap = 5;
-    let (status, text) = compared(&a, &b);
-    assert_eq!(status, 0);
-    let row = "not part of the roll:\n  bytes outside every section, or where sections stand\n";
-    assert!(text.ends_with(row), "{text}");
+fn any_other_difference_is_told() {
+    let a = layout(4, &[KERNEL, COMMAND_LINE, (5, b"{}")]);
+    let b = layout(4, &[KERNEL, (5, b"{}"), COMMAND_LINE]);
+    let mut images = vec![b.image()];
+    for at in [24, 543, OFFSETS_AT + 8 * 3, SIZES_AT + 8 * 31] {
+        let mut image = a.image();
+        image[at] = 1;
+        seal(&mut image);
+        images.push(image);
+    }
+    let folder = Folder::new();
+    folder.put("a", a.image());
+    for image in images {
+        folder.put("b", image);
+        let expected = "\
+same boot content
+A is a
+B is b
+not part of the roll:
+  reserved fields, unused table entries, or where metadata or signature stands in the file
+";
+        folder.eif("compare a b").says(0, expected);
+    }
+}
+
+/// An image with room between sections, or after the last, is not compared but refused.
+#[test]
+fn a_padded_image_is_refused() {
+    let folder = Folder::new();
+    let mut padded = of_ramdisks(&[b"r"]);
+    folder.put("a", padded.image());
+    padded.sections[2].gap = 1 << 20;
+    folder.put("b", padded.image());
+    for words in ["compare a b", "compare b a"] {
+        let ended = folder.eif(words);
+        assert_eq!(ended.status, 1);
+        let refused = "b: refused 20 at 2: section not packed, or bytes after the last section\n";
+        assert!(ended.text().starts_with(refused), "{}", ended.text());
+    }
 }
 
 #[test]

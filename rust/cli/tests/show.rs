@@ -5,7 +5,10 @@ mod common;
 use common::json::{parse, Value};
 use common::{Ended, Folder};
 use eif::{Reason, MAX_IMAGE_LENGTH};
-use eif_cases::{image_cases, image_of_length, worked_image, zero_image_start, Layout, Section};
+use eif_cases::{
+    image_cases, image_of_length, put_number, seal, worked_image, zero_image_start, Layout,
+    Section, OFFSETS_AT,
+};
 use std::process::Command;
 
 const SHOWN: &str = "\
@@ -72,6 +75,38 @@ fn a_refusal_says_what_to_do() {
     folder.eif("show damaged.eif").says(1, refused);
     let both = folder.eif("show damaged.eif packed.eif");
     both.says(1, &format!("{refused}{SHOWN}"));
+}
+
+/// What the auditor found: room between two sections, or after the last. The checksum is right.
+#[test]
+fn a_padded_image_is_refused() {
+    let folder = packed();
+    let image = folder.get("packed.eif");
+    for (at, index) in [(601, 3), (image.len(), 0)] {
+        let mut padded = image.clone();
+        padded.splice(at..at, vec![0; 1 << 20]);
+        for place in (0..5).map(|section| OFFSETS_AT + 8 * section) {
+            let offset = u64::from_be_bytes(image[place..place + 8].try_into().unwrap());
+            if offset >= at as u64 {
+                put_number(&mut padded, place, offset + (1 << 20));
+            }
+        }
+        seal(&mut padded);
+        folder.put("padded.eif", padded);
+        let meaning = "section not packed, or bytes after the last section";
+        let line = format!("padded.eif: refused 20 at {index}: {meaning}\n");
+        folder.eif("check padded.eif").says(1, &line);
+        let advice = "do not use it; fetch it again, and if the answer stays, tell the builder";
+        let shown = format!("{line}  what to do: {advice}\n");
+        folder.eif("show padded.eif").says(1, &shown);
+        for words in [
+            "roll padded.eif",
+            "stream padded.eif whole",
+            "extract padded.eif 0",
+        ] {
+            folder.eif(words).complains(1, &shown);
+        }
+    }
 }
 
 #[test]

@@ -71,7 +71,7 @@ impl Arriving {
     ///
     /// # Errors
     ///
-    /// The first of 1 to 13 that applies, in the order of reading.
+    /// The first of 1 to 13 and 20 that applies, in the order of reading.
     pub fn finish(&mut self) -> Result<Reading, Refusal> {
         let finished = raw::arriving_finish(self.0);
         self.0 = finished.state;

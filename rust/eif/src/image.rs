@@ -49,7 +49,8 @@ impl Deref for Image<'_> {
     }
 }
 
-/// Reads an image (FORMAT.md, Reading an image).
+/// Reads an image (FORMAT.md, Reading an image). Every byte of one that is accepted is in its header or in
+/// a section.
 ///
 /// ```
 /// // A zero-filled file of 548 bytes has the wrong magic.
@@ -58,7 +59,7 @@ impl Deref for Image<'_> {
 ///
 /// # Errors
 ///
-/// The first of 1 to 13 that applies, in the order of reading.
+/// The first of 1 to 13 and 20 that applies, in the order of reading.
 pub fn read(image: &[u8]) -> Result<Image<'_>, Refusal> {
     let reading = Reading::accepted(raw::read(image))?;
     Ok(Image {
@@ -135,8 +136,9 @@ impl Reading {
         (first != raw::NO_RAMDISK).then_some(first as usize)
     }
 
-    /// The plan with this image's fields and sections. Where the image is plain, [`write`](crate::write)
-    /// of this plan and of [`joined_data`](Image::joined_data) gives the image again.
+    /// The plan with this image's fields and sections. Where the image is plain, so where its reserved fields
+    /// and unused table entries are zero, [`write`](crate::write) of this plan and of
+    /// [`joined_data`](Image::joined_data) gives the image again.
     pub fn plan(&self) -> Plan {
         let place = |section: &Section| Place {
             section_type: section.section_type,

@@ -109,7 +109,7 @@ pub fn read(image: &[u8]) -> Result<Reading, Refusal> {
     })
 }
 
-/// Rules 6 to 12.
+/// Rules 6 to 12, and 20.
 fn read_sections(image: &[u8], version: u16, count: usize) -> Result<Vec<Section>, Refusal> {
     let mut sections = Vec::with_capacity(count);
     let mut seen = Seen::default();
@@ -119,6 +119,9 @@ fn read_sections(image: &[u8], version: u16, count: usize) -> Result<Vec<Section
         let size = u64_at(image, SIZES_AT + 8 * index);
         if offset < end {
             return refuse(6, index);
+        }
+        if offset != end {
+            return refuse(20, index);
         }
         // A sum that does not fit 64 bits is past the end of the file too.
         let position = offset.checked_add(SECTION_HEADER as u64);
@@ -143,5 +146,8 @@ fn read_sections(image: &[u8], version: u16, count: usize) -> Result<Vec<Section
         });
     }
     seen.complete(version)?;
+    if end != image.len() as u64 {
+        return refuse(20, 0);
+    }
     Ok(sections)
 }

@@ -5,6 +5,11 @@ use super::side::{Record, Side};
 use crate::words;
 use eif::{Image, Section};
 
+/// What is left where the rolls are equal and no other row tells a difference: every byte of an accepted
+/// image is in its header or in a section.
+const REST: &str =
+    "reserved fields, unused table entries, or where metadata or signature stands in the file";
+
 /// A heading and a row for each difference, or a line on what could not be compared.
 pub fn rows(a: &Side, b: &Side) -> Vec<String> {
     let (Some(of_a), Some(of_b)) = (a.image, b.image) else {
@@ -14,7 +19,7 @@ pub fn rows(a: &Side, b: &Side) -> Vec<String> {
     rows.extend(a.records.iter().zip(&b.records).filter_map(section_flags));
     rows.extend(others(a, b));
     if rows.is_empty() && a.roll == b.roll && of_a.bytes() != of_b.bytes() {
-        rows.push("bytes outside every section, or where sections stand".to_string());
+        rows.push(REST.to_string());
     }
     let rows = rows.into_iter().map(|row| format!("  {row}"));
     let heading = "not part of the roll:".to_string();
