@@ -32,7 +32,7 @@ help:
 	@echo 'make prove                the proofs, edits and programs alone: rt ci'
 	@echo 'make rust-test c-test     the command and the library from Rust; the library from C'
 	@echo 'make rust-lint doc        lints of the Rust code, its documentation'
-	@echo 'make test-large           the tests that keep images of 1 GiB in memory: minutes, 6 GiB'
+	@echo 'make test-large           the tests that keep images of 1 GiB in memory: minutes, 4 GiB'
 	@echo 'make bench                speed beside the plain Rust twin; BENCH_LARGE=1: images of 1 GiB too'
 	@echo 'make install PREFIX=dir   command, man page, C header, archive, pkg-config file'
 
