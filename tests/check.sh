@@ -1,6 +1,7 @@
 #!/bin/sh
 # check.sh PROGRAM: what the program for input of any size writes, to the byte: rows, refusal lines, a pipe that brings a byte at a time,
-# the longest image, and files past 32 bits. The large files are sparse and take no room.
+# the longest image, and files past 32 bits, of which the program reads as far as the first piece past the limit. The large files are sparse and
+# take no room.
 set -eu
 program=$1
 folder=$(mktemp -d)

@@ -194,13 +194,14 @@ struct Damage {
     value: u16,
 }
 
-// Magic, version, number of sections; section 1 too early, too long, of another size than its own header says; of section 2 a type that is not
+// Magic, version, number of sections; section 1 too early, too late, too long, of another size than its own header says; of section 2 a type that is not
 // allowed and one that was there; a ramdisk first; no command line; another checksum.
-const DAMAGES: [Damage; 11] = [
+const DAMAGES: [Damage; 12] = [
     Damage { at: 0, value: 0 },
     Damage { at: 4, value: 5 },
     Damage { at: 26, value: 1 },
     Damage { at: 42, value: 560 },
+    Damage { at: 42, value: 562 },
     Damage {
         at: 298,
         value: 60000,
@@ -225,10 +226,17 @@ fn damaged(image: &[u8], damage: Damage, size: usize) {
 fn each_damage(image: &[u8]) {
     let damages = DAMAGES;
     let mut i: usize = 0;
-    while i < 11 {
+    while i < 12 {
         damaged(image, damages[i], LENGTH);
         i += 1;
     }
+}
+
+// A byte after the last section, in a piece of its own.
+fn one_more(image: &[u8]) {
+    text(b"one byte more");
+    let all = fed(arriving::begin(), image, ALL);
+    ends(fed(all, b"x", ALL));
 }
 
 // A wrong magic number is no answer before the end: the file may end too soon.
@@ -249,4 +257,5 @@ fn main() {
     told_first(&image);
     each_damage(&image);
     wrong_magic(&image);
+    one_more(&image);
 }

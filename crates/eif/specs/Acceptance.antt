@@ -1,6 +1,6 @@
 -- What an accepted image is, with no order of rules and no walk: each rule of FORMAT.md, Reading an image, once, in plain arithmetic.
 -- That an image is accepted exactly when it meets these rules is a law of its own. Assumes nothing.
-use Prim.Native.Nat.{ℕ, suc, _<_, _≤_}
+use Prim.Native.Nat.{ℕ, _<_, _≤_}
 use mathlib.Core.Path.{_≡_}
 use mathlib.Core.List.{List}
 use mathlib.Core.Logic.{_⊎_}
@@ -30,8 +30,7 @@ pub record MeetsRules (s : List ℕ) : Type 0 where
   pub known-count : (fewestSections ≤ countOf s) × (countOf s ≤ placeCount)
   -- 6 and 20: the first section starts at the end of the header, each other one at the end of the one before it, and the file ends
   -- where the last one does
-  pub first-starts : offsetAt s 0 ≡ headerSize
-  pub next-starts : (i : ℕ) → suc i < countOf s → offsetAt s (suc i) ≡ endAt s i
+  pub starts : (i : ℕ) → i < countOf s → offsetAt s i ≡ startAt s i
   pub file-ends : length s ≡ startAt s (countOf s)
   -- 7, 8, 9
   pub in-file : (i : ℕ) → i < countOf s → endAt s i ≤ length s

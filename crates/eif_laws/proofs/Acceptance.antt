@@ -13,7 +13,7 @@ use lib.ListN.{length}
 use Rattle.eif.specs.Numbers.{signatureVersion, metadataVersion, kernel, commandLine, ramdisk, signature, metadata, ramdiskBeforeKernel, typeRepeated}
 use Rattle.eif.specs.Logic.{both, either, choose}
 use Rattle.eif.specs.Rules.{allowedIn, seen, orderFault, missing}
-use Rattle.eif.specs.Layout.{viewOf, versionOf, countOf, kindAt, startAt, offsetAt}
+use Rattle.eif.specs.Layout.{viewOf, versionOf, countOf, kindAt, startAt}
 use Rattle.eif.specs.Reading.{sectionRule, checksumOf, verdictOf}
 use Rattle.eif.specs.Acceptance.{AllowedType, Present, MeetsRules}
 use Rattle.eif.specs.declared.Verdict.the-variants.{Accepted}
@@ -157,8 +157,7 @@ module _ (s : List ℕ) where
         right-magic = h .magic;
         known-version = (h .low, h .high);
         known-count = (h .some, h .few);
-        first-starts = entry 0 (let n = h .some in omega arith) .starts;
-        next-starts = λ i l. entry (suc i) l .starts;
+        starts = λ i l. entry i l .starts;
         file-ends = file-ends s e;
         in-file = λ i l. entry i l .ends;
         sizes-agree = λ i l. entry i l .same;
@@ -220,10 +219,6 @@ module _ (s : List ℕ) where
             metadata-there = λ v. found metadata (countOf s) (m .has-metadata v);
           }
 
-      starts : (i : ℕ) → i < countOf s → offsetAt s i ≡ startAt s i
-      starts zero l = m .first-starts
-      starts (suc i) l = m .next-starts i l
-
       alone : (i : ℕ) → i < countOf s → (kindAt s i ≡ ramdisk → ⊥) → seen (kindAt s) (kindAt s i) i ≡ false
       alone i l r = go (seen (kindAt s) (kindAt s i) i) refl
         where
@@ -233,7 +228,7 @@ module _ (s : List ℕ) where
 
       section : (i : ℕ) → i < countOf s → sectionRule (viewOf s) i ≡ 0
       section i l =
-          fault-order (viewOf s) i (no-fault (viewOf s) i (starts i l) (m .in-file i l) (m .sizes-agree i l) (→allowed (versionOf s) (kindAt s i) (m .types-allowed i l)))
+          fault-order (viewOf s) i (no-fault (viewOf s) i (m .starts i l) (m .in-file i l) (m .sizes-agree i l) (→allowed (versionOf s) (kindAt s i) (m .types-allowed i l)))
           ∙ order-zero (kindAt s) i (λ r. found kernel i (m .kernel-before i l r)) (alone i l)
 
   -- an image is accepted exactly when it meets the rules

@@ -1,4 +1,4 @@
--- The rules 1 to 11 over a view, each from the facts that a test gives, and back.
+-- The rules 1 to 11 and 20 over a view, each from the facts that a test gives, and back.
 -- Assumes nothing.
 use Prim.Native.Nat.{ℕ, _<_, _≤_}
 use mathlib.Core.Path.{_≡_}

@@ -6,10 +6,10 @@ use Rattle.arriving_cases.proofs.each_damage.Statement.{statement}
 use Rattle.arriving_cases.proofs.each_damage.Tie as tie
 
 abbrev Inv-loop : tie.InvT-loop
-Inv-loop image damages i₀ i = i ≤ 11
+Inv-loop image damages i₀ i = i ≤ 12
 
 abbrev μ-loop : tie.MeasureT-loop
-μ-loop image damages i₀ i = 11 - i
+μ-loop image damages i₀ i = 12 - i
 
 pub each-damage-spec : {M : Type 1} → statement M
 each-damage-spec =
