@@ -116,7 +116,7 @@ fn the_header_has_the_same_limits() {
     assert_eq!(macro_value(&header, "EIF_MAX_MESSAGE_LENGTH"), most);
 }
 
-/// `1,073,741,824`.
+/// The digits in groups of three, as the words have them.
 fn grouped(number: usize) -> String {
     let digits = number.to_string();
     let groups: Vec<&str> = digits
