@@ -20,8 +20,8 @@ use Rattle.eif_rules.proofs.Table.{filled-past}
 use Rattle.eif_rules.proofs.Accept.{none-missing-of, order-at}
 use Rattle.plain_laws.proofs.Shape.{packed-suc, packed-zero}
 use Rattle.plain_laws.proofs.PlanRules.{Planned, →planned}
-use Rattle.plain_laws.proofs.Written.{Fits, read-count, offset-entry, size-entry, read-offset, read-start, read-end, read-reserved, read-reserved-after}
-use Rattle.plain_laws.proofs.ReadBack.{plain-accepted, long}
+use Rattle.plain_laws.proofs.Written.{Fits, read-count, offset-entry, size-entry, read-reserved, read-reserved-after}
+use Rattle.plain_laws.proofs.ReadBack.{plain-accepted}
 use Rattle.plain_laws.proofs.Joined.{bytes-joined, length-joined}
 use Rattle.plain_laws.proofs.WriteBack.{plan, piece, given, head, entry, place-is, kind-is, size-is, length-piece-is}
 

@@ -14,6 +14,7 @@ use Rattle.octets.specs.Bytes.{AreBytes}
 use Rattle.octets.specs.Over.{over}
 use Rattle.eif.specs.Numbers.{placeCount, outputTooShort}
 use Rattle.eif.specs.Logic.{choose}
+use Rattle.eif.specs.Layout.{viewOf, reserved, reservedAfter, countOf, offsetAt, sizeAt}
 use Rattle.eif.specs.Answers.{refuse, andThen}
 use Rattle.eif.specs.Output.{outputFor}
 use Rattle.eif.specs.Reading.{verdictOf, blankSection, readImage, dataOf}
@@ -164,6 +165,35 @@ plain-exactly-when s w = (
         image = plain-again s w pl;
       },
   λ f. subst Plain (f .image) (plain-is-plain (f .plan) (f .given) (f .not-refused) (f .bytes)),
+)
+
+-- every reserved field and unused entry is zero
+pub record UnusedZero (s : List ℕ) : Type 0 where
+  pub reserved-zero : reserved (viewOf s) ≡ 0
+  pub reserved-after-zero : reservedAfter (viewOf s) ≡ 0
+  pub unused-offset : (i : ℕ) → countOf s ≤ i → i < placeCount → offsetAt s i ≡ 0
+  pub unused-size : (i : ℕ) → countOf s ≤ i → i < placeCount → sizeAt s i ≡ 0
+
+-- An accepted image is one that the writer gives exactly when its reserved fields and unused entries are zero.
+pub accepted-plain-when : (s : List ℕ) → AreBytes s → verdictOf s ≡ Accepted → (WrittenFrom s → UnusedZero s) × (UnusedZero s → WrittenFrom s)
+accepted-plain-when s w e = (
+  λ f.
+      let pl = plain-exactly-when s w .1 f in
+      record {
+        reserved-zero = pl .reserved-zero;
+        reserved-after-zero = pl .reserved-after-zero;
+        unused-offset = pl .unused-offset;
+        unused-size = pl .unused-size;
+      },
+  λ z.
+      plain-exactly-when s w .0
+      (record {
+        accepted = e;
+        reserved-zero = z .reserved-zero;
+        reserved-after-zero = z .reserved-after-zero;
+        unused-offset = z .unused-offset;
+        unused-size = z .unused-size;
+      }),
 )
 
 -- ---- the one plain image

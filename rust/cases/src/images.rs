@@ -234,9 +234,15 @@ fn with_gap(index: usize) -> Vec<u8> {
     layout.image()
 }
 
+/// The image with its checksum's lowest bit turned.
+fn stale(mut image: Vec<u8>) -> Vec<u8> {
+    image[CHECKSUM_AT] ^= 1;
+    image
+}
+
 /// Room outside the sections, and what is judged before and after it.
 fn packing_cases() -> Vec<ImageCase> {
-    let mut cases = Vec::new();
+    let mut cases = offset_cases();
     let mut case = |name, image, number, index| {
         cases.push(ImageCase {
             name,
@@ -244,10 +250,6 @@ fn packing_cases() -> Vec<ImageCase> {
             number,
             index,
         });
-    };
-    let stale = |mut image: Vec<u8>| {
-        image[CHECKSUM_AT] ^= 1;
-        image
     };
     for index in 0..3 {
         let image = with_gap(index);
@@ -263,7 +265,22 @@ fn packing_cases() -> Vec<ImageCase> {
     image.push(0);
     seal(&mut image);
     case("no command line and a tail", image, 12, 0);
+    let image = edited(|image| image.truncate(585));
+    case("a section cut at the file's end", image, 7, 2);
+    cases
+}
 
+/// Offsets that are wrong alone, and two at once.
+fn offset_cases() -> Vec<ImageCase> {
+    let mut cases = Vec::new();
+    let mut case = |name, image, number, index| {
+        cases.push(ImageCase {
+            name,
+            image,
+            number,
+            index,
+        });
+    };
     for index in 0..3 {
         let at = OFFSETS_AT + 8 * index;
         let image = edited(|image| put_number(image, at, u64::MAX));
@@ -273,8 +290,6 @@ fn packing_cases() -> Vec<ImageCase> {
         let image = edited(|image| put_number(image, at, 0));
         case("offset 0", image, 6, index as u64);
     }
-    let image = edited(|image| image.truncate(585));
-    case("a section cut at the file's end", image, 7, 2);
     let mut image = with_gap(1);
     put_number(&mut image, OFFSETS_AT + 16, 574);
     seal(&mut image);
