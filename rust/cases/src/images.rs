@@ -14,6 +14,15 @@ pub struct ImageCase {
     pub index: u64,
 }
 
+fn image_case(name: &'static str, image: Vec<u8>, number: u8, index: u64) -> ImageCase {
+    ImageCase {
+        name,
+        image,
+        number,
+        index,
+    }
+}
+
 /// The plain version 2 image with kernel 4b, command line 61 and one empty ramdisk.
 pub fn worked_image() -> Vec<u8> {
     worked_layout().image()
@@ -162,14 +171,7 @@ fn of_types(version: u16, types: &[u16]) -> Vec<u8> {
 /// wrong.
 pub fn image_cases() -> Vec<ImageCase> {
     let mut cases = Vec::new();
-    let mut case = |name, image, number, index| {
-        cases.push(ImageCase {
-            name,
-            image,
-            number,
-            index,
-        });
-    };
+    let mut case = |name, image, number, index| cases.push(image_case(name, image, number, index));
 
     case("547 bytes", worked_image()[..547].to_vec(), 2, 0);
     for count in [1, 33] {
@@ -243,14 +245,7 @@ fn stale(mut image: Vec<u8>) -> Vec<u8> {
 /// Room outside the sections, and what is judged before and after it.
 fn packing_cases() -> Vec<ImageCase> {
     let mut cases = offset_cases();
-    let mut case = |name, image, number, index| {
-        cases.push(ImageCase {
-            name,
-            image,
-            number,
-            index,
-        });
-    };
+    let mut case = |name, image, number, index| cases.push(image_case(name, image, number, index));
     for index in 0..3 {
         let image = with_gap(index);
         case("a gap of one byte", image.clone(), 20, index as u64);
@@ -273,14 +268,7 @@ fn packing_cases() -> Vec<ImageCase> {
 /// Offsets that are wrong alone, and two at once.
 fn offset_cases() -> Vec<ImageCase> {
     let mut cases = Vec::new();
-    let mut case = |name, image, number, index| {
-        cases.push(ImageCase {
-            name,
-            image,
-            number,
-            index,
-        });
-    };
+    let mut case = |name, image, number, index| cases.push(image_case(name, image, number, index));
     for index in 0..3 {
         let at = OFFSETS_AT + 8 * index;
         let image = edited(|image| put_number(image, at, u64::MAX));
