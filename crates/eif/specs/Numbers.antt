@@ -110,5 +110,29 @@ pastStreamEnd = 19
 abbrev pub notPacked : ℕ
 notPacked = 20
 
+abbrev pub metadataNotJson : ℕ
+metadataNotJson = 21
+
+abbrev pub pieceRecordWrong : ℕ
+pieceRecordWrong = 22
+
+abbrev pub pieceOutOfTurn : ℕ
+pieceOutOfTurn = 23
+
+abbrev pub bufferTooShort : ℕ
+bufferTooShort = 24
+
+abbrev pub pieceDiffers : ℕ
+pieceDiffers = 25
+
+abbrev pub pieceMissing : ℕ
+pieceMissing = 26
+
+abbrev pub noSuchSection : ℕ
+noSuchSection = 27
+
+abbrev pub notSign1 : ℕ
+notSign1 = 28
+
 abbrev pub messageTooLong : ℕ
 messageTooLong = 29

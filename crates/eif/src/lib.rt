@@ -180,6 +180,22 @@ impl Refusal {
 
     pub const NOT_PACKED: u8 = 20;
 
+    pub const METADATA_NOT_JSON: u8 = 21;
+
+    pub const PIECE_RECORD_WRONG: u8 = 22;
+
+    pub const PIECE_OUT_OF_TURN: u8 = 23;
+
+    pub const BUFFER_TOO_SHORT: u8 = 24;
+
+    pub const PIECE_DIFFERS: u8 = 25;
+
+    pub const PIECE_MISSING: u8 = 26;
+
+    pub const NO_SUCH_SECTION: u8 = 27;
+
+    pub const NOT_SIGN1: u8 = 28;
+
     pub const MESSAGE_TOO_LONG: u8 = 29;
 }
 
