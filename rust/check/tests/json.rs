@@ -1,4 +1,5 @@
-//! JSON texts and the stricter reading: the cases of every rule, and a million texts beside the twin.
+//! JSON texts and the stricter reading: the cases of every rule, a million texts beside the twin, and python3's
+//! verdicts.
 //!
 //! The environment variables EIF_SEED and EIF_TIMES are those of `differential.rs`.
 
@@ -8,6 +9,9 @@ use eif_check::{
     any_text, compare_image, compare_text, in_threads, json_text, variable, Rng, Tally,
 };
 use std::io::{self, Write};
+use std::path::Path;
+use std::process::{Command, Stdio};
+use std::thread;
 
 const SEED: u64 = 0x8259_3629;
 const TEXTS: u64 = 1_000_000;
@@ -81,84 +85,16 @@ fn texts_of_the_grammar_are_texts() {
 }
 
 /// After these bytes each rule of the grammar is in another place.
+#[rustfmt::skip]
 const BEGINNINGS: &[&[u8]] = &[
-    b"",
-    b" ",
-    b"[",
-    b"[ ",
-    b"{",
-    b"{\n",
-    b"[1",
-    b"[1 ",
-    b"[1,",
-    b"{\"\"",
-    b"{\"\" ",
-    b"{\"\":",
-    b"{\"\":1",
-    b"{\"\":1,",
-    b"-",
-    b"0",
-    b"-0",
-    b"1",
-    b"12",
-    b"1.",
-    b"1.0",
-    b"1e",
-    b"1E+",
-    b"1e-",
-    b"1e5",
-    b"[0",
-    b"{\"\":-",
-    b"t",
-    b"tr",
-    b"tru",
-    b"true",
-    b"f",
-    b"fa",
-    b"fal",
-    b"fals",
-    b"false",
-    b"n",
-    b"nu",
-    b"nul",
-    b"null",
-    b"[null",
-    b"\"",
-    b"\"a",
-    b"\"\\",
-    b"\"\\u",
-    b"\"\\u0",
-    b"\"\\u00",
-    b"\"\\u00a",
-    b"\"\\u00aF",
-    b"\"\\ud8",
-    b"\"\xc2",
-    b"\"\xe0",
-    b"\"\xe0\xa0",
-    b"\"\xe1",
-    b"\"\xe1\x80",
-    b"\"\xed",
-    b"\"\xed\x80",
-    b"\"\xee",
-    b"\"\xef\xbb",
-    b"\"\xf0",
-    b"\"\xf0\x90",
-    b"\"\xf0\x90\x80",
-    b"\"\xf1",
-    b"\"\xf1\x80",
-    b"\"\xf4",
-    b"\"\xf4\x80",
-    b"\"\xf4\x80\x80",
-    b"\"\"",
-    b"{\"",
-    b"{\"a\\",
-    b"[\"\xc2",
-    b"[]",
-    b"{}",
-    b"[[",
-    b"[[]",
-    b"[{",
-    b"[{}",
+    b"", b" ", b"[", b"[ ", b"{", b"{\n", b"[1", b"[1 ", b"[1,", b"{\"\"", b"{\"\" ", b"{\"\":",
+    b"{\"\":1", b"{\"\":1,", b"-", b"0", b"-0", b"1", b"12", b"1.", b"1.0", b"1e", b"1E+", b"1e-",
+    b"1e5", b"[0", b"{\"\":-", b"t", b"tr", b"tru", b"true", b"f", b"fa", b"fal", b"fals", b"false",
+    b"n", b"nu", b"nul", b"null", b"[null", b"\"", b"\"a", b"\"\\", b"\"\\u", b"\"\\u0", b"\"\\u00",
+    b"\"\\u00a", b"\"\\u00aF", b"\"\\ud8", b"\"\xc2", b"\"\xe0", b"\"\xe0\xa0", b"\"\xe1",
+    b"\"\xe1\x80", b"\"\xed", b"\"\xed\x80", b"\"\xee", b"\"\xef\xbb", b"\"\xf0", b"\"\xf0\x90",
+    b"\"\xf0\x90\x80", b"\"\xf1", b"\"\xf1\x80", b"\"\xf4", b"\"\xf4\x80", b"\"\xf4\x80\x80",
+    b"\"\"", b"{\"", b"{\"a\\", b"[\"\xc2", b"[]", b"{}", b"[[", b"[[]", b"[{", b"[{}",
 ];
 
 /// Every two bytes after each beginning, and every byte where no more may be opened.
@@ -225,6 +161,50 @@ fn the_place_is_the_first() {
             let other = [&text[..=place], &more].concat();
             assert_eq!(compare_text(ordinal, &other), Some(place));
         }
+    }
+}
+
+/// What tests/json_verdicts.py says of texts, if there is a `python3`: whether each is one.
+fn python_verdicts(texts: &[Vec<u8>]) -> Option<Vec<bool>> {
+    let script = Path::new(env!("CARGO_MANIFEST_DIR")).join("../../tests/json_verdicts.py");
+    let mut python = Command::new("python3");
+    python.arg(script);
+    python.stdin(Stdio::piped()).stdout(Stdio::piped());
+    let mut python = python.spawn().ok()?;
+    let mut input = python.stdin.take().expect("a pipe");
+    let line = |text: &Vec<u8>| {
+        let digits: String = text.iter().map(|byte| format!("{byte:02x}")).collect();
+        digits + "\n"
+    };
+    let lines: String = texts.iter().map(line).collect();
+    let writer = thread::spawn(move || input.write_all(lines.as_bytes()));
+    let output = python.wait_with_output().expect("python3 ends");
+    writer.join().unwrap().expect("python3 reads its input");
+    assert!(output.status.success());
+    let said = String::from_utf8(output.stdout).expect("words");
+    Some(said.lines().map(|word| word == "text").collect())
+}
+
+/// A parser that shares nothing with the library or the twin takes the same bytes for texts.
+#[test]
+fn python_agrees() {
+    let mut texts: Vec<Vec<u8>> = text_cases().into_iter().map(|case| case.text).collect();
+    texts.extend((0..40_000).map(|ordinal| {
+        let text = any_text(&mut Rng::of_input(!SEED.rotate_left(32), ordinal));
+        match json::check(&text) {
+            // What completes a beginning shows that the place is not too early.
+            Err(fault) if ordinal % 2 == 0 => completed(&text[..fault.place()]).unwrap_or_default(),
+            _ => text,
+        }
+    }));
+    let Some(verdicts) = python_verdicts(&texts) else {
+        eprintln!("skipped: no program `python3`");
+        return;
+    };
+    assert_eq!(verdicts.len(), texts.len());
+    for (text, verdict) in texts.iter().zip(verdicts) {
+        let shown = String::from_utf8_lossy(text);
+        assert_eq!(json::check(text).is_ok(), verdict, "{text:02x?}: {shown}");
     }
 }
 
