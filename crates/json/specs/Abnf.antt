@@ -5,7 +5,6 @@ use mathlib.Core.List.{List, [], _∷_, _++_}
 
 infixl 70 _·_
 infixl 60 _or_
-
 pub data Rule : Type 0 where
   -- one byte from the first to the last: %x30-39
   range : ℕ → ℕ → Rule

@@ -128,7 +128,7 @@ unfolding jsonVerdict
 walk-start s = refl
 
 module _ (mode stack i b : ℕ) (bs : List ℕ) (act mode′ stack′ : ℕ) (a : act ≡ actOf mode stack b)
-  (m : mode′ ≡ turnMode (kindOf act) act stack) (k : stack′ ≡ turnStack (kindOf act) stack) where
+    (m : mode′ ≡ turnMode (kindOf act) act stack) (k : stack′ ≡ turnStack (kindOf act) stack) where
   mode-is : mode′ ≡ turnMode (kindOf (actOf mode stack b)) (actOf mode stack b) stack
   mode-is = m ∙ ap (λ (x : ℕ). turnMode (kindOf x) x stack) a
 
@@ -147,7 +147,7 @@ module _ (mode stack i b : ℕ) (bs : List ℕ) (act mode′ stack′ : ℕ) (a 
 
 module _ (s : List ℕ) (v : JsonVerdict) (mode stack i : ℕ) (rest : walkFrom mode stack i (drop i s) ≡ v) where
   module _ (inside : i < length s) (act mode′ stack′ : ℕ) (a : act ≡ actOf mode stack (getD s i 0))
-    (m : mode′ ≡ turnMode (kindOf act) act stack) (k : stack′ ≡ turnStack (kindOf act) stack) where
+      (m : mode′ ≡ turnMode (kindOf act) act stack) (k : stack′ ≡ turnStack (kindOf act) stack) where
     here : walkFrom mode stack i (getD s i 0 ∷ drop (suc i) s) ≡ v
     here = ap (walkFrom mode stack i) (sym (drop-cons s i 0 inside)) ∙ rest
 

@@ -1,4 +1,4 @@
--- What the checker promises of every byte string, said of the grammar and of nothing else: texts exactly are accepted, and the place
+-- What the checker promises of whatever bytes, said of the grammar and of nothing else: texts exactly are accepted, and the place
 -- of a fault is that of the first byte that no text can have there, or the end.
 -- Assumes nothing.
 use Prim.Native.Nat.{ℕ, zero, suc, _<_, _≤_}
@@ -9,7 +9,6 @@ use native.Mathlib.Omega.{arith}
 use native.Mathlib.Nat.{eq-or-lt-of-le}
 use lib.ListN.{length, take, drop, take-append-drop}
 use lib.Seq.{take-take, take-length}
-use Rattle.octets.specs.Bytes.{AreBytes}
 use Rattle.octets.proofs.Over.{le-or-lt}
 use Rattle.json.specs.Verdict.{IsText, CanBegin, FirstFault, IsVerdict}
 use Rattle.json.specs.declared.JsonVerdict.{JsonVerdict}
@@ -54,17 +53,17 @@ module _ (s : List ℕ) where
 
 -- ---- of the checker
 
--- it gives the right verdict on every byte string
-pub right-verdict : (s : List ℕ) → AreBytes s → IsVerdict s (jsonVerdict s)
+-- it gives the right verdict on whatever bytes
+pub right-verdict : (s : List ℕ) → IsVerdict s (jsonVerdict s)
 unfolding jsonVerdict stackOf
-right-verdict s w = right-from s [] 0 1 w (omega arith) (refl, refl, refl)
+right-verdict s = right-from s [] 0 1 (omega arith) (refl, refl, refl)
 
-module _ (s : List ℕ) (w : AreBytes s) where
+module _ (s : List ℕ) where
   is-verdict : (v : JsonVerdict) → jsonVerdict s ≡ v → IsVerdict s v
-  is-verdict v e = subst (λ (x : JsonVerdict). IsVerdict s x) e (right-verdict s w)
+  is-verdict v e = subst (λ (x : JsonVerdict). IsVerdict s x) e (right-verdict s)
 
   verdict-is : (v : JsonVerdict) → IsVerdict s v → jsonVerdict s ≡ v
-  verdict-is v i = only-verdict s (jsonVerdict s) v (right-verdict s w) i
+  verdict-is v i = only-verdict s (jsonVerdict s) v (right-verdict s) i
 
   -- accepted exactly when the bytes are one text of the grammar within the depth limit
   pub accepted-exactly-when : (jsonVerdict s ≡ Text → IsText s) × (IsText s → jsonVerdict s ≡ Text)

@@ -4,16 +4,19 @@ use Prim.Native.Nat.{ℕ, zero, suc, _+_, _*_, _/_, _%_, _<_, _≤_}
 use mathlib.Core.Path.{_≡_, refl, ap, ap₂, sym, _∙_, subst}
 use mathlib.Core.Bool.{Bool, true, false}
 use mathlib.Core.List.{List, [], _∷_}
+use mathlib.Core.Logic.{⊎-elim}
 use native.Mathlib.Omega.{arith}
 use lib.Dec.{eqb, ltb}
 use lib.ListN.{length, getD}
 use borrow.Author.Tests.{lt-ltb, le-ltb, eq-eqb, ne-eqb}
 use Rattle.json.specs.Verdict.{depthLimit}
-use Rattle.json_machine.specs.Machine.{stackLimit, both, afterOf, actOf, Kind, goes, stops, closes, faults, opens, kindOf, bit, turnMode, turnStack, endsOf}
+use Rattle.json_machine.specs.Machine.{stackLimit, both, afterOf, entryOf, actOf, Kind, goes, stops, closes, faults, opens, kindOf, bit, turnMode, turnStack, endsOf}
+use Rattle.octets.proofs.Over.{le-or-lt}
 use Rattle.json_machine.proofs.Derive.{end}
 use Rattle.json_machine.proofs.Modes.{Token, Str, Mode, m-value, m-after, m-firstItem, m-firstMember, m-key, m-colon, m-token, m-string, m-name}
 use Rattle.json_machine.proofs.Modes as T
 use Rattle.json_machine.proofs.Step.{Next, refused, at, step, still, number, frames, afterNumber}
+use Rattle.json_machine.proofs.Within.{class-past, step-past}
 use Rattle.json_laws.proofs.Coded.{stackOf, stack-pos, stack-after, stack-up, stack-full, stack-room, cell, entry-cell, after-below, number-below, Spot, stopped, impossible, spot, spotOf, turn, does, turnAt, each, same}
 
 abbrev pub CodedSpot : Spot → ℕ → ℕ → Type 0
@@ -52,8 +55,8 @@ act-does m fs b =
 abbrev pub Onward : Next → ℕ → ℕ → Type 0
 Onward n a st = Coded n (turnMode (kindOf a) a st) (turnStack (kindOf a) st)
 
-pub onward : (m : Mode) (d : ℕ) (fs : List Bool) (b : ℕ) → b < 256 → (mo st : ℕ) → Coded (at m d fs) mo st → Onward (step m d fs b) (actOf mo st b) st
-onward m d fs b l mo st (p, q, h) =
+onward-below : (m : Mode) (d : ℕ) (fs : List Bool) (b : ℕ) → b < 256 → (mo st : ℕ) → Coded (at m d fs) mo st → Onward (step m d fs b) (actOf mo st b) st
+onward-below m d fs b l mo st (p, q, h) =
     let e = each (λ b. spotOf (step m d fs b)) (λ b. turnAt m d fs b) 256 (same m d fs) b l in
     let a = does (number m fs) (frames m fs) b in
     let t = turned (step m d fs b) a (kindOf a) d (frames m fs) h e in
@@ -62,6 +65,19 @@ onward m d fs b l mo st (p, q, h) =
     let i : actOf mo st b ≡ a = ap₂ (λ (x y : ℕ). actOf x y b) p q ∙ act-does m fs b in
     let v = subst (λ (x : ℕ). Onward (step m d fs b) x S) (sym i) u in
     subst (λ (x : ℕ). Onward (step m d fs b) (actOf mo st b) x) (sym q) v
+
+act-past : (mo st b : ℕ) → 256 ≤ b → actOf mo st b ≡ actOf mo st 0
+unfolding actOf entryOf
+act-past mo st b h = rw (class-past b h) refl
+
+pub onward : (m : Mode) (d : ℕ) (fs : List Bool) (b mo st : ℕ) → Coded (at m d fs) mo st → Onward (step m d fs b) (actOf mo st b) st
+onward m d fs b mo st c = ⊎-elim past (λ (l : b < 256). onward-below m d fs b l mo st c) (le-or-lt 256 b)
+  where
+    past : 256 ≤ b → Onward (step m d fs b) (actOf mo st b) st
+    past h =
+        let z = onward-below m d fs 0 (omega arith) mo st c in
+        let y = subst (λ (x : ℕ). Onward (step m d fs 0) x st) (sym (act-past mo st b h)) z in
+        subst (λ (n : Next). Onward n (actOf mo st b) st) (sym (step-past m d fs b h)) y
 
 -- ---- the end
 

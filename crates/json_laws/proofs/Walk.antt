@@ -9,7 +9,6 @@ use borrow.Author.Tests.{eqb-true, eqb-false}
 use lib.Dec.{eqb}
 use lib.ListN.{length, take, drop, take-append-drop, length-append}
 use lib.Seq.{take-at}
-use Rattle.octets.specs.Bytes.{AreBytes}
 use Rattle.json.specs.Verdict.{IsText, CanBegin, FirstFault, IsVerdict}
 use Rattle.json.specs.declared.JsonVerdict.{JsonVerdict}
 use Rattle.json.specs.declared.JsonVerdict.the-variants.{Text, Fault}
@@ -20,14 +19,6 @@ use Rattle.json_laws.proofs.Coded.{number-below}
 use Rattle.json_laws.proofs.Onward.{Coded, Onward, onward, coded-end}
 
 -- ---- lists
-
-bytes-left : (x y : List ℕ) → AreBytes (x ++ y) → AreBytes x
-bytes-left [] y w = tt
-bytes-left (u ∷ x) y w = (w .0, bytes-left x y (w .1))
-
-bytes-right : (x y : List ℕ) → AreBytes (x ++ y) → AreBytes y
-bytes-right [] y w = w
-bytes-right (u ∷ x) y w = bytes-right x y (w .1)
 
 run-append : (p : List ℕ) (n : Next) (t : List ℕ) → run n (p ++ t) ≡ run (run n p) t
 run-append [] n t = refl
@@ -50,13 +41,13 @@ coded-refused : (n : Next) (mo st : ℕ) → Coded n mo st → mo ≡ 51 → n �
 coded-refused refused mo st c h = refl
 coded-refused (at m d fs) mo st c h = let l = number-below m fs in let e = c .0 in absurd (omega arith)
 
-coded-turn : (n : Next) (mo st b : ℕ) → b < 256 → mo < 51 → Coded n mo st → Onward (run n (b ∷ [])) (actOf mo st b) st
-coded-turn refused mo st b l h c = absurd (omega arith)
-coded-turn (at m d fs) mo st b l h c = onward m d fs b l mo st c
+coded-turn : (n : Next) (mo st b : ℕ) → mo < 51 → Coded n mo st → Onward (run n (b ∷ [])) (actOf mo st b) st
+coded-turn refused mo st b h c = absurd (omega arith)
+coded-turn (at m d fs) mo st b h c = onward m d fs b mo st c
 
-coded-begins : (p : List ℕ) → AreBytes p → (n : Next) → run start p ≡ n → (mo st : ℕ) → mo < 51 → Coded n mo st → CanBegin p
-coded-begins p h refused e mo st l c = absurd (omega arith)
-coded-begins p h (at m d fs) e mo st l c = can-begin p h m d fs e
+coded-begins : (p : List ℕ) (n : Next) → run start p ≡ n → (mo st : ℕ) → mo < 51 → Coded n mo st → CanBegin p
+coded-begins p refused e mo st l c = absurd (omega arith)
+coded-begins p (at m d fs) e mo st l c = can-begin p m d fs e
 
 coded-ends : (n : Next) (mo st : ℕ) → mo < 51 → Coded n mo st → endsOf mo st ≡ accepts n
 coded-ends refused mo st l c = absurd (omega arith)
@@ -64,26 +55,26 @@ coded-ends (at m d fs) mo st l c = ap₂ endsOf (c .0) (c .1) ∙ coded-end m d 
 
 -- ---- the walk, after the bytes p
 
-module _ (p : List ℕ) (mo st : ℕ) (bytes : AreBytes p) (small : mo < 51) (coded : Coded (run start p) mo st) where
+module _ (p : List ℕ) (mo st : ℕ) (small : mo < 51) (coded : Coded (run start p) mo st) where
   begins : CanBegin p
-  begins = coded-begins p bytes (run start p) refl mo st small coded
+  begins = coded-begins p (run start p) refl mo st small coded
 
   -- no byte is left
   right-end : (e : Bool) → endsOf mo st ≡ e → IsVerdict p (choose e Text (Fault (length p)))
-  right-end true e = accepted p bytes (sym (coded-ends (run start p) mo st small coded) ∙ e)
+  right-end true e = accepted p (sym (coded-ends (run start p) mo st small coded) ∙ e)
   right-end false e =
       record {
-        no-text = λ t. false≢true (sym e ∙ coded-ends (run start p) mo st small coded ∙ accepting p bytes t);
+        no-text = λ t. false≢true (sym e ∙ coded-ends (run start p) mo st small coded ∙ accepting p t);
         within = omega arith;
         before = subst (λ (l : List ℕ). CanBegin l) (sym whole) begins;
-        there = λ l. absurd (omega arith)
+        there = λ l. absurd (omega arith);
       }
     where
       whole : take (length p) p ≡ p
       whole = ap (take (length p)) (sym (append-nil p)) ∙ take-at p [] (length p) refl
 
   -- at the byte b, which t follows
-  module _ (b : ℕ) (t : List ℕ) (byte : b < 256) where
+  module _ (b : ℕ) (t : List ℕ) where
     abbrev more : List ℕ
     more = p ++ (b ∷ [])
 
@@ -95,11 +86,11 @@ module _ (p : List ℕ) (mo st : ℕ) (bytes : AreBytes p) (small : mo < 51) (co
 
     coded-more : Onward (run start more) (actOf mo st b) st
     coded-more =
-        subst (λ (n : Next). Onward n (actOf mo st b) st) (sym (run-append p start (b ∷ []))) (coded-turn (run start p) mo st b byte small coded)
+        subst (λ (n : Next). Onward n (actOf mo st b) st) (sym (run-append p start (b ∷ []))) (coded-turn (run start p) mo st b small coded)
 
-    right-fault : AreBytes more → turnMode (kindOf (actOf mo st b)) (actOf mo st b) st ≡ 51 → FirstFault (p ++ (b ∷ t)) (length p)
-    right-fault w e =
-        let no : CanBegin more → ⊥ = cannot-begin more w (coded-refused (run start more) _ _ coded-more e) in
+    right-fault : turnMode (kindOf (actOf mo st b)) (actOf mo st b) st ≡ 51 → FirstFault (p ++ (b ∷ t)) (length p)
+    right-fault e =
+        let no : CanBegin more → ⊥ = cannot-begin more (coded-refused (run start more) _ _ coded-more e) in
         let cut : take (suc (length p)) (p ++ (b ∷ t)) ≡ more =
         ap (take (suc (length p))) (sym joined) ∙ take-at more t (suc (length p)) one-more in
         let not-begin : CanBegin (take (suc (length p)) (p ++ (b ∷ t))) → ⊥ = λ v. no (subst (λ (l : List ℕ). CanBegin l) cut v) in
@@ -107,29 +98,26 @@ module _ (p : List ℕ) (mo st : ℕ) (bytes : AreBytes p) (small : mo < 51) (co
           no-text = λ i. not-begin (text-begins (suc (length p)) (p ++ (b ∷ t)) i);
           within = simp length-append (omega arith);
           before = subst (λ (l : List ℕ). CanBegin l) (sym (take-at p (b ∷ t) (length p) refl)) begins;
-          there = λ l. not-begin
+          there = λ l. not-begin;
         }
 
 by-test : (s : List ℕ) (e : Bool) (v w : JsonVerdict) → (e ≡ true → IsVerdict s v) → (e ≡ false → IsVerdict s w) → IsVerdict s (choose e v w)
 by-test s true v w f g = f refl
 by-test s false v w f g = g refl
 
-pub right-from : (t p : List ℕ) (mo st : ℕ) → AreBytes (p ++ t) → mo < 51 → Coded (run start p) mo st → IsVerdict (p ++ t) (walkFrom mo st (length p) t)
+pub right-from : (t p : List ℕ) (mo st : ℕ) → mo < 51 → Coded (run start p) mo st → IsVerdict (p ++ t) (walkFrom mo st (length p) t)
 unfolding walkFrom
-right-from [] p mo st w small coded =
+right-from [] p mo st small coded =
     subst (λ (l : List ℕ). IsVerdict l (choose (endsOf mo st) Text (Fault (length p)))) (sym (append-nil p))
-    (right-end p mo st (bytes-left p [] w) small coded (endsOf mo st) refl)
-right-from (b ∷ t) p mo st w small coded =
+    (right-end p mo st small coded (endsOf mo st) refl)
+right-from (b ∷ t) p mo st small coded =
     let mo′ : ℕ = turnMode (kindOf (actOf mo st b)) (actOf mo st b) st in
     let st′ : ℕ = turnStack (kindOf (actOf mo st b)) st in
     let more : List ℕ = p ++ (b ∷ []) in
-    let bytes : AreBytes p = bytes-left p (b ∷ t) w in
-    let all : AreBytes (more ++ t) = subst (λ (l : List ℕ). AreBytes l) (sym (append-assoc p (b ∷ []) t)) w in
-    let byte : b < 256 = bytes-right p (b ∷ t) w .0 in
-    let c : Coded (run start more) mo′ st′ = coded-more p mo st bytes small coded b t byte in
+    let c : Coded (run start more) mo′ st′ = coded-more p mo st small coded b t in
     by-test (p ++ (b ∷ t)) (eqb mo′ 51) (Fault (length p)) (walkFrom mo′ st′ (suc (length p)) t)
-    (λ e. right-fault p mo st bytes small coded b t byte (bytes-left more t all) (eqb-true mo′ 51 e))
+    (λ e. right-fault p mo st small coded b t (eqb-true mo′ 51 e))
     (λ e.
-    let r = right-from t more mo′ st′ all (coded-below (run start more) mo′ st′ c (eqb-false mo′ 51 e)) c in
+    let r = right-from t more mo′ st′ (coded-below (run start more) mo′ st′ c (eqb-false mo′ 51 e)) c in
     subst (λ (l : List ℕ). IsVerdict l (walkFrom mo′ st′ (suc (length p)) t)) (append-assoc p (b ∷ []) t)
-    (subst (λ (k : ℕ). IsVerdict (more ++ t) (walkFrom mo′ st′ k t)) (one-more p mo st bytes small coded b t byte) r))
+    (subst (λ (k : ℕ). IsVerdict (more ++ t) (walkFrom mo′ st′ k t)) (one-more p mo st small coded b t) r))

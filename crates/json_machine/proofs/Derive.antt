@@ -13,7 +13,7 @@ use Rattle.json.specs.Abnf.{Rule, range, _·_, _or_, empty, many, Is, is-range,
 -- `Run k s`: s is texts of the rules k, one after the other
 pub data Run : List Rule → List ℕ → Type 0 where
   stop : Run [] []
-  eat : {lo hi b : ℕ} {k : List Rule} {s : List ℕ} → lo ≤ b → b ≤ hi → Run k s → Run (range lo hi ∷ k) (b ∷ s)
+  one : {lo hi b : ℕ} {k : List Rule} {s : List ℕ} → lo ≤ b → b ≤ hi → Run k s → Run (range lo hi ∷ k) (b ∷ s)
   both : {x y : Rule} {k : List Rule} {s : List ℕ} → Run (x ∷ y ∷ k) s → Run (x · y ∷ k) s
   left : {x y : Rule} {k : List Rule} {s : List ℕ} → Run (x ∷ k) s → Run ((x or y) ∷ k) s
   right : {x y : Rule} {k : List Rule} {s : List ℕ} → Run (y ∷ k) s → Run ((x or y) ∷ k) s
@@ -27,7 +27,7 @@ regroup : {k : List Rule} (u v t : List ℕ) → Run k (u ++ (v ++ t)) → Run k
 regroup u v t r = rw append-assoc r
 
 pub run-is : {x : Rule} {s t : List ℕ} {k : List Rule} → Is x s → Run k t → Run (x ∷ k) (s ++ t)
-run-is (is-range a b) r = eat a b r
+run-is (is-range a b) r = one a b r
 run-is {t} (is-both {s = u} {t = v} i j) r = both (regroup u v t (run-is i (run-is j r)))
 run-is (is-left i) r = left (run-is i r)
 run-is (is-right i) r = right (run-is i r)
@@ -50,7 +50,7 @@ change f (part {u = u} i p) = part (f u i) p
 
 pub parts : {k : List Rule} {s : List ℕ} → Run k s → Parts k s
 parts stop = last
-parts (eat h l r) = part (is-range h l) (parts r)
+parts (one h l r) = part (is-range h l) (parts r)
 parts (both r) = join (λ u v. is-both) (parts r)
 parts (left r) = change (λ u. is-left) (parts r)
 parts (right r) = change (λ u. is-right) (parts r)
@@ -140,7 +140,7 @@ module _ (b : ℕ) (t : List ℕ) where
   sound (range lo hi) k r f h =
       let p = picked (and (leb lo b) (leb b hi)) h in
       let q = and-true (leb lo b) (leb b hi) (p .0) in
-      eat (leb-true lo b (q .0)) (leb-true b hi (q .1)) (p .1)
+      one (leb-true lo b (q .0)) (leb-true b hi (q .1)) (p .1)
   sound (x · y) k r f h = both (sound x (y ∷ k) (rest b y k r) (sound y k r f) h)
   sound (x or y) k r f h = ⊎-elim (λ a. left (sound x k r f a)) (λ a. right (sound y k r f a)) (some-cases (rest b x k r) h)
   sound empty k r f h = skip (f h)
@@ -169,9 +169,9 @@ module _ (b : ℕ) (t : List ℕ) where
       ⊎-elim
       (λ a. inl (mono x (y ∷ k) [] (rest b y k []) (λ z. absurd (none-left z)) a))
       (λ a. ⊎-elim
-        (λ c. inl (a .1 (rest b y k []) c))
-        (λ c. inr (c .0, λ q z. a .1 (rest b y k q) (c .1 q z)))
-        (through y k r (a .0)))
+      (λ c. inl (a .1 (rest b y k []) c))
+      (λ c. inr (c .0, λ q z. a .1 (rest b y k q) (c .1 q z)))
+      (through y k r (a .0)))
       (through x (y ∷ k) (rest b y k r) h)
   through (x or y) k r h =
       ⊎-elim
@@ -186,7 +186,7 @@ module _ (b : ℕ) (t : List ℕ) where
       (some-cases (rest b x (many x ∷ k) []) h)
 
   pub complete : {k : List Rule} → Run k (b ∷ t) → Some (rests b k) t
-  complete (eat {lo = lo} {hi = hi} {k = k} h l r) = rw (le-leb lo b h, le-leb b hi l) (here r)
+  complete (one {lo = lo} {hi = hi} {k = k} h l r) = rw (le-leb lo b h, le-leb b hi l) (here r)
   complete (both r) = complete r
   complete (left r) = some-left _ (complete r)
   complete (right {x = x} {k = k} r) = some-right (rest b x k (rests b k)) (complete r)
@@ -246,7 +246,7 @@ productive [] = true
 productive (x ∷ k) = and (isProductive x) (productive k)
 
 run-isProductive : (x : Rule) (k : List Rule) → isProductive x ≡ true → (s : List ℕ) × Run k s → (s : List ℕ) × Run (x ∷ k) s
-run-isProductive (range lo hi) k e (s, r) = (lo ∷ s, eat {b = lo} (le-refl lo) (leb-true lo hi e) r)
+run-isProductive (range lo hi) k e (s, r) = (lo ∷ s, one {b = lo} (le-refl lo) (leb-true lo hi e) r)
 run-isProductive (x · y) k e r =
     let p = and-true (isProductive x) (isProductive y) e in
     let q = run-isProductive x (y ∷ k) (p .0) (run-isProductive y k (p .1) r) in

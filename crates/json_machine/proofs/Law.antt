@@ -1,10 +1,9 @@
 -- The machine stops exactly at the first byte that no text can have there, and accepts exactly the texts.
 -- Assumes nothing.
-use Prim.Native.Nat.{ℕ, zero, suc, _<_}
+use Prim.Native.Nat.{ℕ, zero, suc}
 use mathlib.Core.Path.{_≡_, refl, sym, subst}
 use mathlib.Core.Bool.{Bool, true, false, false≢true}
 use mathlib.Core.List.{List, [], _∷_, _++_, append-nil}
-use Rattle.octets.specs.Bytes.{AreBytes}
 use Rattle.json.specs.Abnf.{Rule, _·_}
 use Rattle.json.specs.Grammar.{ws, value, json-text}
 use Rattle.json.specs.Verdict.{depthLimit, IsText, CanBegin}
@@ -14,7 +13,7 @@ use Rattle.json_machine.proofs.Spaces.{to-value, from-value}
 use Rattle.json_machine.proofs.Modes.{Token, Str, Mode, m-value, m-after, m-firstItem, m-firstMember, m-key, m-colon, m-token, m-string, m-name}
 use Rattle.json_machine.proofs.Modes as T
 use Rattle.json_machine.proofs.Step.{Next, refused, at, still, step, stills, after, colon, token, str}
-use Rattle.json_machine.proofs.Right.{each, right}
+use Rattle.json_machine.proofs.Within.{turned}
 
 abbrev pub run : Next → List ℕ → Next
 run n [] = n
@@ -27,15 +26,12 @@ accepts (at m d fs) = end (still m d fs)
 
 -- ---- what may still come, from the start and after the bytes p
 
-module _ (m : Mode) (d : ℕ) (fs : List Bool) (b : ℕ) (l : b < 256) (t : List ℕ) where
-  turned : rests b (still m d fs) ≡ stills (step m d fs b)
-  turned = each (λ b. rests b (still m d fs)) (λ b. stills (step m d fs b)) 256 (right m d fs) b l
-
+module _ (m : Mode) (d : ℕ) (fs : List Bool) (b : ℕ) (t : List ℕ) where
   forth-one : Run (still m d fs) (b ∷ t) → Some (stills (step m d fs b)) t
-  forth-one r = subst (λ (k : List (List Rule)). Some k t) turned (complete b t r)
+  forth-one r = subst (λ (k : List (List Rule)). Some k t) (turned m d fs b) (complete b t r)
 
   back-one : Some (stills (step m d fs b)) t → Run (still m d fs) (b ∷ t)
-  back-one r = sounds b t (still m d fs) (subst (λ (k : List (List Rule)). Some k t) (sym turned) r)
+  back-one r = sounds b t (still m d fs) (subst (λ (k : List (List Rule)). Some k t) (sym (turned m d fs b)) r)
 
 only : {k : List Rule} {s : List ℕ} → Some (k ∷ []) s → Run k s
 only (here r) = r
@@ -43,15 +39,15 @@ only (here r) = r
 flat : {x y z : Rule} {s : List ℕ} → Run (x · y · z ∷ []) s → Run (x ∷ y ∷ z ∷ []) s
 flat (both (both r)) = r
 
-pub forth : (p : List ℕ) (n : Next) (t : List ℕ) → AreBytes p → Some (stills n) (p ++ t) → Some (stills (run n p)) t
-forth [] n t h r = r
-forth (b ∷ p) refused t h r = absurd (none-left r)
-forth (b ∷ p) (at m d fs) t (l, h) r = forth p (step m d fs b) t h (forth-one m d fs b l (p ++ t) (only r))
+pub forth : (p : List ℕ) (n : Next) (t : List ℕ) → Some (stills n) (p ++ t) → Some (stills (run n p)) t
+forth [] n t r = r
+forth (b ∷ p) refused t r = absurd (none-left r)
+forth (b ∷ p) (at m d fs) t r = forth p (step m d fs b) t (forth-one m d fs b (p ++ t) (only r))
 
-pub back : (p : List ℕ) (n : Next) (t : List ℕ) → AreBytes p → Some (stills (run n p)) t → Some (stills n) (p ++ t)
-back [] n t h r = r
-back (b ∷ p) refused t h r = absurd (none-left r)
-back (b ∷ p) (at m d fs) t (l, h) r = here (back-one m d fs b l (p ++ t) (back p (step m d fs b) t h r))
+pub back : (p : List ℕ) (n : Next) (t : List ℕ) → Some (stills (run n p)) t → Some (stills n) (p ++ t)
+back [] n t r = r
+back (b ∷ p) refused t r = absurd (none-left r)
+back (b ∷ p) (at m d fs) t r = here (back-one m d fs b (p ++ t) (back p (step m d fs b) t r))
 
 -- ---- at the end
 
@@ -136,19 +132,19 @@ closed : (s : List ℕ) → Some (stills start) s → IsText s
 unfolding IsText
 closed s r = is-run (both (both (from-value depthLimit [] s (only r))))
 
-module _ (s : List ℕ) (h : AreBytes s) where
+module _ (s : List ℕ) where
   pub accepted : accepts (run start s) ≡ true → IsText s
-  accepted e = closed s (subst (λ (l : List ℕ). Some (stills start) l) (append-nil s) (back s start [] h (ending (run start s) e)))
+  accepted e = closed s (subst (λ (l : List ℕ). Some (stills start) l) (append-nil s) (back s start [] (ending (run start s) e)))
 
   pub accepting : IsText s → accepts (run start s) ≡ true
-  accepting i = ended (run start s) (forth s start [] h (subst (λ (l : List ℕ). Some (stills start) l) (sym (append-nil s)) (opened s i)))
+  accepting i = ended (run start s) (forth s start [] (subst (λ (l : List ℕ). Some (stills start) l) (sym (append-nil s)) (opened s i)))
 
   pub can-begin : (m : Mode) (d : ℕ) (fs : List Bool) → run start s ≡ at m d fs → CanBegin s
   unfolding CanBegin
   can-begin m d fs e =
       let q = run-productive (still m d fs) (productive-still m d fs) in
-      (q .0, closed (s ++ q .0) (back s start (q .0) h (subst (λ (n : Next). Some (stills n) (q .0)) (sym e) (here (q .1)))))
+      (q .0, closed (s ++ q .0) (back s start (q .0) (subst (λ (n : Next). Some (stills n) (q .0)) (sym e) (here (q .1)))))
 
   pub cannot-begin : run start s ≡ refused → CanBegin s → ⊥
   unfolding CanBegin
-  cannot-begin e v = none-left (subst (λ (n : Next). Some (stills n) (v .0)) e (forth s start (v .0) h (opened (s ++ v .0) (v .1))))
+  cannot-begin e v = none-left (subst (λ (n : Next). Some (stills n) (v .0)) e (forth s start (v .0) (opened (s ++ v .0) (v .1))))

@@ -5,4 +5,5 @@ pub mod Modes
 pub mod Classes
 pub mod Step
 pub mod Right
+pub mod Within
 pub mod Law

@@ -21,15 +21,15 @@ listed o c x = structural o · opt (x · many (structural 0x2C · x)) · structu
 abbrev Sub : List Rule → List Rule → Type 0
 Sub k l = (s : List ℕ) → Run k s → Run l s
 
-un : {k : List Rule} {s : List ℕ} → Parts k s → Run k s
-un last = stop
-un (part i p) = run-is i (un p)
+run-parts : {k : List Rule} {s : List ℕ} → Parts k s → Run k s
+run-parts last = stop
+run-parts (part i p) = run-is i (run-parts p)
 
 data Cut (x : Rule) (k : List Rule) : List ℕ → Type 0 where
   cut : {u v : List ℕ} → Is x u → Run k v → Cut x k (u ++ v)
 
 cut-of : {x : Rule} {k : List Rule} {s : List ℕ} → Parts (x ∷ k) s → Cut x k s
-cut-of (part i p) = cut i (un p)
+cut-of (part i p) = cut i (run-parts p)
 
 uncut : {x : Rule} {k : List Rule} {s : List ℕ} → Cut x k s → Run (x ∷ k) s
 uncut (cut i r) = run-is i r
@@ -61,11 +61,10 @@ twice k s r = run-is is-none r
 
 -- a list of x in the RFC, and of y with its spaces in it, each later one z
 module _ (o c : ℕ) (x y z R : Rule)
-  (to : (k : List Rule) → Sub (ws ∷ x ∷ ws ∷ k) (ws ∷ y ∷ k))
-  (pack : (k : List Rule) → Sub (byte 0x2C ∷ ws ∷ y ∷ k) (z ∷ k))
-  (no : (k : List Rule) → Sub (byte c ∷ k) (R ∷ k))
-  (yes′ : (k : List Rule) → Sub (y ∷ many z ∷ byte c ∷ k) (R ∷ k)) where
-
+    (to : (k : List Rule) → Sub (ws ∷ x ∷ ws ∷ k) (ws ∷ y ∷ k))
+    (pack : (k : List Rule) → Sub (byte 0x2C ∷ ws ∷ y ∷ k) (z ∷ k))
+    (without : (k : List Rule) → Sub (byte c ∷ k) (R ∷ k))
+    (with-first : (k : List Rule) → Sub (y ∷ many z ∷ byte c ∷ k) (R ∷ k)) where
   closing : (k : List Rule) → Sub (structural c ∷ ws ∷ k) (ws ∷ byte c ∷ ws ∷ k)
   closing k s (both (both r)) = under ws (under (byte c) (merge k)) s r
 
@@ -81,9 +80,9 @@ module _ (o c : ℕ) (x y z R : Rule)
   nexts (cut i r) = next i r
 
   inner : {k : List Rule} {s : List ℕ} → Cut ws (opt (x · many (structural 0x2C · x)) ∷ structural c ∷ ws ∷ k) s → Run (ws ∷ R ∷ ws ∷ k) s
-  inner {k} (cut {u = u} {v = v} i (right (skip e))) = under ws (no (ws ∷ k)) (u ++ v) (merge (byte c ∷ ws ∷ k) (u ++ v) (run-is i (closing k v e)))
+  inner {k} (cut {u = u} {v = v} i (right (skip e))) = under ws (without (ws ∷ k)) (u ++ v) (merge (byte c ∷ ws ∷ k) (u ++ v) (run-is i (closing k v e)))
   inner {k} (cut {u = u} {v = v} i (left (both e))) =
-      under ws (yes′ (ws ∷ k)) (u ++ v)
+      under ws (with-first (ws ∷ k)) (u ++ v)
       (to (many z ∷ byte c ∷ ws ∷ k) (u ++ v) (run-is i (under x (λ s r. nexts (cut-of (parts r))) v e)))
 
   outer : {k : List Rule} {s : List ℕ} → Cut ws (listed o c x ∷ ws ∷ k) s → Run (ws ∷ (byte o · ws · R) ∷ ws ∷ k) s
@@ -107,12 +106,13 @@ module _ (v w : Rule) (to : (k : List Rule) → Sub (ws ∷ v ∷ ws ∷ k) (ws 
       split (both e) = e
 
   to-member : (k : List Rule) → Sub (ws ∷ member v ∷ ws ∷ k) (ws ∷ plainMember w ∷ k)
-  to-member k = under ws one′
+  to-member k = under ws inside
     where
       mid : Sub (structural 0x3A ∷ v ∷ ws ∷ k) (ws ∷ byte 0x3A ∷ ws ∷ w ∷ ws ∷ k)
       mid s (both (both r)) = under ws (under (byte 0x3A) (to k)) s r
-      one′ : Sub (member v ∷ ws ∷ k) (plainMember w ∷ k)
-      one′ s (both (both r)) = both (both (both (both (both (under string mid s r)))))
+
+      inside : Sub (member v ∷ ws ∷ k) (plainMember w ∷ k)
+      inside s (both (both r)) = both (both (both (both (both (under string mid s r)))))
 
   to-object : {k : List Rule} {s : List ℕ} → Cut ws (object v ∷ ws ∷ k) s → Run (ws ∷ plainObject w ∷ ws ∷ k) s
   to-object r =
@@ -149,16 +149,15 @@ split : {a b : Rule} {k : List Rule} {s : List ℕ} → Run (a · b ∷ k) s →
 split (both e) = e
 
 module _ (o c : ℕ) (x y z R : Rule)
-  (fro : (k : List Rule) → Sub (ws ∷ y ∷ k) (ws ∷ x ∷ ws ∷ k))
-  (unpack : (k : List Rule) → Sub (z ∷ k) (byte 0x2C ∷ ws ∷ y ∷ k))
-  (either : (k : List Rule) (s : List ℕ) → Run (R ∷ k) s → Run (byte c ∷ k) s ⊎ Run (y ∷ many z ∷ byte c ∷ k) s) where
-
+    (from : (k : List Rule) → Sub (ws ∷ y ∷ k) (ws ∷ x ∷ ws ∷ k))
+    (unpack : (k : List Rule) → Sub (z ∷ k) (byte 0x2C ∷ ws ∷ y ∷ k))
+    (either : (k : List Rule) (s : List ℕ) → Run (R ∷ k) s → Run (byte c ∷ k) s ⊎ Run (y ∷ many z ∷ byte c ∷ k) s) where
   shut : (k : List Rule) → Sub (ws ∷ byte c ∷ ws ∷ k) (structural c ∷ ws ∷ k)
   shut k s r = both (both (under ws (under (byte c) (twice k)) s r))
 
-  glue : {k : List Rule} {a t w : List ℕ} → Parts (byte 0x2C ∷ ws ∷ x ∷ ws ∷ []) a → ((w₂ : List ℕ) → Is ws w₂ → Run (many (structural 0x2C · x) ∷ k) (w₂ ++ t))
-    → Is ws w → Run (many (structural 0x2C · x) ∷ k) (w ++ (a ++ t))
-  glue {k} {t} {w} (part {u = c₁} ic (part {u = w₁} i₁ (part {u = x₁} ix (part {u = w₂} i₂ last)))) f iw =
+  put-before : {k : List Rule} {a t w : List ℕ} → Parts (byte 0x2C ∷ ws ∷ x ∷ ws ∷ []) a → ((w₂ : List ℕ) → Is ws w₂ → Run (many (structural 0x2C · x) ∷ k) (w₂ ++ t))
+      → Is ws w → Run (many (structural 0x2C · x) ∷ k) (w ++ (a ++ t))
+  put-before {k} {t} {w} (part {u = c₁} ic (part {u = w₁} i₁ (part {u = x₁} ix (part {u = w₂} i₂ last)))) f iw =
       let e : (c₁ ++ (w₁ ++ (x₁ ++ (w₂ ++ [])))) ++ t ≡ c₁ ++ (w₁ ++ (x₁ ++ (w₂ ++ t))) = simp (append-assoc, append-nil) in
       subst (λ (l : List ℕ). Run (many (structural 0x2C · x) ∷ k) (w ++ l)) (sym e)
       (more (both (both (both (run-is iw (run-is ic (run-is i₁ (run-is ix (f w₂ i₂)))))))))
@@ -166,23 +165,23 @@ module _ (o c : ℕ) (x y z R : Rule)
   pieces : {a : List ℕ} → Is z a → Parts (byte 0x2C ∷ ws ∷ x ∷ ws ∷ []) a
   pieces {a} i =
       let r = subst (λ (l : List ℕ). Run (z ∷ []) l) (append-nil a) (run-is i stop) in
-      parts (under (byte 0x2C) (fro []) a (unpack [] a r))
+      parts (under (byte 0x2C) (from []) a (unpack [] a r))
 
   back : {k : List Rule} {w u v : List ℕ} → Is ws w → Is (many z) u → Run (byte c ∷ ws ∷ k) v → Run (many (structural 0x2C · x) ∷ structural c ∷ ws ∷ k) (w ++ (u ++ v))
   back {k} {w} {v} iw is-none r = done (shut k (w ++ v) (run-is iw r))
   back {k} {w} {v} iw (is-more {s = a} {t = b} i j) r =
       subst (λ (l : List ℕ). Run (many (structural 0x2C · x) ∷ structural c ∷ ws ∷ k) (w ++ l)) (sym (append-assoc a b v))
-      (glue (pieces i) (λ w₂ i₂. back i₂ j r) iw)
+      (put-before (pieces i) (λ w₂ i₂. back i₂ j r) iw)
 
   backs : {k : List Rule} {s : List ℕ} → Parts (ws ∷ many z ∷ byte c ∷ ws ∷ k) s → Run (many (structural 0x2C · x) ∷ structural c ∷ ws ∷ k) s
-  backs (part iw (part i p)) = back iw i (un p)
+  backs (part iw (part i p)) = back iw i (run-parts p)
 
   from-inner : {k : List Rule} {s : List ℕ} → Cut ws (R ∷ ws ∷ k) s → Run (ws ∷ opt (x · many (structural 0x2C · x)) ∷ structural c ∷ ws ∷ k) s
   from-inner {k} (cut {u = u} {v = v} i r) =
       ⊎-elim
       (λ e. run-is i (right (skip (shut k v (done e)))))
       (λ e. under ws (λ s q. left (both q)) (u ++ v)
-        (under ws (under x (λ s q. backs (parts q))) (u ++ v) (fro (many z ∷ byte c ∷ ws ∷ k) (u ++ v) (run-is i e))))
+      (under ws (under x (λ s q. backs (parts q))) (u ++ v) (from (many z ∷ byte c ∷ ws ∷ k) (u ++ v) (run-is i e))))
       (either (ws ∷ k) v r)
 
   from-outer : (k : List Rule) → Sub (ws ∷ (byte o · ws · R) ∷ ws ∷ k) (ws ∷ listed o c x ∷ ws ∷ k)
@@ -197,16 +196,16 @@ object-either : {w : Rule} (k : List Rule) (s : List ℕ) → Run (objectRest w 
 object-either k s (left r) = inl r
 object-either k s (right (both (both r))) = inr r
 
-module _ (v w : Rule) (fro : (k : List Rule) → Sub (ws ∷ w ∷ ws ∷ k) (ws ∷ v ∷ ws ∷ k)) where
+module _ (v w : Rule) (from : (k : List Rule) → Sub (ws ∷ w ∷ ws ∷ k) (ws ∷ v ∷ ws ∷ k)) where
   from-array : (k : List Rule) → Sub (ws ∷ plainArray w ∷ ws ∷ k) (ws ∷ array v ∷ ws ∷ k)
   from-array =
       from-outer 0x5B 0x5D v (w · ws) (byte 0x2C · ws · w · ws) (arrayRest w)
-      (λ k s r. fro k s (under ws (λ s e. split e) s r))
+      (λ k s r. from k s (under ws (λ s e. split e) s r))
       (λ k s r. under (byte 0x2C) (under ws (λ s e. both e)) s (split (split (split r))))
       array-either
 
   mid : (k : List Rule) → Sub (ws ∷ byte 0x3A ∷ ws ∷ w ∷ ws ∷ k) (structural 0x3A ∷ v ∷ ws ∷ k)
-  mid k s r = both (both (under ws (under (byte 0x3A) (fro k)) s r))
+  mid k s r = both (both (under ws (under (byte 0x3A) (from k)) s r))
 
   from-member : (k : List Rule) → Sub (ws ∷ plainMember w ∷ k) (ws ∷ member v ∷ ws ∷ k)
   from-member k = under ws (λ s r. both (both (under string (mid k) s (split (split (split (split (split r))))))))

@@ -120,7 +120,10 @@ fn refused() {
     metadata(b"two texts", b"{} {}");
     metadata(b"byte order mark", b"\xef\xbb\xbf{}");
     metadata(b"zero byte after it", b"{}\0");
-    metadata(b"bytes that are no UTF-8", b"{\"ImageName\":\"\xed\xa0\x80\"}");
+    metadata(
+        b"bytes that are no UTF-8",
+        b"{\"ImageName\":\"\xed\xa0\x80\"}",
+    );
     metadata(
         b"33 arrays",
         b"[[[[[[[[[[[[[[[[[[[[[[[[[[[[[[[[[]]]]]]]]]]]]]]]]]]]]]]]]]]]]]]]]]",

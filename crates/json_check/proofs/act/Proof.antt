@@ -21,7 +21,7 @@ module _ (c : tie.After-wide2) where
 
 module _ (c : tie.After-wide3) where
   first-is : getD (c .before .before .before .before .args .next .now) (c .wide3 .result * 40 + c .before .wide2 .result) 0
-    ≡ entryOf (c .before .before .before .before .args .mode) (c .before .before .before .before .args .b)
+      ≡ entryOf (c .before .before .before .before .args .mode) (c .before .before .before .before .args .b)
   first-is =
       let s = c .before .before .before .before in
       entry-is (s .args .mode) (s .args .b) (s .args .next .now) (s .args .class .now) (c .wide3 .result) (c .before .wide2 .result) (c .before .before .before .wide .result)
@@ -69,7 +69,7 @@ returns c =
     let s = w .before .before .before .before in
     act-again (s .args .mode) (s .args .stack) (s .args .b) _ (first-is w) (c .before .before .before .if1 .taken) _
     (entry-is (afterOf (s .args .stack)) (s .args .b) (s .args .next .now) (s .args .class .now) (c .before .wide4 .result) (w .before .wide2 .result) (w .before .before .before .wide .result)
-      (s .pre .1) (s .pre .0) (c .before .wide4 .ensures ∙ c .before .before .after .ensures .0) (w .before .before .before .wide .ensures) (w .before .wide2 .ensures))
+    (s .pre .1) (s .pre .0) (c .before .wide4 .ensures ∙ c .before .before .after .ensures .0) (w .before .before .before .wide .ensures) (w .before .wide2 .ensures))
 
 returns-2 : tie.Need-returns-2
 returns-2 c =

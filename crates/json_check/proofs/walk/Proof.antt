@@ -33,10 +33,12 @@ loop-again c =
     let l = k .before .before .loop in
     let t = c .before .before .turn in
     let small = t .ensures .2 in
-    let other = c .if1 .left in
-    (omega arith, omega arith,
-    walk-on _ _ (l .mode) (l .stack) (l .i) (l .inv .2) (k .before .loop-test .taken) (c .before .before .before .act .result)
-    (t .result .mode) (t .result .stack) (c .before .before .before .act .ensures) (t .ensures .0) (t .ensures .1) (c .if1 .left))
+    let other = c .if1 .left in (
+      omega arith,
+      omega arith,
+      walk-on _ _ (l .mode) (l .stack) (l .i) (l .inv .2) (k .before .loop-test .taken) (c .before .before .before .act .result)
+          (t .result .mode) (t .result .stack) (c .before .before .before .act .ensures) (t .ensures .0) (t .ensures .1) (c .if1 .left),
+    )
 
 returns-2 : tie.Need-returns-2 Inv-loop μ-loop
 returns-2 c =
