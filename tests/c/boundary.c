@@ -9,14 +9,14 @@
 #include <string.h>
 
 /* The layout of each struct, as the Rust interface has it. A wrong size is a negative array length. */
+typedef char layout_of_json[sizeof(eif_json_answer) == 16 ? 1 : -1];
+typedef char layout_of_json_place[offsetof(eif_json_answer, place) == 8 ? 1 : -1];
 typedef char layout_of_section[sizeof(eif_section) == 24 ? 1 : -1];
 typedef char layout_of_place[sizeof(eif_place) == 16 ? 1 : -1];
 typedef char layout_of_plan[sizeof(eif_plan) == 544 ? 1 : -1];
 typedef char layout_of_plan_places[offsetof(eif_plan, places) == 32 ? 1 : -1];
 typedef char layout_of_reading[sizeof(eif_reading) == 48 + 32 * 24 ? 1 : -1];
 typedef char layout_of_reading_sections[offsetof(eif_reading, sections) == 48 ? 1 : -1];
-typedef char layout_of_json[sizeof(eif_json_answer) == 16 ? 1 : -1];
-typedef char layout_of_json_place[offsetof(eif_json_answer, place) == 8 ? 1 : -1];
 typedef char layout_of_arriving[sizeof(eif_arriving) == 8 + 548 + 384 + 4 + 8 ? 1 : -1];
 typedef char layout_of_arriving_header[offsetof(eif_arriving, header) == 8 ? 1 : -1];
 typedef char layout_of_arriving_sections[offsetof(eif_arriving, section_headers) == 556 ? 1 : -1];

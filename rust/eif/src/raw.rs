@@ -234,12 +234,12 @@ const _: () = {
     assert!(size_of::<SectionType>() == 2);
     assert!(size_of::<FilePosition>() == 8 && size_of::<RollPosition>() == 8);
     assert!(size_of::<DataLength>() == 8 && size_of::<StreamPosition>() == 8);
+    assert!(size_of::<JsonAnswer>() == 1 + 7 + 8 && offset_of!(JsonAnswer, place) == 8);
     assert!(size_of::<Section>() == 2 + 2 + 4 + 8 + 8);
     assert!(size_of::<RollRecord>() == 2 + 2 + 4 + 8 + 8);
     assert!(size_of::<Answer>() == 1 + 7 + 8 + 8);
     assert!(size_of::<Reading>() == 1 + 1 + 3 * 2 + 3 * 8 + 4 * 4 + MAX_SECTIONS * 24);
     assert!(offset_of!(Reading, sections) == 48);
-    assert!(size_of::<JsonAnswer>() == 1 + 7 + 8 && offset_of!(JsonAnswer, place) == 8);
     assert!(size_of::<RollReading>() == 1 + 7 + 8 + 8 + MAX_SECTIONS * 24);
     assert!(size_of::<StreamSections>() == 8 + MAX_SECTIONS * 24);
     assert!(align_of::<StreamSections>() == 8 && offset_of!(StreamSections, sections) == 8);

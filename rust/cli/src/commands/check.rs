@@ -13,10 +13,9 @@ pub const COMMAND: Command = Command {
     help: "\
 usage: eif check [--strict] [--quiet] FILE..
 
-Reads each image and prints one line for it, as
+Reads each image as it comes, keeps none of it, and prints one line for it, as
     FILE: accepted
     FILE: refused 13 at 0: checksum differs
-An image is looked at while it comes in, and none of it is kept.
 
   --strict  refuse metadata that is not one JSON text too, by 21; this needs memory
             for the image
