@@ -1,7 +1,7 @@
 -- The machine in numbers: a law for each way through the code.
 -- Assumes nothing.
 use Prim.Native.Nat.{ℕ, suc, _+_, _*_, _/_, _%_, _<_, _≤_}
-use mathlib.Core.Path.{_≡_, refl, sym, ap, ap₂, _∙_}
+use mathlib.Core.Path.{_≡_, refl, sym, ap, ap₂, _∙_, subst}
 use mathlib.Core.Bool.{true, false}
 use mathlib.Core.List.{List, [], _∷_}
 use native.Mathlib.Nat.{add-zero}
@@ -11,10 +11,12 @@ use borrow.Author.Tests.{lt-ltb, le-ltb, eq-eqb, ne-eqb}
 use lib.Dec.{eqb}
 use lib.ListN.{getD, length, drop, drop-of-length-le}
 use lib.Seq.{drop-cons}
+use Rattle.json.specs.Verdict.{IsVerdict}
 use Rattle.json.specs.declared.JsonVerdict.{JsonVerdict}
 use Rattle.json.specs.declared.JsonVerdict.the-variants.{Text, Fault}
 use Rattle.json_machine.specs.Table.{classes, rows, joined}
 use Rattle.json_machine.specs.Machine.{stackLimit, afterOf, entryOf, actOf, Kind, goes, stops, closes, faults, opens, kindOf, turnMode, turnStack, endsOf, walkFrom, jsonVerdict}
+use Rattle.json_laws.proofs.Laws.{right-verdict}
 
 -- ---- after a value
 
@@ -168,3 +170,8 @@ module _ (s : List ℕ) (v : JsonVerdict) (mode stack i : ℕ) (rest : walkFrom 
     pub walk-short : endsOf mode stack ≡ false → Fault i ≡ v
     unfolding walkFrom
     walk-short e = rw e at at-end
+
+-- ---- the answer
+
+pub answer-right : (s : List ℕ) (v : JsonVerdict) → v ≡ jsonVerdict s → (v ≡ jsonVerdict s) × IsVerdict s v
+answer-right s v e = (e, subst (λ (x : JsonVerdict). IsVerdict s x) (sym e) (right-verdict s))

@@ -7,6 +7,7 @@ mod tables;
 
 ghost use mathlib.Core.Path.{_≡_};
 ghost use Prim.Native.Nat.{_<_, _≤_};
+ghost use Rattle.json.specs.Verdict.{IsVerdict};
 ghost use Rattle.json_machine.specs.Table.{classes, rows, joined};
 ghost use Rattle.json_machine.specs.Machine.{afterOf, actOf, kindOf, turnMode, turnStack, endsOf, jsonVerdict};
 use json::JsonVerdict;
@@ -146,10 +147,11 @@ fn walk<'a>(class: &'a [u8; 256], next: &'a [u8; 2040], text: &'a [u8]) -> JsonV
     JsonVerdict::Fault(i)
 }
 
-// Whether bytes are one JSON text within the depth limit, or the place of the first fault. The tables are locals, as a constant would be
-// built anew at each use.
+// Whether bytes are one JSON text within the depth limit, or the place of the first fault: what the grammar says is the right verdict.
+// The tables are locals, as a constant would be built anew at each use.
 pub fn check(text: &[u8]) -> JsonVerdict
     ensures { λ r. ⌜ r ≡ jsonVerdict (now (text .entry)) ⌝ }
+    ensures { λ r. ⌜ IsVerdict (now (text .entry)) r ⌝ }
 {
     let class = tables::CLASSES;
     let next = tables::ROWS;

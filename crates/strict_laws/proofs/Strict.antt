@@ -10,9 +10,6 @@ use native.Mathlib.Omega.{arith}
 use native.Mathlib.Nat.{eq-or-lt-of-le}
 use borrow.Author.Tests.{eq-eqb, eqb-true, not-true, not-false}
 use lib.Dec.{eqb}
-use lib.ListN.{take, drop}
-use Rattle.octets.specs.Bytes.{AreBytes}
-use Rattle.octets.proofs.Value.{bytes-take, bytes-drop}
 use Rattle.json.specs.Verdict.{IsText}
 use Rattle.json.specs.declared.JsonVerdict.{JsonVerdict}
 use Rattle.json.specs.declared.JsonVerdict.the-variants.{Text, Fault}
@@ -41,10 +38,7 @@ text-true : (v : JsonVerdict) → isText v ≡ true → v ≡ Text
 text-true Text e = refl
 text-true (Fault p) e = absurd (false≢true e)
 
-module _ (s : List ℕ) (w : AreBytes s) (x : Section) where
-  bytes : AreBytes (dataOf s x)
-  bytes = bytes-take (x .length .0) (drop (x .position .0) s) (bytes-drop (x .position .0) s w)
-
+module _ (s : List ℕ) (x : Section) where
   abbrev verdict : JsonVerdict
   verdict = jsonVerdict (dataOf s x)
 
@@ -52,21 +46,21 @@ module _ (s : List ℕ) (w : AreBytes s) (x : Section) where
   unfolding notJson
   passed→ e k =
       let n : not (isText verdict) ≡ false = simp (eq-eqb _ _ k) at e in
-      accepted-exactly-when (dataOf s x) bytes .0 (text-true verdict (not-false _ n))
+      accepted-exactly-when (dataOf s x) .0 (text-true verdict (not-false _ n))
 
   →passed : (x .kind ≡ metadata → IsText (dataOf s x)) → notJson s x ≡ false
   unfolding notJson
   →passed f = go (eqb (x .kind) metadata) refl
     where
       go : (b : Bool) → eqb (x .kind) metadata ≡ b → both b (not (isText (jsonVerdict (dataOf s x)))) ≡ false
-      go true e = simp (accepted-exactly-when (dataOf s x) bytes .1 (f (eqb-true _ _ e)))
+      go true e = simp (accepted-exactly-when (dataOf s x) .1 (f (eqb-true _ _ e)))
       go false e = refl
 
   failed→ : notJson s x ≡ true → (x .kind ≡ metadata) × (IsText (dataOf s x) → ⊥)
   unfolding notJson
   failed→ e =
       let b = both-true _ _ e in
-      (eqb-true _ _ (b .0), λ t. let i = accepted-exactly-when (dataOf s x) bytes .1 t in false≢true (sym (not-true _ (b .1)) ∙ ap isText i))
+      (eqb-true _ _ (b .0), λ t. let i = accepted-exactly-when (dataOf s x) .1 t in false≢true (sym (not-true _ (b .1)) ∙ ap isText i))
 
 -- ---- the sections
 
@@ -126,16 +120,16 @@ module _ (s : List ℕ) (sections : ℕ → Section) where
 
 -- ---- the laws
 
-module _ (s : List ℕ) (w : AreBytes s) where
+module _ (s : List ℕ) where
   strict→ : strictVerdict s ≡ Accepted → (verdictOf s ≡ Accepted) × MetadataIsJson s
   unfolding strictVerdict
   strict→ e =
       let t = then-accepted _ _ e in
-      (t .0, λ i h k. passed→ s w (sectionAt s i) (all-pass→ s (sectionAt s) (countOf s) 0 (t .1) i (omega arith) (omega arith)) k)
+      (t .0, λ i h k. passed→ s (sectionAt s i) (all-pass→ s (sectionAt s) (countOf s) 0 (t .1) i (omega arith) (omega arith)) k)
 
   →strict : verdictOf s ≡ Accepted → MetadataIsJson s → strictVerdict s ≡ Accepted
   unfolding strictVerdict
-  →strict a m = rw a (→all-pass s (sectionAt s) (countOf s) 0 (λ j x y. →passed s w (sectionAt s j) (m j (omega arith))))
+  →strict a m = rw a (→all-pass s (sectionAt s) (countOf s) 0 (λ j x y. →passed s (sectionAt s j) (m j (omega arith))))
 
   -- accepted exactly where the ordinary reading accepts and the metadata is JSON
   pub strict-exactly-when : (strictVerdict s ≡ Accepted → (verdictOf s ≡ Accepted) × MetadataIsJson s)
@@ -160,7 +154,7 @@ module _ (s : List ℕ) (w : AreBytes s) where
   unfolding strictVerdict
   refused-21 a f =
       let t = f .to in
-      let k = failed→ s w (sectionAt s (f .index)) (f .fails) in
+      let k = failed→ s (sectionAt s (f .index)) (f .fails) in
       record { ordinary = a; index = f .index; is-section = omega arith; is-metadata = k .0; no-text = k .1; strict = rw a (f .verdict) }
 
   same-or : (v : Verdict) → verdictOf s ≡ v → (strictVerdict s ≡ verdictOf s) ⊎ Refused21

@@ -1,7 +1,7 @@
--- `json_check::check` meets its contract: its tables are those of the machine. Assumes nothing.
+-- `json_check::check` meets its contract: its tables are those of the machine, whose verdict is the right one. Assumes nothing.
 use mathlib.Core.Path.{refl}
-use borrow.Author.Needs.{needs}
 use Rattle.json_machine.specs.Table.{classes, rows}
+use Rattle.json_check.proofs.Laws.{answer-right}
 use Rattle.json_check.proofs.check.Statement.{statement}
 use Rattle.json_check.proofs.check.Tie as tie
 
@@ -9,8 +9,5 @@ walk-requires : tie.Need-walk-requires
 unfolding classes rows
 walk-requires c κs = (refl, refl)
 
-returns : tie.Need-returns
-returns c = search needs
-
 pub check-spec : {M : Type 1} → statement M
-check-spec = tie.close (tie.spec walk-requires returns)
+check-spec = tie.close (tie.spec walk-requires (λ c. answer-right _ _ (c .walk .ensures)))
