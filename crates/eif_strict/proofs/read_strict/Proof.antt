@@ -1,66 +1,51 @@
+-- `eif_strict::read_strict` meets its contract: the reading where it refuses, or 21 and all zero, or the reading. Assumes nothing.
+use mathlib.Core.Path.{_∙_}
 use borrow.Author.Needs.{needs}
+use denote.Ref.{now}
+use Rattle.eif_strict.proofs.Steps.{strict-refused, count-small, strict-blank, strict-whole}
 use Rattle.eif_strict.proofs.read_strict.Statement.{statement}
 use Rattle.eif_strict.proofs.read_strict.Tie as tie
-use Rattle.eif_strict.proofs.read_strict.Reads as reads
-use Rattle.eif_strict.proofs.read_strict.Lts as lts
-use Rattle.eif_judge.proofs.refused.Reads as refused-reads
-use Rattle.eif_reader.proofs.read.Reads as read-reads
-use Rattle.eif_strict.proofs.judge.Reads as judge-reads
 
--- src/lib.rt:49:9
-read-requires : tie.Need-read-requires
-read-requires c κs = search needs
-
-enum-told : tie.Need-enum-told
-enum-told c = search needs
-
--- src/lib.rt:52:9
-enum-told-2 : tie.Need-enum-told-2
-enum-told-2 c = search needs
-
--- src/lib.rt:52:9
 returns : tie.Need-returns
-returns c = ?
+returns c =
+    let w = c .before .before in
+    let t = c .enum-told2 .given in
+    strict-refused (now (w .before .before .args .image)) (w .read .result) (w .read .ensures) (t .0 .0) (t .1)
 
--- src/lib.rt:55:41
-cast-judge : tie.Need-cast-judge
-cast-judge c = search needs
-
--- src/lib.rt:55:9
 judge-requires : tie.Need-judge-requires
-judge-requires c κs = ?
+judge-requires c κs =
+    let k = c .before .before in
+    let w = k .before .before in
+    count-small (now (w .before .before .args .image)) (w .read .result) (w .read .ensures) (k .enum-told .given .1)
 
-enum-told-3 : tie.Need-enum-told-3
-enum-told-3 c = search needs
-
--- src/lib.rt:57:9
-enum-told-4 : tie.Need-enum-told-4
-enum-told-4 c = search needs
-
--- src/lib.rt:57:9
-refused-requires : tie.Need-refused-requires
-refused-requires c κs = search needs
-
--- src/lib.rt:57:9
 returns-2 : tie.Need-returns-2
-returns-2 c = ?
+returns-2 c =
+    let j = c .before .before .before in
+    let k = j .before .before .before in
+    let w = k .before .before in
+    let t = c .before .enum-told4 .given in
+    c .refused .ensures
+    ∙ strict-blank (now (w .before .before .args .image)) (w .read .result) (w .read .ensures) (k .enum-told .given .1) (j .judge .result) (j .judge .ensures) (t .0 .0) (t .1)
 
--- src/lib.rt:46:1
 returns-3 : tie.Need-returns-3
-returns-3 c = ?
+returns-3 c =
+    let j = c .before .before in
+    let k = j .before .before .before in
+    let w = k .before .before in
+    strict-whole (now (w .before .before .args .image)) (w .read .result) (w .read .ensures) (k .enum-told .given .1) (j .judge .result) (j .judge .ensures) (c .enum-told3 .given .1)
 
 pub read-strict-spec : {M : Type 1} → statement M
 read-strict-spec =
     tie.close
     (tie.spec
-    read-requires
-    enum-told
-    enum-told-2
+    (λ c κs. search needs)
+    (λ c. search needs)
+    (λ c. search needs)
     returns
-    cast-judge
+    (λ c. search needs)
     judge-requires
-    enum-told-3
-    enum-told-4
-    refused-requires
+    (λ c. search needs)
+    (λ c. search needs)
+    (λ c κs. search needs)
     returns-2
     returns-3)
