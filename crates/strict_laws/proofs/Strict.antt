@@ -114,8 +114,8 @@ module _ (s : List ℕ) (sections : ℕ → Section) where
   pass-or-fail zero i = inl refl
   pass-or-fail (suc n) i =
       ⊎-elim
-      (λ e. inr (fails-here n i e))
-      (λ e. ⊎-elim (λ p. inl (simp e p)) (λ f. inr (fails-later n i e f)) (pass-or-fail n (suc i)))
+      (λ (e : notJson s (sections i) ≡ true). inr (fails-here n i e))
+      (λ (e : notJson s (sections i) ≡ false). ⊎-elim (λ p. inl (simp e p)) (λ f. inr (fails-later n i e f)) (pass-or-fail n (suc i)))
       (one-or-other (notJson s (sections i)))
 
 -- ---- the laws
@@ -161,7 +161,7 @@ module _ (s : List ℕ) where
   unfolding strictVerdict
   same-or (Refused r) e = inl (rw e refl)
   same-or Accepted e =
-      ⊎-elim (λ p. inl (rw (e, p) refl)) (λ f. inr (refused-21 e f)) (pass-or-fail s (sectionAt s) (countOf s) 0)
+      ⊎-elim (λ p. inl (rw e p)) (λ f. inr (refused-21 e f)) (pass-or-fail s (sectionAt s) (countOf s) 0)
 
   -- the verdict is the ordinary one, or 21 at a metadata section whose data is no text
   pub same-or-21 : (strictVerdict s ≡ verdictOf s) ⊎ Refused21

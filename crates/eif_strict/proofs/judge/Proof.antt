@@ -35,10 +35,11 @@ loop-again : tie.Need-loop-again Inv-loop μ-loop
 loop-again c =
     let n = c .before in
     let w = n .before .before .before in
-    let a = w .before .before .args in
-    (omega arith,
-    sym (metadata-on (now (a .image)) (placeIn (a .t2)) (a .count) (w .loop .i) (n .before .before .loop-test .taken) (sym (c .if1 .left) ∙ n .not-json .ensures))
-    ∙ w .loop .inv .1)
+    let a = w .before .before .args in (
+      omega arith,
+      sym (metadata-on (now (a .image)) (placeIn (a .t2)) (a .count) (w .loop .i) (n .before .before .loop-test .taken) (sym (c .if1 .left) ∙ n .not-json .ensures))
+          ∙ w .loop .inv .1,
+    )
 
 returns-2 : tie.Need-returns-2 Inv-loop μ-loop
 returns-2 c =
