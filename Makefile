@@ -33,7 +33,7 @@ help:
 	@echo 'make rust-test c-test     the command and the library from Rust; the library from C'
 	@echo 'make rust-lint doc        lints of the Rust code, its documentation'
 	@echo 'make test-large           the tests that keep images of 1 GiB in memory: minutes, 4 GiB'
-	@echo 'make bench                speed beside the plain Rust twin; BENCH_LARGE=1: images of 1 GiB too'
+	@echo 'make bench                speed beside the plain Rust twin; BENCH_LARGE=1: images of 1 GiB too; BENCH=json: JSON texts alone'
 	@echo 'make install PREFIX=dir   command, man page, C header, archive, pkg-config file'
 
 kit:
@@ -100,7 +100,7 @@ rust-lint:
 	cd rust && $(CARGO) clippy --release --all-targets $(CARGO_FLAGS) -- -D warnings
 
 bench: $(archive)
-	cd rust && BENCH_LARGE=$(BENCH_LARGE) $(CARGO) run --release $(CARGO_FLAGS) -p eif-bench
+	cd rust && BENCH_LARGE=$(BENCH_LARGE) $(CARGO) run --release $(CARGO_FLAGS) -p eif-bench -- $(BENCH)
 
 doc:
 	cd rust && RUSTDOCFLAGS="-D warnings" $(CARGO) doc --no-deps $(CARGO_FLAGS)

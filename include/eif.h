@@ -19,8 +19,8 @@
  * reading): 0 where the call is accepted, and otherwise the first of the numbers below that applies, in
  * the order that FORMAT.md gives for the call. Beside a refusal
  *   - no byte of the output buffer has changed;
- *   - index is the index of the section or record for 6 to 11, 16, 17 and, where a section is not
- *     packed, 20; and 0 for the others;
+ *   - index is the index of the section or record for 6 to 11, 16, 17, 21 and, where a section is
+ *     not packed, 20; and 0 for the others;
  *   - all else in the answer is 0, but first_ramdisk, which is EIF_NO_RAMDISK, and the states that
  *     eif_sha384_update and eif_arriving_finish answer.
  *
@@ -80,6 +80,9 @@ extern "C" {
 #define EIF_SHA384_BLOCK_LENGTH 128
 #define EIF_MAX_MESSAGE_LENGTH UINT64_C(2305843009213693951)
 
+/* The most arrays or objects that a JSON text may have open at once. */
+#define EIF_MAX_JSON_DEPTH 32
+
 /* What first_ramdisk is where there is no ramdisk, and beside a refusal. */
 #define EIF_NO_RAMDISK 32
 
@@ -110,6 +113,7 @@ enum eif_number {
     EIF_BYTES_AFTER_END = 18,
     EIF_PAST_STREAM_END = 19,
     EIF_NOT_PACKED = 20, /* index: of the section, or 0 for bytes after the last */
+    EIF_METADATA_NOT_JSON = 21, /* of eif_read_strict alone */
     EIF_MESSAGE_TOO_LONG = 29
 };
 
@@ -139,6 +143,7 @@ static inline const char *eif_meaning(uint8_t number) {
     case EIF_BYTES_AFTER_END: return "bytes after the end record";
     case EIF_PAST_STREAM_END: return "stream position past the stream's end";
     case EIF_NOT_PACKED: return "section not packed, or bytes after the last section";
+    case EIF_METADATA_NOT_JSON: return "metadata is not one JSON text";
     case EIF_MESSAGE_TOO_LONG: return "message longer than 2,305,843,009,213,693,951 bytes";
     default: return "unknown number";
     }
@@ -216,7 +221,7 @@ typedef struct eif_plan {
 
 /* What an image holds. */
 typedef struct eif_reading {
-    uint8_t number; /* EIF_ACCEPTED, or one of 1 to 13 and 20 */
+    uint8_t number; /* EIF_ACCEPTED, or one of 1 to 13 and 20; of eif_read_strict also 21 */
     uint8_t reserved;
     uint16_t version;
     uint16_t flags;
@@ -231,6 +236,14 @@ typedef struct eif_reading {
     uint32_t reserved_after;
     eif_section sections[EIF_MAX_SECTIONS]; /* in file order, then zeros */
 } eif_reading;
+
+/* Whether bytes are one JSON text, or where they stop being one. */
+typedef struct eif_json_answer {
+    uint8_t is_text; /* 1 where they are, and otherwise 0 */
+    uint8_t reserved[7];
+    uint64_t place; /* where is_text is 0: of the first byte that no JSON text can have after the bytes
+                     * before it, counted from the start, or text_length where there is none */
+} eif_json_answer;
 
 /* An image that arrives in pieces, a value that can be kept, copied and gone on from. Any value whatever is
  * one; a fresh one comes from eif_arriving_begin. */
@@ -318,6 +331,14 @@ typedef struct eif_roll_reading {
 
 /* Reads an image (FORMAT.md, Reading an image). Refusals: 1 to 13 and 20. */
 EIF_MUST_USE eif_reading eif_read(const uint8_t *image, size_t image_length);
+
+/* Reads an image as eif_read does, and then refuses by 21 a metadata section that is not one JSON text
+ * (FORMAT.md, Stricter reading). Refusals: those of eif_read, then 21. */
+EIF_MUST_USE eif_reading eif_read_strict(const uint8_t *image, size_t image_length);
+
+/* Whether bytes are exactly one JSON text (RFC 8259) in UTF-8, with at most EIF_MAX_JSON_DEPTH arrays or
+ * objects open at once, and where not (FORMAT.md, JSON texts). Nothing is refused. */
+EIF_MUST_USE eif_json_answer eif_json_check(const uint8_t *text, size_t text_length);
 
 /* Reads an image that arrives in pieces of any size, with no room for its bytes (FORMAT.md, Check while
  * it arrives):

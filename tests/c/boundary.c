@@ -9,6 +9,8 @@
 #include <string.h>
 
 /* The layout of each struct, as the Rust interface has it. A wrong size is a negative array length. */
+typedef char layout_of_json[sizeof(eif_json_answer) == 16 ? 1 : -1];
+typedef char layout_of_json_place[offsetof(eif_json_answer, place) == 8 ? 1 : -1];
 typedef char layout_of_section[sizeof(eif_section) == 24 ? 1 : -1];
 typedef char layout_of_place[sizeof(eif_place) == 16 ? 1 : -1];
 typedef char layout_of_plan[sizeof(eif_plan) == 544 ? 1 : -1];
@@ -75,6 +77,8 @@ static void try_null(const uint8_t *image) {
     eif_plan empty = plan_of(2);
     empty.places[0].length.value = 0;
     check(eif_read(NULL, 0).number == EIF_IMAGE_TOO_SHORT, "read of null");
+    check(eif_read_strict(NULL, 0).number == EIF_IMAGE_TOO_SHORT, "strict read of null");
+    check(eif_json_check(NULL, 0).is_text == 0 && eif_json_check(NULL, 0).place == 0, "text of null");
     check(eif_whole_length(NULL, 0).number == EIF_IMAGE_TOO_SHORT, "whole length of null");
     check(eif_boot_length(NULL, 0).number == EIF_IMAGE_TOO_SHORT, "boot length of null");
     check(eif_app_length(NULL, 0).number == EIF_IMAGE_TOO_SHORT, "app length of null");
@@ -121,19 +125,34 @@ static int zero(const uint8_t *bytes, size_t length) {
 }
 
 /* An accepted image or, with a shorter length, a refused one. */
-static void try_reading(const uint8_t *image, size_t length) {
+static void try_reading(const uint8_t *image, size_t length,
+                        eif_reading (*read)(const uint8_t *, size_t)) {
     static eif_reading one, other;
     memset(&one, 0x55, sizeof one);
     memset(&other, 0xaa, sizeof other);
     soil(0x11);
-    one = eif_read(image, length);
+    one = read(image, length);
     soil(0xee);
-    other = eif_read(image, length);
+    other = read(image, length);
     check(memcmp(&one, &other, sizeof one) == 0, "equal readings by memcmp");
     check(one.reserved == 0 && one.reserved_after == 0, "reserved of a reading");
     for (unsigned i = 0; i < EIF_MAX_SECTIONS; i++) {
         check(one.sections[i].reserved == 0, "reserved of a section");
     }
+}
+
+/* Bytes that are a JSON text, or are none. */
+static void try_json(const char *text) {
+    static eif_json_answer one, other;
+    const uint8_t *bytes = (const uint8_t *)text;
+    memset(&one, 0x55, sizeof one);
+    memset(&other, 0xaa, sizeof other);
+    soil(0x11);
+    one = eif_json_check(bytes, strlen(text));
+    soil(0xee);
+    other = eif_json_check(bytes, strlen(text));
+    check(memcmp(&one, &other, sizeof one) == 0, "equal JSON answers by memcmp");
+    check(zero(one.reserved, sizeof one.reserved), "reserved of a JSON answer");
 }
 
 static void try_stream_sections(const uint8_t *image, size_t length,
@@ -236,6 +255,7 @@ static void try_words(void) {
     check(strcmp(eif_meaning(13), "checksum differs") == 0, "meaning of 13");
     check(strcmp(eif_meaning(20), "section not packed, or bytes after the last section") == 0,
           "meaning of 20");
+    check(strcmp(eif_meaning(21), "metadata is not one JSON text") == 0, "meaning of 21");
     check(strcmp(eif_meaning(255), "unknown number") == 0, "meaning of 255");
     check(strcmp(eif_section_name(EIF_COMMAND_LINE), "command line") == 0, "name of 2");
     check(strcmp(eif_section_name(0), "unknown type") == 0, "name of 0");
@@ -250,8 +270,13 @@ int main(void) {
     check(eif_write(plan, data, sizeof data, image, sizeof image).number == EIF_ACCEPTED, "write");
     check(eif_roll_write(image, sizeof image, roll, sizeof roll).number == EIF_ACCEPTED, "roll");
     try_null(image);
-    try_reading(image, IMAGE_LENGTH);
-    try_reading(image, 547);
+    try_reading(image, IMAGE_LENGTH, eif_read);
+    try_reading(image, 547, eif_read);
+    try_reading(image, IMAGE_LENGTH, eif_read_strict);
+    try_reading(image, 547, eif_read_strict);
+    try_json("{}");
+    try_json("{]");
+    try_json("{");
     try_stream_sections(image, IMAGE_LENGTH, eif_whole_sections);
     try_stream_sections(image, IMAGE_LENGTH, eif_boot_sections);
     try_stream_sections(image, IMAGE_LENGTH, eif_app_sections);

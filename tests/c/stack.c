@@ -10,13 +10,19 @@
 #include <string.h>
 #include <ucontext.h>
 
-enum { STACK_LENGTH = 1 << 18, PATTERN = 0xa5, RAMDISKS = 30, DATA_LENGTH = 32 * 40 };
+enum {
+    STACK_LENGTH = 1 << 18,
+    PATTERN = 0xa5,
+    SECTIONS = EIF_MAX_SECTIONS,
+    PART = 64,
+    DATA_LENGTH = SECTIONS * PART
+};
 
 static uint8_t stack[STACK_LENGTH];
 static ucontext_t here, there;
 
 static eif_plan plan;
-static uint8_t data[DATA_LENGTH];
+static uint8_t data[DATA_LENGTH], text[PART];
 static uint8_t image[4096], out[4096], roll[4096];
 static size_t image_length, roll_length;
 static eif_stream_position start;
@@ -25,6 +31,7 @@ static eif_stream_position start;
 static eif_reading reading;
 static eif_roll_reading roll_reading;
 static eif_answer answer;
+static eif_json_answer json;
 static eif_arriving arriving;
 static eif_arriving_fed arriving_fed;
 static eif_arriving_finished arrived;
@@ -36,6 +43,8 @@ static eif_digest digest;
 
 static void nothing(void) {}
 static void call_read(void) { reading = eif_read(image, image_length); }
+static void call_read_strict(void) { reading = eif_read_strict(image, image_length); }
+static void call_json_check(void) { json = eif_json_check(text, sizeof text); }
 static void call_arriving_begin(void) { arriving = eif_arriving_begin(); }
 static void call_arriving_feed(void) {
     arriving_fed = eif_arriving_feed(arriving, image, image_length, UINT64_MAX);
@@ -87,14 +96,18 @@ static size_t used(void (*function)(void)) {
     return sizeof stack - left;
 }
 
-/* The largest image in sections: kernel, command line and 30 ramdisks of 40 bytes. */
+/* The largest image in sections: kernel, command line, metadata and 29 ramdisks of 64 bytes each. The metadata
+ * is the deepest JSON text. */
 static int prepare(void) {
+    memset(text, '[', PART / 2);
+    memset(text + PART / 2, ']', PART / 2);
     memset(data, 0x5a, sizeof data);
-    plan.version = 2;
-    plan.count = 2 + RAMDISKS;
-    for (unsigned i = 0; i < 2 + RAMDISKS; i++) {
-        plan.places[i].type = (uint16_t)(i < 2 ? i + 1 : EIF_RAMDISK);
-        plan.places[i].length.value = 40;
+    memcpy(data + 2 * PART, text, PART);
+    plan.version = 4;
+    plan.count = SECTIONS;
+    for (unsigned i = 0; i < SECTIONS; i++) {
+        plan.places[i].type = (uint16_t)(i < 2 ? i + 1 : i == 2 ? EIF_METADATA : EIF_RAMDISK);
+        plan.places[i].length.value = PART;
     }
     answer = eif_write(plan, data, sizeof data, image, sizeof image);
     image_length = (size_t)answer.length;
@@ -112,6 +125,8 @@ int main(void) {
         void (*function)(void);
     } calls[] = {
         {"eif_read", call_read},
+        {"eif_read_strict", call_read_strict},
+        {"eif_json_check", call_json_check},
         {"eif_arriving_begin", call_arriving_begin},
         {"eif_arriving_feed", call_arriving_feed},
         {"eif_arriving_finish", call_arriving_finish},
@@ -149,5 +164,6 @@ int main(void) {
                     roll_reading.number != 0 || answer.number != 0 || registers.number != 0 ||
                     fed.number != 0;
     }
+    failures += json.is_text != 1;
     return failures != 0;
 }

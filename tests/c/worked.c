@@ -138,6 +138,62 @@ static void try_padded(const uint8_t *image) {
     check(gap.number == EIF_NOT_PACKED && gap.index == 2, "read, a gap before section 2");
 }
 
+/* What is no JSON text, and where. */
+static void try_json(void) {
+    static const struct {
+        const char *text;
+        uint8_t is_text;
+        uint64_t place;
+    } rows[] = {
+        {"{\"name\": [1, -0.5e+3, \"\\u00e9\"]}", 1, 0},
+        {"{\"a\": 1,, 2}", 0, 8},
+        {"{\"a\": [1, 2", 0, 11},
+        {"\xef\xbb\xbf{}", 0, 0},
+        {"\"\xed\xa0\x80\"", 0, 2},
+        {"", 0, 0}};
+    for (unsigned i = 0; i < sizeof rows / sizeof rows[0]; i++) {
+        eif_json_answer answer = eif_json_check((const uint8_t *)rows[i].text, strlen(rows[i].text));
+        check(answer.is_text == rows[i].is_text && answer.place == rows[i].place, rows[i].text);
+    }
+    uint8_t deep[2 * EIF_MAX_JSON_DEPTH + 2];
+    size_t half = sizeof deep / 2;
+    memset(deep, '[', half);
+    memset(deep + half, ']', half);
+    check(eif_json_check(deep, sizeof deep).place == EIF_MAX_JSON_DEPTH, "one open too many");
+    check(eif_json_check(deep + 1, sizeof deep - 2).is_text == 1, "as many open as may be");
+}
+
+/* Metadata that is JSON, and metadata that was cut before it was packed: the file is whole. */
+static void try_strict(const uint8_t *worked) {
+    static const uint8_t data[9] = {'k', 'c', '{', '"', 'a', '"', ':', '1', '}'};
+    uint8_t image[600];
+    eif_plan plan;
+    memset(&plan, 0, sizeof plan);
+    plan.version = 4;
+    plan.count = 3;
+    put_place(&plan, 0, EIF_KERNEL, 1);
+    put_place(&plan, 1, EIF_COMMAND_LINE, 1);
+    for (size_t length = 0; length <= 7; length++) {
+        put_place(&plan, 2, EIF_METADATA, length);
+        eif_answer written = eif_write(plan, data, 2 + length, image, sizeof image);
+        size_t image_length = (size_t)written.length;
+        eif_reading ordinary = eif_read(image, image_length);
+        eif_reading strict = eif_read_strict(image, image_length);
+        check(ordinary.number == EIF_ACCEPTED, "read, metadata of any bytes");
+        if (length == 7) {
+            check(memcmp(&strict, &ordinary, sizeof strict) == 0, "strict reading");
+            continue;
+        }
+        check(strict.number == EIF_METADATA_NOT_JSON && strict.index == 2, "metadata cut");
+        check(strict.count == 0 && strict.first_ramdisk == EIF_NO_RAMDISK, "beside 21");
+        image[560] ^= 1;
+        check(eif_read_strict(image, image_length).number == EIF_CHECKSUM_DIFFERS, "13 before 21");
+    }
+    eif_reading strict = eif_read_strict(worked, IMAGE_LENGTH);
+    eif_reading ordinary = eif_read(worked, IMAGE_LENGTH);
+    check(memcmp(&strict, &ordinary, sizeof strict) == 0, "strict reading, no metadata");
+}
+
 static int same_reading(const eif_reading *a, const eif_reading *b) {
     return memcmp(a, b, sizeof *a) == 0;
 }
@@ -331,6 +387,8 @@ int main(void) {
     try_write(image);
     try_read(image);
     try_padded(image);
+    try_json();
+    try_strict(image);
     try_arriving(image);
     try_arriving_end(image);
     try_streams(image);

@@ -76,7 +76,7 @@ fn blank() -> Section
 }
 
 // A refusal, beside which everything is zero.
-fn refused(verdict: Verdict) -> Reading
+pub fn refused(verdict: Verdict) -> Reading
     ensures { λ r. ⌜ r ≡ blankReading verdict ⌝ }
 {
     let none = blank();

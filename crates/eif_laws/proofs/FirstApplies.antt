@@ -31,7 +31,7 @@ then-choose : (b : Bool) (n i : ℕ) (v w : Verdict) → andThen (choose b (refu
 then-choose true n i v w = refl
 then-choose false n i v w = refl
 
-first-append : (a b : List Rule) → firstThatApplies (a ++ b) ≡ andThen (firstThatApplies a) (firstThatApplies b)
+pub first-append : (a b : List Rule) → firstThatApplies (a ++ b) ≡ andThen (firstThatApplies a) (firstThatApplies b)
 unfolding firstThatApplies
 first-append [] b = refl
 first-append (r ∷ rs) b =

@@ -14,7 +14,7 @@ pub struct ImageCase {
     pub index: u64,
 }
 
-fn image_case(name: &'static str, image: Vec<u8>, number: u8, index: u64) -> ImageCase {
+pub(crate) fn image_case(name: &'static str, image: Vec<u8>, number: u8, index: u64) -> ImageCase {
     ImageCase {
         name,
         image,

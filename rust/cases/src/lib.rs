@@ -1,4 +1,5 @@
-//! The examples of docs/FORMAT.md and of FIPS 180-4 as data, for the tests of the library and of the twin.
+//! The examples of docs/FORMAT.md, of FIPS 180-4 and of RFC 8259's rules as data, for the tests of the library
+//! and of the twin.
 //!
 //! What builds the examples judges nothing and has a checksum of its own, bit by bit, so a test
 //! never trusts what it tests.
@@ -16,6 +17,8 @@ mod digests;
 mod images;
 mod layout;
 mod rolls;
+mod strict;
+mod texts;
 
 pub use digests::{digest_cases, hex, register_cases, DigestCase};
 pub use images::{
@@ -27,3 +30,5 @@ pub use layout::{
     COUNT_AT, HEADER, MAX_SECTIONS, OFFSETS_AT, SECTION_HEADER, SIZES_AT, VERSION_AT,
 };
 pub use rolls::{record, roll_cases, roll_of, RollCase, Row, RECORD_HEADER, WORKED_ROLL};
+pub use strict::strict_cases;
+pub use texts::{nested, text_cases, TextCase};

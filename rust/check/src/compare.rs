@@ -1,5 +1,6 @@
 //! The library's answers held to the twin's: every field and every byte of the output.
 
+use crate::strict::compare_strict;
 use crate::{Call, Message, Output, PlanInput, ReadingInput, Rng, Tally};
 use eif::raw::{self, Answer, Reading, RegistersAnswer, RollReading, StreamSections};
 use eif::{
@@ -254,6 +255,7 @@ pub fn compare_image(rng: &mut Rng, ordinal: u64, image: &[u8], tally: &mut Tall
     same(input, "read", reading, twin_reading(&twin_answer));
     tally.add(Call::Read, reading.number);
     compare_image_view(input, &twin_answer);
+    compare_strict(input, tally);
 
     for stream in Stream::ALL {
         compare_stream(rng, input, stream, tally);

@@ -4,7 +4,7 @@ use std::fmt;
 use std::ops::AddAssign;
 
 /// How many kinds of call there are.
-const CALLS: usize = 12;
+const CALLS: usize = 13;
 
 /// Answer numbers are below this.
 const NUMBERS: usize = 30;
@@ -14,6 +14,8 @@ const NUMBERS: usize = 30;
 pub enum Call {
     /// Reading an image.
     Read,
+    /// Reading an image strictly.
+    ReadStrict,
     /// Reading an image that arrives in pieces.
     Arrive,
     /// The length of a plan's image.
@@ -42,6 +44,7 @@ impl Call {
     /// All of them.
     pub const ALL: [Call; CALLS] = [
         Call::Read,
+        Call::ReadStrict,
         Call::Arrive,
         Call::PlanLength,
         Call::Write,
@@ -62,6 +65,7 @@ impl Call {
             Call::Read | Call::Arrive | Call::Length | Call::RollLength | Call::Registers => {
                 image.collect()
             }
+            Call::ReadStrict => image.chain([21]).collect(),
             Call::PlanLength => vec![0, 1, 4, 5, 9, 10, 11, 12],
             Call::Write => vec![0, 1, 4, 5, 9, 10, 11, 12, 14, 15],
             Call::Copy => image.chain([19]).collect(),

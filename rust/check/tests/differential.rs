@@ -5,7 +5,6 @@
 use eif::MAX_IMAGE_LENGTH;
 use eif_cases::{put, record, zero_image, RECORD_HEADER};
 use eif_check::*;
-use std::env;
 use std::io::{self, Write};
 use std::ops::Range;
 use std::thread;
@@ -18,17 +17,6 @@ const MESSAGES: u64 = 40_000;
 const READINGS: u64 = 40_000;
 const ARRIVALS: u64 = 40_000;
 const STATES: u64 = 40_000;
-
-fn variable(name: &str, default: u64) -> u64 {
-    let Ok(text) = env::var(name) else {
-        return default;
-    };
-    let number = match text.strip_prefix("0x") {
-        Some(digits) => u64::from_str_radix(digits, 16),
-        None => text.parse(),
-    };
-    number.unwrap_or_else(|_| panic!("{name} is no number: {text}"))
-}
 
 /// Writes a line that is seen also where the test passes.
 fn say(line: &str) {
@@ -117,11 +105,6 @@ fn long_rolls(tally: &mut Tally) {
             compare_roll(length as u64, &roll, tally);
         }
     }
-}
-
-/// The share `part` of `parts` of a number of inputs.
-fn share(total: u64, part: u64, parts: u64) -> Range<u64> {
-    total * part / parts..total * (part + 1) / parts
 }
 
 #[test]

@@ -13,7 +13,7 @@ pub struct Input {
     pub bytes: Vec<u8>,
 }
 
-/// What the library's reader said of an input while it arrived.
+/// What the library's reader said of an input, while it arrived or when it had.
 pub struct Arrived {
     pub name: OsString,
     pub answer: Result<Reading, Refusal>,
@@ -65,6 +65,17 @@ pub fn arrive(name: &OsStr, keep: Keep) -> Result<Arrived, Trouble> {
     })?;
     let answer = arriving.finish();
     let name = name.to_os_string();
+    Ok(Arrived {
+        name,
+        answer,
+        bytes,
+    })
+}
+
+/// Has an input read strictly. Its metadata is looked at, so its bytes are kept.
+pub fn read_strictly(name: &OsStr) -> Result<Arrived, Trouble> {
+    let Input { name, bytes } = read(name)?;
+    let answer = eif::read_strict(&bytes).map(|image| (*image).clone());
     Ok(Arrived {
         name,
         answer,

@@ -12,15 +12,19 @@ use std::os::unix::net::UnixStream;
 use std::process::Stdio;
 
 /// Every subcommand with files in the places of its inputs.
-const READERS: [&str; 8] = [
+const READERS: [&str; 12] = [
     "show FILE",
+    "show --strict FILE",
     "check FILE",
+    "check --strict FILE",
+    "json FILE",
     "compare FILE good",
     "registers FILE",
     "roll FILE",
     "extract FILE 0",
     "stream FILE whole",
     "pack --kernel FILE --cmdline x --ramdisk good --output out",
+    "pack --kernel good --cmdline x --metadata FILE --ramdisk good --output out",
 ];
 
 fn with_good() -> Folder {
@@ -151,6 +155,8 @@ fn a_full_disk() {
         "show good",
         "show --json good",
         "check good",
+        "check --strict good",
+        "json metadata",
         "compare good good",
         "registers good",
         "registers --json good",
@@ -218,6 +224,7 @@ fn a_closed_pipe_ends_it_quietly() {
     for words in [
         "show good good",
         "check good",
+        "json metadata",
         "roll good",
         "compare good good",
         "--help",
@@ -251,6 +258,10 @@ const WRONG: &[(&str, &str)] = &[
     ("show --json=yes good", "--json takes no value"),
     ("check -q good", "no option -q here"),
     ("check - -", "- is named twice"),
+    ("check --strict=yes good", "--strict takes no value"),
+    ("json", "FILE is missing"),
+    ("json - -", "- is named twice"),
+    ("json --strict metadata", "no option --strict here"),
     ("compare good", "B is missing"),
     ("compare good good good", "good is one too many"),
     ("compare - -", "- is named twice"),

@@ -108,6 +108,7 @@ fn the_header_has_the_same_limits() {
         ("EIF_MAX_SECTIONS", eif::MAX_SECTIONS),
         ("EIF_NO_RAMDISK", eif::raw::NO_RAMDISK as usize),
         ("EIF_REGISTERS", eif::REGISTERS),
+        ("EIF_MAX_JSON_DEPTH", eif::json::MAX_DEPTH),
         ("EIF_DIGEST_LENGTH", eif::DIGEST_LENGTH),
     ] {
         assert_eq!(macro_value(&header, name), value.to_string(), "{name}");
@@ -217,7 +218,7 @@ fn help_manual_and_man_page_have_the_same_subcommands_and_options() {
     let names = subcommands(&folder);
     assert_eq!(
         names.join(" "),
-        "show check compare registers roll pack extract stream"
+        "show check compare registers roll pack extract stream json"
     );
     for name in names {
         let help = folder.run([&name[..], "--help"]);

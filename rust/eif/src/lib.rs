@@ -7,6 +7,7 @@
 //! | call | what it does |
 //! |---|---|
 //! | [`read`] | accepts or refuses an image and lists its sections |
+//! | [`read_strict`], [`json::check`] | the same, and then its metadata must be JSON; whether bytes are one JSON text |
 //! | [`Arriving`] | the same of an image that arrives in pieces, with no memory for its bytes |
 //! | [`write()`], [`plan_length`], [`write_to_vec`] | the plain image of a [`Plan`] |
 //! | [`copy_stream`], [`stream_length`], [`stream_to_vec`] | the three measured streams |
@@ -83,6 +84,7 @@
 
 mod arriving;
 mod image;
+pub mod json;
 mod numbers;
 mod plan;
 pub mod raw;
@@ -93,7 +95,7 @@ mod sha384;
 mod stream;
 
 pub use arriving::Arriving;
-pub use image::{read, Image, Reading, Section};
+pub use image::{read, read_strict, Image, Reading, Section};
 pub use numbers::{
     Architecture, DataLength, FilePosition, RollPosition, SectionType, StreamPosition, UnknownName,
 };

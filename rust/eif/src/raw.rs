@@ -29,7 +29,7 @@ pub struct Section {
     pub length: DataLength,
 }
 
-/// What [`read`] answers.
+/// What [`read`] and [`read_strict`] answer.
 #[repr(C)]
 #[derive(Clone, Copy, Debug, Default, PartialEq, Eq)]
 pub struct Reading {
@@ -59,6 +59,19 @@ pub struct Reading {
     pub reserved_after: u32,
     /// The sections in file order, then zeros.
     pub sections: [Section; MAX_SECTIONS],
+}
+
+/// What [`json_check`] answers.
+#[repr(C)]
+#[derive(Clone, Copy, Debug, Default, PartialEq, Eq)]
+pub struct JsonAnswer {
+    /// 1 where the bytes are one JSON text, and otherwise 0.
+    pub is_text: u8,
+    /// Always 0.
+    pub reserved: [u8; 7],
+    /// The place of the first byte that no JSON text can have after the bytes before it or, where there
+    /// is none, the number of bytes. 0 where they are a text.
+    pub place: u64,
 }
 
 /// What [`write()`] takes.
@@ -221,6 +234,7 @@ const _: () = {
     assert!(size_of::<SectionType>() == 2);
     assert!(size_of::<FilePosition>() == 8 && size_of::<RollPosition>() == 8);
     assert!(size_of::<DataLength>() == 8 && size_of::<StreamPosition>() == 8);
+    assert!(size_of::<JsonAnswer>() == 1 + 7 + 8 && offset_of!(JsonAnswer, place) == 8);
     assert!(size_of::<Section>() == 2 + 2 + 4 + 8 + 8);
     assert!(size_of::<RollRecord>() == 2 + 2 + 4 + 8 + 8);
     assert!(size_of::<Answer>() == 1 + 7 + 8 + 8);
@@ -270,12 +284,14 @@ impl From<RollRecord> for crate::RollRecord {
 
 mod c {
     use super::{
-        Answer, Arriving, ArrivingFed, ArrivingFinished, Digest, Plan, Reading, RegistersAnswer,
-        RollReading, Sha384, Sha384Fed, StreamPosition, StreamSections,
+        Answer, Arriving, ArrivingFed, ArrivingFinished, Digest, JsonAnswer, Plan, Reading,
+        RegistersAnswer, RollReading, Sha384, Sha384Fed, StreamPosition, StreamSections,
     };
 
     extern "C" {
         pub fn eif_read(image: *const u8, image_length: usize) -> Reading;
+        pub fn eif_read_strict(image: *const u8, image_length: usize) -> Reading;
+        pub fn eif_json_check(text: *const u8, text_length: usize) -> JsonAnswer;
         pub fn eif_arriving_begin() -> Arriving;
         pub fn eif_arriving_feed(
             state: Arriving,
@@ -347,6 +363,18 @@ mod c {
 pub fn read(image: &[u8]) -> Reading {
     // SAFETY: pointer and length are those of a slice, here and below.
     unsafe { c::eif_read(image.as_ptr(), image.len()) }
+}
+
+/// `eif_read_strict`.
+pub fn read_strict(image: &[u8]) -> Reading {
+    // SAFETY: as for `read`.
+    unsafe { c::eif_read_strict(image.as_ptr(), image.len()) }
+}
+
+/// `eif_json_check`.
+pub fn json_check(text: &[u8]) -> JsonAnswer {
+    // SAFETY: as for `read`.
+    unsafe { c::eif_json_check(text.as_ptr(), text.len()) }
 }
 
 /// `eif_arriving_begin`.
@@ -562,6 +590,8 @@ mod tests {
         // SAFETY: every length is 0.
         unsafe {
             assert_eq!(c::eif_read(null(), 0), read(&[]));
+            assert_eq!(c::eif_read_strict(null(), 0), read(&[]));
+            assert_eq!(c::eif_json_check(null(), 0), JsonAnswer::default());
             let write = c::eif_write(smallest(), null(), 0, null_mut(), 0);
             assert_eq!(write.number, 14);
             for length in [
@@ -615,6 +645,11 @@ mod tests {
         let image = &image[..written.length as usize];
         let copy = image.to_vec();
         assert_eq!(bytes_of(&read(image)), bytes_of(&read(&copy)));
+        assert_eq!(bytes_of(&read(image)), bytes_of(&read_strict(&copy)));
+        for text in [&b"{}"[..], b"{]"] {
+            let copy = text.to_vec();
+            assert_eq!(bytes_of(&json_check(text)), bytes_of(&json_check(&copy)));
+        }
         for sections in [whole_sections, boot_sections, app_sections] {
             let lists = [image, &copy].map(|image| sections(read(image)));
             assert_eq!(bytes_of(&lists[0]), bytes_of(&lists[1]));
@@ -640,7 +675,10 @@ mod tests {
         let written = write(smallest(), &[], &mut image);
         let refused = write(smallest(), &[], &mut []);
         assert_eq!([written.reserved, refused.reserved], [[0; 7]; 2]);
-        for reading in [read(&image), read(&[])] {
+        for text in [&b"{}"[..], b"{]", b""] {
+            assert_eq!(json_check(text).reserved, [0; 7]);
+        }
+        for reading in [read(&image), read(&[]), read_strict(&image)] {
             assert_eq!((reading.reserved, reading.reserved_after), (0, 0));
             assert!(reading.sections.iter().all(|s| s.reserved == 0));
             for sections in [whole_sections, boot_sections, app_sections] {

@@ -94,6 +94,8 @@ reasons! {
         "nothing is wrong with the file; mend the calling program";
     20 NotPacked: "section not packed, or bytes after the last section",
         "do not use it; fetch it again, and if the answer stays, tell the builder";
+    21 MetadataNotJson: "metadata is not one JSON text",
+        "do not use it; tell the builder";
     29 MessageTooLong: "message longer than 2,305,843,009,213,693,951 bytes",
         "nothing is wrong with the file; mend the calling program";
 }
@@ -143,8 +145,8 @@ impl Refusal {
         self.reason as u8
     }
 
-    /// The index of the section or record for 6 to 11, 16, 17 and, where a section is not packed, 20; and 0
-    /// for the others.
+    /// The index of the section or record for 6 to 11, 16, 17, 21 and, where a section is not packed, 20;
+    /// and 0 for the others.
     pub fn index(&self) -> u64 {
         self.index
     }

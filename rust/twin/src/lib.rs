@@ -2,7 +2,7 @@
 //!
 //! Written from the rules alone (docs/FORMAT.md), to be compared with the proved library: it gives the
 //! same answers and shares no code with it. It is also what the library's speed is measured against.
-//! [`Sha384`] is written from FIPS 180-4.
+//! [`Sha384`] is written from FIPS 180-4, and [`check_json`] from RFC 8259 and RFC 3629.
 //!
 //! ```
 //! use eif_twin::{read_roll, Refusal};
@@ -15,18 +15,22 @@
 
 mod crc32;
 mod image;
+mod json;
 mod plan;
 mod registers;
 mod roll;
 mod rules;
 mod sha384;
 mod stream;
+mod strict;
 
 pub use crc32::Crc32;
 pub use image::{read, Reading, Section};
+pub use json::check_json;
 pub use plan::{plan_length, write, Place, Plan};
 pub use registers::registers;
 pub use roll::{read_roll, roll_length, write_roll, Record};
 pub use rules::{Refusal, MAX_IMAGE};
 pub use sha384::Sha384;
 pub use stream::{copy_sections, copy_stream, stream_length, stream_sections, Stream};
+pub use strict::read_strict;

@@ -1,7 +1,6 @@
 //! The subcommands, each in a file of its own.
 //!
-//! A new one (signature, assemble, stage) is a file here and a row in the table. A stricter
-//! reading is a flag `--strict` of `show` and `check`.
+//! A new one (signature, assemble, stage) is a file here and a row in the table.
 
 use crate::args::{Args, Options};
 use crate::status::{Status, Trouble};
@@ -9,6 +8,7 @@ use crate::status::{Status, Trouble};
 mod check;
 mod compare;
 mod extract;
+mod json;
 mod pack;
 mod registers;
 mod roll;
@@ -27,7 +27,7 @@ pub struct Command {
 }
 
 /// All of them, in the order of the overview.
-pub const COMMANDS: [Command; 8] = [
+pub const COMMANDS: [Command; 9] = [
     show::COMMAND,
     check::COMMAND,
     compare::COMMAND,
@@ -36,4 +36,5 @@ pub const COMMANDS: [Command; 8] = [
     pack::COMMAND,
     extract::COMMAND,
     stream::COMMAND,
+    json::COMMAND,
 ];

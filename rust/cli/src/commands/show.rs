@@ -7,26 +7,29 @@ use crate::input::{self, Arrived, Keep};
 use crate::json::{self, Object};
 use crate::status::{Status, Trouble};
 use crate::{objects, output, words};
-use eif::{Reading, RollRecord, Section, SectionType};
+use eif::json::Fault;
+use eif::{Reading, Reason, RollRecord, Section, SectionType};
 use std::ffi::OsStr;
 
 pub const COMMAND: Command = Command {
     name: "show",
     summary: "show what an image or a roll holds",
     help: "\
-usage: eif show [--json] FILE..
+usage: eif show [--strict] [--json] FILE..
 
 Shows each file: of an image its header fields and a row for each section in file
 order (index, type, offset of the section in the file, size of its data); of a
 boot roll a row for each record (index, type, position of its data, size). Of a
 file that is refused: the answer number, where, what it means and what to do.
 
+  --strict  refuse an image whose metadata is not one JSON text too, by 21, and say
+            where in the metadata; this needs memory for the image
   --json    one object for each file, one a line; the manual lists the keys
 
 Exit status: 0 all are accepted, 1 one is refused, 2 one cannot be read.
 ",
     options: Options {
-        flags: &["--json"],
+        flags: &["--strict", "--json"],
         values: &[],
     },
     run,
@@ -42,7 +45,11 @@ fn run(args: Args) -> Result<Status, Trouble> {
     } else {
         (text, Keep::Rolls)
     };
-    let read = |name: &OsStr| input::arrive(name, keep);
+    let strict = args.has("--strict");
+    let read = |name: &OsStr| match strict {
+        true => input::read_strictly(name),
+        false => input::arrive(name, keep),
+    };
     input::each(names, read, |arrived| {
         let answer = content::of(arrived);
         output::print(&form(arrived, &answer))?;
@@ -55,8 +62,23 @@ fn text(arrived: &Arrived, answer: &Answer) -> Vec<u8> {
     match answer {
         Ok(Content::Image(image)) => words::about(name, &image_text(image)),
         Ok(Content::Roll(roll)) => words::about(name, &roll_text(roll.records())),
-        Err(neither) => neither.lines(name),
+        Err(neither) => {
+            let mut lines = neither.lines(name);
+            if let Some(fault) = metadata_fault(arrived, neither) {
+                lines.extend(format!("  in the metadata: {fault}\n").into_bytes());
+            }
+            lines
+        }
     }
+}
+
+/// Where the metadata stops being JSON, of an image that is refused for that.
+fn metadata_fault(arrived: &Arrived, neither: &Neither) -> Option<Fault> {
+    if neither.image.reason() != Reason::MetadataNotJson {
+        return None;
+    }
+    let image = eif::read(&arrived.bytes).ok()?;
+    eif::json::check(image.metadata()?).err()
 }
 
 fn image_text(image: &Reading) -> String {
@@ -111,7 +133,13 @@ fn object(arrived: &Arrived, answer: &Answer) -> Vec<u8> {
             let records = records.map(|(index, record)| record_object(index, record));
             objects::on_file(name, true).put("records", json::list(records))
         }
-        Err(neither) => objects::refused(name, &neither.image),
+        Err(neither) => {
+            let refused = objects::refused(name, &neither.image);
+            match metadata_fault(arrived, neither) {
+                Some(fault) => refused.put("place", fault.place()),
+                None => refused,
+            }
+        }
     };
     (object.text() + "\n").into_bytes()
 }
