@@ -178,6 +178,13 @@ const ENTRIES: [(usize, u64); 3] = [(0, 28), (1, 36), (2, 44)];
 /// Each rule of FORMAT.md, "Reading an image", at its boundary, and those that a reader easily gets
 /// wrong.
 pub fn image_cases() -> Vec<ImageCase> {
+    let mut cases = boundary_cases();
+    cases.extend(mistaken_cases());
+    cases.extend(packing_cases());
+    cases
+}
+
+fn boundary_cases() -> Vec<ImageCase> {
     let mut cases = Vec::new();
     let mut case = |name, image, answer| cases.push(ImageCase::new(name, image, answer));
 
@@ -221,7 +228,12 @@ pub fn image_cases() -> Vec<ImageCase> {
         );
         case("checksum one off", image, (13, 0, 544));
     }
+    cases
+}
 
+fn mistaken_cases() -> Vec<ImageCase> {
+    let mut cases = Vec::new();
+    let mut case = |name, image, answer| cases.push(ImageCase::new(name, image, answer));
     // Offset 574 + 12 + size is 2 to the 64, which wraps to 0.
     let image = edited(|image| put_number(image, SIZES_AT + 16, 0u64.wrapping_sub(586)));
     case("end that wraps to 0", image, (7, 2, 44));
@@ -242,7 +254,6 @@ pub fn image_cases() -> Vec<ImageCase> {
     let mut image = of_types(4, &[1, 2]);
     image[CHECKSUM_AT] ^= 1;
     case("no metadata and a wrong checksum", image, (12, 0, 26));
-    cases.extend(packing_cases());
     cases
 }
 
