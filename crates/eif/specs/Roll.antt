@@ -9,7 +9,7 @@ use lib.ListN.{length, replicate, take}
 use Rattle.octets.specs.Bytes.{leField, leBytes}
 use Rattle.eif.specs.Numbers.{sizeLimit, placeCount, oldestVersion, kernel, ramdisk, imageTooLong, wrongCount, sectionMissing, outputTooShort, recordCut, recordTypeWrong, bytesAfterEnd}
 use Rattle.eif.specs.Logic.{both, choose}
-use Rattle.eif.specs.Answers.{refuse, andThen}
+use Rattle.eif.specs.Answers.{refuse, refuseAt, andThen}
 use Rattle.eif.specs.Rules.{orderFault, missing}
 use Rattle.eif.specs.Table.{filled}
 use Rattle.eif.specs.Layout.{headerSize, sectionHeaderSize}
@@ -127,22 +127,18 @@ bodyFault s i =
     (choose (ltb (length s) (recordAt s (suc i))) recordCut
     (orderFault (recordKind s) (recordKind s i) i))
 
--- where the records end, or the refusal on the way
+-- the record where the records end, or the number of the refusal on the way and the record at which it stops
 pub data Ending : Type 0 where
   ended : ℕ → Ending
   stopped : ℕ → ℕ → Ending
 
--- a refusal at record i: 5 gives the index 0
-abbrev pub stop : ℕ → ℕ → Ending
-stop number i = stopped number (choose (eqb number wrongCount) 0 i)
-
 -- from record i on, in at most n records: a head, then the end, or what follows the head and the next record
 unfoldable pub endFrom : List ℕ → ℕ → ℕ → Ending
-endFrom s zero i = stopped wrongCount 0
+endFrom s zero i = stopped wrongCount i
 endFrom s (suc n) i =
     let rest = endFrom s n (suc i) in
-    let judged = choose (eqb (bodyFault s i) 0) rest (stop (bodyFault s i) i) in
-    choose (eqb (headFault s i) 0) (choose (isEnd s i) (ended i) judged) (stop (headFault s i) i)
+    let judged = choose (eqb (bodyFault s i) 0) rest (stopped (bodyFault s i) i) in
+    choose (eqb (headFault s i) 0) (choose (isEnd s i) (ended i) judged) (stopped (headFault s i) i)
 
 -- what the records before i would take in an image, with its header
 unfoldable pub imageSize : List ℕ → ℕ → ℕ
@@ -159,6 +155,14 @@ rollFault s n =
 
 -- ---- the answer
 
+-- a refusal at record i: 5 gives the index 0; the position is the record's start
+abbrev pub stopVerdict : List ℕ → ℕ → ℕ → Verdict
+stopVerdict s number i = refuseAt number (choose (eqb number wrongCount) 0 i) (recordAt s i)
+
+-- a refusal of a roll whose end record is record n: 18 gives the first byte after it, 12 and 1 give 0
+abbrev pub endVerdict : List ℕ → ℕ → ℕ → Verdict
+endVerdict s number n = refuseAt number 0 (choose (eqb number bytesAfterEnd) (recordAt s n + recordHeadSize) 0)
+
 -- what a reading says of record i
 abbrev pub listedAt : List ℕ → ℕ → RollRecord
 listedAt s i = record { kind = recordKind s i; position = record { 0 = recordAt s i + recordHeadSize }; length = record { 0 = recordSize s i } }
@@ -173,11 +177,11 @@ abbrev pub acceptedRoll : ℕ → List RollRecord → RollReading
 acceptedRoll count records = record { verdict = Accepted; count = count; records = records }
 
 abbrev pub rollAnswerFor : List ℕ → Ending → RollReading
-rollAnswerFor s (stopped number index) = refusedRoll (refuse number index)
+rollAnswerFor s (stopped number i) = refusedRoll (stopVerdict s number i)
 rollAnswerFor s (ended n) =
     choose (eqb (rollFault s n) 0)
     (acceptedRoll n (filled (listedAt s) blankRecord placeCount n))
-    (refusedRoll (refuse (rollFault s n) 0))
+    (refusedRoll (endVerdict s (rollFault s n) n))
 
 -- at most 32 records and the end record
 unfoldable pub readRoll : List ℕ → RollReading

@@ -6,7 +6,7 @@ use mathlib.Core.List.{List, [], _∷_, _++_, map}
 use lib.ListN.{length, replicate, take}
 use Rattle.octets.specs.Bytes.{leField}
 use Rattle.eif.specs.Numbers.{placeCount}
-use Rattle.eif.specs.Answers.{refuse}
+use Rattle.eif.specs.Answers.{refuseAt}
 use Rattle.eif.specs.Rules.{seen, orderFault, missing}
 use Rattle.eif.specs.Roll.{rollOf, headOf, readRoll, refusedRoll, acceptedRoll, blankRecord, endFrom, recordAt, headFault, bodyFault, imageSize, rollFault}
 use Rattle.eif.specs.declared.RollRecord.{RollRecord}
@@ -44,8 +44,8 @@ listed kind position size = record { kind = kind; position = record { 0 = positi
 abbrev accepted : List RollRecord → RollReading
 accepted records = acceptedRoll (length records) (records ++ replicate (placeCount - length records) blankRecord)
 
-abbrev refused : ℕ → ℕ → RollReading
-refused number index = refusedRoll (refuse number index)
+abbrev refused : ℕ → ℕ → ℕ → RollReading
+refused number index position = refusedRoll (refuseAt number index position)
 
 abbrev row : List ℕ → RollReading → Row
 row roll answer = record { roll = roll; answer = answer }
@@ -54,17 +54,17 @@ row roll answer = record { roll = roll; answer = answer }
 -- command line exchanged; R7 ramdisk first; R8 kernel twice; R9 first type 4; R10 type 0 with length 1; R11 length of eight ff
 abbrev pub rows : List Row
 rows =
-    row [] (refused 16 0)
-    ∷ row (replicate 10 0) (refused 12 0)
+    row [] (refused 16 0 0)
+    ∷ row (replicate 10 0) (refused 12 0 0)
     ∷ row worked (accepted (listed 1 10 1 ∷ listed 2 21 1 ∷ listed 3 32 0 ∷ []))
-    ∷ row (take 41 worked) (refused 16 3)
-    ∷ row (worked ++ (0 ∷ [])) (refused 18 0)
+    ∷ row (take 41 worked) (refused 16 3 32)
+    ∷ row (worked ++ (0 ∷ [])) (refused 18 0 42)
     ∷ row (commandLineRecord ++ kernelRecord ++ ramdiskRecord ++ endRecord) (accepted (listed 2 10 1 ∷ listed 1 21 1 ∷ listed 3 32 0 ∷ []))
-    ∷ row (ramdiskRecord ++ kernelRecord ++ commandLineRecord ++ endRecord) (refused 10 0)
-    ∷ row (kernelRecord ++ worked) (refused 11 1)
-    ∷ row (headOf 1 4 ++ (0x4b ∷ []) ++ commandLineRecord ++ ramdiskRecord ++ endRecord) (refused 17 0)
-    ∷ row (headOf 1 0 ++ (0x4b ∷ []) ++ commandLineRecord ++ ramdiskRecord ++ endRecord) (refused 17 0)
-    ∷ row (replicate 8 0xff ++ (1 ∷ 0 ∷ [])) (refused 16 0)
+    ∷ row (ramdiskRecord ++ kernelRecord ++ commandLineRecord ++ endRecord) (refused 10 0 0)
+    ∷ row (kernelRecord ++ worked) (refused 11 1 11)
+    ∷ row (headOf 1 4 ++ (0x4b ∷ []) ++ commandLineRecord ++ ramdiskRecord ++ endRecord) (refused 17 0 0)
+    ∷ row (headOf 1 0 ++ (0x4b ∷ []) ++ commandLineRecord ++ ramdiskRecord ++ endRecord) (refused 17 0 0)
+    ∷ row (replicate 8 0xff ++ (1 ∷ 0 ∷ [])) (refused 16 0 0)
     ∷ []
 
 pub rows-hold : map (λ (r : Row). readRoll (r .roll)) rows ≡ map (λ (r : Row). r .answer) rows

@@ -1,7 +1,7 @@
 // The Enclave Image File: its vocabulary. The definitions that all contracts cite stand in specs/; docs/FORMAT.md has the same
 // rules in words. Nothing here computes but the section type's own test of which version may hold it.
 ghost use mathlib.Core.Path.{_≡_};
-ghost use Rattle.eif.specs.Answers.{refuse};
+ghost use Rattle.eif.specs.Answers.{refuse, refuseAt};
 ghost use Rattle.eif.specs.Rules.{allowedIn};
 
 // ---- limits
@@ -131,11 +131,12 @@ impl SectionType {
 
 // ---- answers
 
-// Why something is refused: the answer number, and the index of the section or record that it is about, else 0
-// (FORMAT.md, Answer numbers).
+// Why something is refused: the answer number, the index of the section or record that it is about, else 0, and where in the
+// file or the roll the field at fault stands, else 0 (FORMAT.md, Answer numbers).
 pub struct Refusal {
     pub number: u8,
     pub index: u64,
+    pub position: u64,
 }
 
 // The answer numbers.
@@ -205,10 +206,21 @@ pub enum Verdict {
 }
 
 impl Verdict {
+    // A refusal that is about no one place.
     pub fn refuse(number: u8, index: u64) -> Verdict
         ensures { λ r. ⌜ r ≡ refuse number index ⌝ }
     {
-        Verdict::Refused(Refusal { number, index })
+        Verdict::refuse_at(number, index, 0)
+    }
+
+    pub fn refuse_at(number: u8, index: u64, position: u64) -> Verdict
+        ensures { λ r. ⌜ r ≡ refuseAt number index position ⌝ }
+    {
+        Verdict::Refused(Refusal {
+            number,
+            index,
+            position,
+        })
     }
 }
 

@@ -108,6 +108,8 @@ fn refusal(r: Refusal) {
     number(r.number as u64);
     text(b" at ");
     number(r.index);
+    text(b" byte ");
+    number(r.position);
 }
 
 fn field(name: &[u8], n: u64) {

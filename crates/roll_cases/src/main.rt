@@ -41,6 +41,8 @@ fn refusal(r: Refusal) {
     number(r.number as u64);
     text(b" at ");
     number(r.index);
+    text(b" byte ");
+    number(r.position);
 }
 
 fn answer(verdict: Verdict) {
@@ -238,6 +240,39 @@ fn rows() {
     first_type(b"R9 first type 4", 4);
     first_type(b"R10 type 0 with length 1", 0);
     huge();
+}
+
+// ---- at an inner record and the last
+
+// The worked roll with two bytes changed.
+fn changed(label: &[u8], at: usize, value: u16) {
+    let mut roll = WORKED;
+    octets::put_le16(&mut roll, at, value);
+    read(label, &roll);
+}
+
+fn without_end() {
+    let worked = WORKED;
+    let mut roll = [0u8; 32];
+    octets::copy(&mut roll, 0, &worked);
+    read(b"without its end record", &roll);
+}
+
+fn ramdisk_second() {
+    let mut roll = [0u8; 42];
+    put_record(&mut roll, 0, SectionType::COMMAND_LINE, b"a");
+    put_record(&mut roll, 11, SectionType::RAMDISK, b"r");
+    put_record(&mut roll, 22, SectionType::KERNEL, b"");
+    read(b"ramdisk second, before the kernel", &roll);
+}
+
+fn inner() {
+    without_end();
+    changed(b"second record's data past the end", 13, 1);
+    changed(b"second type 4", 19, 4);
+    changed(b"end record with length 1", 32, 1);
+    ramdisk_second();
+    changed(b"command line twice", 30, 2);
 }
 
 // ---- as many records as an image has places, and one more
@@ -517,6 +552,7 @@ fn byte_moved() {
 
 fn main() {
     rows();
+    inner();
     many();
     ramdisk_alone();
     kernels_whole();

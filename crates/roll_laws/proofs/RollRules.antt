@@ -12,10 +12,9 @@ use lib.Dec.{eqb, ltb, leb}
 use lib.ListN.{length}
 use Rattle.eif.specs.Numbers.{sizeLimit, placeCount}
 use Rattle.eif.specs.Logic.{both, choose}
-use Rattle.eif.specs.Answers.{refuse}
 use Rattle.eif.specs.Rules.{orderFault, missing}
 use Rattle.eif.specs.Table.{filled}
-use Rattle.eif.specs.Roll.{recordAt, recordSize, recordKind, isEnd, headFault, bodyFault, Ending, ended, stopped, stop, endFrom, imageSize, rollFault, listedAt, blankRecord, acceptedRoll, refusedRoll, rollAnswerFor, readRoll}
+use Rattle.eif.specs.Roll.{recordAt, recordSize, recordKind, isEnd, headFault, bodyFault, Ending, ended, stopped, endFrom, imageSize, rollFault, endVerdict, listedAt, blankRecord, acceptedRoll, refusedRoll, rollAnswerFor, readRoll}
 use Rattle.eif.specs.declared.RollReading.{RollReading}
 use Rattle.eif.specs.declared.Verdict.the-variants.{Accepted}
 use Rattle.eif_rules.proofs.Logic.{choose-zero}
@@ -90,7 +89,7 @@ record Ended (s : List ℕ) (i m n : ℕ) : Type 0 where
 module _ (s : List ℕ) where
   -- what follows a head without a fault
   abbrev afterHead : ℕ → ℕ → Bool → Ending
-  afterHead m i b = choose b (ended i) (choose (eqb (bodyFault s i) 0) (endFrom s m (suc i)) (stop (bodyFault s i) i))
+  afterHead m i b = choose b (ended i) (choose (eqb (bodyFault s i) 0) (endFrom s m (suc i)) (stopped (bodyFault s i) i))
 
   ended→ : (m i n : ℕ) → endFrom s m i ≡ ended n → Ended s i m n
   unfolding endFrom
@@ -204,7 +203,7 @@ unfolding readRoll
 roll→ s e = go (endFrom s (suc placeCount) 0) refl e
   where
     fine : (n : ℕ) → endFrom s (suc placeCount) 0 ≡ ended n → (b : Bool) → eqb (rollFault s n) 0 ≡ b
-        → choose b (listed s n) (refusedRoll (refuse (rollFault s n) 0)) .verdict ≡ Accepted → Whole s (choose b (listed s n) (refusedRoll (refuse (rollFault s n) 0)) .count)
+        → choose b (listed s n) (refusedRoll (endVerdict s (rollFault s n) n)) .verdict ≡ Accepted → Whole s (choose b (listed s n) (refusedRoll (endVerdict s (rollFault s n) n)) .count)
     fine n q true z v = whole-of s n (ended→ s (suc placeCount) 0 n q) (eqb-true _ _ z)
     fine n q false z v = never _ v
 

@@ -74,9 +74,9 @@ struct Walked {
     records: [RollRecord; PLACES],
 }
 
-// A refusal at record i; 5 is about no one record.
-fn stopped(number: u8, i: usize) -> Walked
-    ensures { λ r. ⌜ r ≡ stoppedAt number i ⌝ }
+// A refusal at record i, which starts at `at`; 5 is about no one record.
+fn stopped(number: u8, i: usize, at: usize) -> Walked
+    ensures { λ r. ⌜ r ≡ stoppedAt number i at ⌝ }
 {
     let none = blank();
     let index = if number == Refusal::WRONG_COUNT {
@@ -85,7 +85,7 @@ fn stopped(number: u8, i: usize) -> Walked
         i as u64
     };
     Walked {
-        verdict: Verdict::refuse(number, index),
+        verdict: Verdict::refuse_at(number, index, at as u64),
         count: 0,
         end: 0,
         kinds: [0; PLACES],
@@ -104,11 +104,11 @@ fn walk(roll: &[u8]) -> Walked
     let mut i: usize = 0;
     loop {
         if roll.len() - at < RecordHead::SIZE {
-            return stopped(Refusal::RECORD_CUT, i);
+            return stopped(Refusal::RECORD_CUT, i, at);
         }
         let fault = record_fault(roll, &kinds, i, at);
         if fault != 0 {
-            return stopped(fault, i);
+            return stopped(fault, i, at);
         }
         let kind = octets::le16(roll, at + RecordHead::TYPE_AT);
         if kind == RecordHead::END_TYPE {
@@ -179,6 +179,9 @@ pub fn read(roll: &[u8]) -> RollReading
     };
     let kinds = walked.kinds;
     let fault = roll_fault(roll, &kinds, walked.count, walked.end);
+    if fault == Refusal::BYTES_AFTER_END {
+        return refused(Verdict::refuse_at(fault, 0, (walked.end + RecordHead::SIZE) as u64));
+    }
     if fault != 0 {
         return refused(Verdict::refuse(fault, 0));
     }

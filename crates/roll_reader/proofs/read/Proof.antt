@@ -1,10 +1,16 @@
 -- `roll_reader::read` meets its contract: the answer follows from what the walk hands on and from the rules on the whole roll.
 -- Assumes nothing.
-use mathlib.Core.Path.{ap, _∙_}
+use Prim.Native.Nat.{ℕ}
+use mathlib.Core.Path.{_≡_, ap, _∙_}
+use mathlib.Core.List.{List}
+use native.Mathlib.Omega.{arith}
 use denote.Ref.{now}
 use Rattle.eif.specs.Roll.{refusedRoll}
 use Rattle.eif.specs.declared.Verdict.{Verdict}
-use Rattle.roll_reader.proofs.Ending.{walk-ended, read-stopped, read-refused, read-accepted}
+use Rattle.eif.specs.declared.Verdict.the-variants.{Accepted}
+use Rattle.roll_reader.specs.declared.Walked.{Walked}
+use Rattle.roll_reader.specs.Walk.{walkOf}
+use Rattle.roll_reader.proofs.Ending.{walk-ended, read-stopped, read-more, read-refused, read-accepted}
 use borrow.Author.Needs.{needs}
 use Rattle.roll_reader.proofs.read.Statement.{statement}
 use Rattle.roll_reader.proofs.read.Tie as tie
@@ -37,28 +43,38 @@ roll-fault-requires c κs =
     let x = walk-ended (now (c .before .before .before .before .before .before .args .roll)) (w .result) (w .ensures) (c .before .before .enum-told .given .1) in
     (x .few, (x .end-at, (x .whole, x .kinds-are)))
 
-refuse-requires : tie.Need-refuse-requires
-refuse-requires c κs = search needs
+-- ---- after the rules on the whole roll
 
-refused-requires-2 : tie.Need-refused-requires-2
-refused-requires-2 c κs = search needs
+module _ (c : tie.After-roll-fault) where
+  abbrev walked : Walked
+  walked = c .before .before .before .before .before .walk .result
+
+  abbrev roll : List ℕ
+  roll = now (c .before .before .before .before .before .before .before .args .roll)
+
+  walked-is : walked ≡ walkOf roll
+  walked-is = c .before .before .before .before .before .walk .ensures
+
+  accepted : walked .verdict ≡ Accepted
+  accepted = c .before .before .before .enum-told .given .1
 
 returns-2 : tie.Need-returns-2
 returns-2 c =
-    let q = c .before .before .before in
-    let w = q .before .before .before .before .before .walk in
-    let s = now (q .before .before .before .before .before .before .before .args .roll) in
-    c .refused2 .ensures ∙ ap refusedRoll (c .before .refuse .ensures)
-    ∙ read-refused s (w .result) (w .ensures) (q .before .before .before .enum-told .given .1) (q .roll-fault .result) (q .roll-fault .ensures) (c .before .before .if1 .taken)
+    let q = c .before .before .before .before in
+    c .refused2 .ensures ∙ ap refusedRoll (c .before .refuse-at .ensures)
+    ∙ read-more (roll q) (walked q) (walked-is q) (accepted q) (q .roll-fault .result) (q .roll-fault .ensures) (c .before .before .before .if1 .taken)
 
 returns-3 : tie.Need-returns-3
 returns-3 c =
-    let q = c .before .before in
-    let w = q .before .before .before .before .before .walk in
-    let s = now (q .before .before .before .before .before .before .before .args .roll) in
-    let t = q .before .before .before .enum-told .given .1 in
-    ap (λ (v : Verdict). record { verdict = v; count = w .result .count; records = w .result .records }) t
-    ∙ read-accepted s (w .result) (w .ensures) t (q .roll-fault .result) (q .roll-fault .ensures) (c .before .if1 .left)
+    let q = c .before .before .before .before in
+    c .refused3 .ensures ∙ ap refusedRoll (c .before .refuse .ensures)
+    ∙ read-refused (roll q) (walked q) (walked-is q) (accepted q) (q .roll-fault .result) (q .roll-fault .ensures) (c .before .before .before .if1 .left) (c .before .before .if2 .taken)
+
+returns-4 : tie.Need-returns-4
+returns-4 c =
+    let q = c .before .before .before in
+    ap (λ (v : Verdict). record { verdict = v; count = walked q .count; records = walked q .records }) (accepted q)
+    ∙ read-accepted (roll q) (walked q) (walked-is q) (accepted q) (q .roll-fault .result) (q .roll-fault .ensures) (c .before .if2 .left)
 
 pub read-spec : {M : Type 1} → statement M
 read-spec =
@@ -71,7 +87,11 @@ read-spec =
     returns
     slice-aggregate-roll-fault
     roll-fault-requires
-    refuse-requires
-    refused-requires-2
+    (λ c. let q = c .before .before in let x = walk-ended (roll q) (walked q) (walked-is q) (accepted q) in omega (arith, x .whole))
+    (λ c κs. search needs)
+    (λ c κs. search needs)
     returns-2
-    returns-3)
+    (λ c κs. search needs)
+    (λ c κs. search needs)
+    returns-3
+    returns-4)

@@ -15,7 +15,8 @@ usage: eif check [--strict] [--quiet] FILE..
 
 Reads each image as it comes, keeps none of it, and prints one line for it, as
     FILE: accepted
-    FILE: refused 13 at 0: checksum differs
+    FILE: refused 13 at 0 byte 544: checksum differs
+eif show says of such a file what stands at that byte and what to do.
 
   --strict  refuse metadata that is not one JSON text too, by 21; this needs memory
             for the image
