@@ -13,7 +13,7 @@ use Rattle.json.specs.declared.JsonVerdict.the-variants.{Text, Fault}
 use Rattle.json_machine.specs.Machine.{jsonVerdict}
 use Rattle.eif.specs.Numbers.{metadata, metadataNotJson}
 use Rattle.eif.specs.Logic.{both, choose}
-use Rattle.eif.specs.Answers.{refuse, andThen}
+use Rattle.eif.specs.Answers.{refuseAt, andThen}
 use Rattle.eif.specs.Layout.{viewOf, countOf, kindAt}
 use Rattle.eif.specs.Reading.{verdictOf, sectionAt, blankSection, dataOf, readingOf}
 use Rattle.eif.specs.Order.{Rule, rule, rulesFrom, imageRules}
@@ -38,9 +38,9 @@ isText (Fault p) = false
 unfoldable pub notJson : List ℕ → Section → Bool
 notJson s x = both (eqb (x .kind) metadata) (not (isText (jsonVerdict (dataOf s x))))
 
--- 21 at a section with its index
+-- 21 at a section, with its index and where its data stands
 abbrev pub refuseMetadata : Section → ℕ → Verdict
-refuseMetadata x i = refuse metadataNotJson i
+refuseMetadata x i = refuseAt metadataNotJson i (x .position .0)
 
 -- at the n sections from place i on, given by place, up to the first that fails
 unfoldable pub metadataVerdict : List ℕ → (ℕ → Section) → ℕ → ℕ → Verdict
@@ -64,7 +64,7 @@ readStrict s = readingOf (viewOf s) (strictVerdict s)
 -- ---- the order, as Order.antt of eif has it for the other calls: the image's own rules, then 21 section by section
 
 abbrev pub metadataRules : List ℕ → ℕ → List Rule
-metadataRules s i = rule (notJson s (sectionAt s i)) metadataNotJson i ∷ []
+metadataRules s i = rule (notJson s (sectionAt s i)) metadataNotJson i (sectionAt s i .position .0) ∷ []
 
 unfoldable pub strictRules : List ℕ → List Rule
 strictRules s = imageRules s ++ rulesFrom (metadataRules s) (countOf s) 0

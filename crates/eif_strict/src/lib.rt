@@ -35,7 +35,7 @@ fn judge(image: &[u8], sections: [Section; PLACES], count: usize) -> Verdict
     while i < count {
         let section = sections[i];
         if not_json(image, section) {
-            return Verdict::refuse(Refusal::METADATA_NOT_JSON, i as u64);
+            return Verdict::refuse_at(Refusal::METADATA_NOT_JSON, i as u64, section.position.0);
         }
         i += 1;
     }

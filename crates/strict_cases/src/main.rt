@@ -19,6 +19,7 @@ fn field(name: &[u8], n: u64) {
 fn refusal(r: Refusal) {
     field(b"refused ", r.number as u64);
     field(b" at ", r.index);
+    field(b" byte ", r.position);
 }
 
 fn verdict(v: Verdict) {

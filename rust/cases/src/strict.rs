@@ -1,6 +1,6 @@
 //! Images for the stricter reading: metadata that is JSON and metadata that is not.
 
-use crate::images::{image_case, ImageCase};
+use crate::images::{Answer, ImageCase, ACCEPTED};
 use crate::layout::{seal, Layout, Section, CHECKSUM_AT};
 use crate::texts::nested;
 
@@ -18,26 +18,28 @@ fn with_metadata(index: usize, metadata: &[u8]) -> Vec<u8> {
 /// What the stricter reading answers.
 pub fn strict_cases() -> Vec<ImageCase> {
     let mut cases = Vec::new();
-    let mut case = |name, image, number, index| cases.push(image_case(name, image, number, index));
+    let mut case = |name, image, answer: Answer| cases.push(ImageCase::new(name, image, answer));
     let whole: &[u8] = br#"{"ImageName": "river-road", "ImageVersion": "1"}"#;
-    for index in 0..4 {
-        let at = index as u64;
-        case("metadata is JSON", with_metadata(index, whole), 0, 0);
+    // Where the data of the metadata stands: the sections before it hold 1, 5 and 5 bytes.
+    for (index, data) in [(0, 560), (1, 573), (2, 590), (3, 607)] {
+        let refused = (21, index as u64, data);
+        case("metadata is JSON", with_metadata(index, whole), ACCEPTED);
         for length in 0..whole.len() {
             let image = with_metadata(index, &whole[..length]);
-            case("metadata cut off", image, 21, at);
+            case("metadata cut off", image, refused);
         }
-        case(
-            "no JSON at all",
-            with_metadata(index, b"river-road"),
-            21,
-            at,
-        );
+        let image = with_metadata(index, b"river-road");
+        case("no JSON at all", image, refused);
     }
-    case("32 open", with_metadata(2, &nested(false, 32, 32)), 0, 0);
-    case("33 open", with_metadata(2, &nested(false, 33, 33)), 21, 2);
-    case("two texts", with_metadata(2, b"{}{}"), 21, 2);
-    case("a zero byte after it", with_metadata(2, b"{}\0"), 21, 2);
+    let refused = (21, 2, 590);
+    case(
+        "32 open",
+        with_metadata(2, &nested(false, 32, 32)),
+        ACCEPTED,
+    );
+    case("33 open", with_metadata(2, &nested(false, 33, 33)), refused);
+    case("two texts", with_metadata(2, b"{}{}"), refused);
+    case("a zero byte after it", with_metadata(2, b"{}\0"), refused);
     let other = Layout::new(
         3,
         vec![
@@ -46,19 +48,20 @@ pub fn strict_cases() -> Vec<ImageCase> {
             Section::new(4, b"x"),
         ],
     );
-    case("no metadata in version 3", other.image(), 0, 0);
+    case("no metadata in version 3", other.image(), ACCEPTED);
 
     // What is judged before.
     let mut image = with_metadata(2, b"{");
     image[CHECKSUM_AT] ^= 1;
-    case("metadata cut off, and 13", image, 13, 0);
+    case("metadata cut off, and 13", image, (13, 0, 544));
     let mut image = with_metadata(2, b"{");
     image.push(0);
     seal(&mut image);
-    case("metadata cut off, and 20", image, 20, 0);
+    let after = image.len() as u64 - 1;
+    case("metadata cut off, and 20", image, (20, 0, after));
     let mut image = with_metadata(2, b"{");
     image.truncate(image.len() - 1);
     seal(&mut image);
-    case("metadata cut off, and 7", image, 7, 3);
+    case("metadata cut off, and 7", image, (7, 3, 28 + 8 * 3));
     cases
 }

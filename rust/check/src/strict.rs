@@ -1,6 +1,6 @@
 //! JSON texts and strict readings held to the twin's.
 
-use crate::compare::{pair, same, twin_reading, Input};
+use crate::compare::{parts, same, twin_reading, Input};
 use crate::{Call, Tally};
 use eif::raw;
 use eif_twin as twin;
@@ -50,12 +50,12 @@ pub(crate) fn compare_strict(input: &Input, tally: &mut Tally) {
     let rust = rust.map(|image| (image.bytes(), image.sections().len()));
     let expected = match answer.number {
         0 => Ok((input.bytes, usize::from(answer.count))),
-        number => Err((number, answer.index)),
+        number => Err((number, answer.index, answer.position)),
     };
     same(
         input,
         "strict reading in Rust",
-        rust.map_err(pair),
+        rust.map_err(parts),
         expected,
     );
 }

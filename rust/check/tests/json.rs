@@ -4,7 +4,7 @@
 //! The environment variables EIF_SEED and EIF_TIMES are those of `differential.rs`.
 
 use eif::{json, raw};
-use eif_cases::{image_cases, strict_cases, text_cases, Layout, Section};
+use eif_cases::{image_cases, strict_cases, text_cases, Layout, Section, ACCEPTED};
 use eif_check::{
     any_text, compare_image, compare_text, in_threads, json_text, variable, Rng, Tally,
 };
@@ -244,13 +244,13 @@ fn strict_readings() {
     }
     for case in strict_cases() {
         let reading = raw::read_strict(&case.image);
-        let answer = (reading.number, reading.index);
-        assert_eq!(answer, (case.number, case.index), "{}", case.name);
-        let expected = match case.number {
+        let (number, index, position) = case.answer;
+        let expected = match number {
             0 => raw::read(&case.image),
             number => raw::Reading {
                 number,
-                index: case.index,
+                index,
+                position,
                 first_ramdisk: 32,
                 ..raw::Reading::default()
             },
@@ -285,12 +285,13 @@ fn library_and_twin_agree_on_metadata() {
             let (image, index) = image_with(&mut rng, &metadata);
             compare_image(&mut rng, ordinal, &image, &mut tally);
             let reading = raw::read_strict(&image);
-            let expected = if place.is_none() {
-                (0, 0)
-            } else {
-                (21, index as u64)
+            let answer = (reading.number, reading.index, reading.position);
+            let section = raw::read(&image).sections[index];
+            let expected = match place {
+                None => ACCEPTED,
+                Some(_) => (21, index as u64, section.position.0),
             };
-            assert_eq!((reading.number, reading.index), expected, "{metadata:02x?}");
+            assert_eq!(answer, expected, "{metadata:02x?}");
         }
     });
 }

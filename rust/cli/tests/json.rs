@@ -5,7 +5,7 @@ mod common;
 use common::json::{parse, Value};
 use common::{Ended, Folder};
 use eif::Reason;
-use eif_cases::{image_cases, strict_cases, text_cases};
+use eif_cases::{image_cases, strict_cases, text_cases, ACCEPTED};
 use std::process::Command;
 
 const PACK: &str =
@@ -95,7 +95,7 @@ fn half() -> Folder {
     folder
 }
 
-const REFUSED: &str = "half.eif: refused 21 at 2: metadata is not one JSON text\n";
+const REFUSED: &str = "half.eif: refused 21 at 2 byte 599: metadata is not one JSON text\n";
 
 #[test]
 fn the_ordinary_reading_is_unchanged() {
@@ -127,10 +127,11 @@ fn a_strict_check() {
 fn a_strict_show() {
     let folder = half();
     let advice = "  what to do: do not use it; tell the builder\n";
+    let data = "  byte 599: section 2's data\n";
     let place = "  in the metadata: byte 21: the text ends too early\n";
     folder
         .eif("show --strict half.eif")
-        .says(1, &format!("{REFUSED}{advice}{place}"));
+        .says(1, &format!("{REFUSED}{data}{advice}{place}"));
     let shown = folder.eif("show whole.eif");
     folder.eif("show --strict whole.eif").says(0, shown.text());
     let shown = folder.eif("show --json whole.eif");
@@ -150,10 +151,11 @@ fn a_strict_object() {
     let ended = folder.eif("show --strict --json half.eif");
     assert_eq!(ended.status, 1);
     let object = parse(ended.text().trim_end());
-    let keys = "file accepted number index meaning place";
+    let keys = "file accepted number index position meaning place";
     assert_eq!(object.keys().join(" "), keys);
     assert_eq!(*object.get("number"), Value::Number(21));
     assert_eq!(*object.get("index"), Value::Number(2));
+    assert_eq!(*object.get("position"), Value::Number(599));
     assert_eq!(*object.get("place"), Value::Number(21));
 }
 
@@ -162,15 +164,18 @@ fn strict_cases_are_told() {
     let folder = Folder::new();
     let cases = || strict_cases().into_iter().step_by(7);
     // What is refused at all is refused alike.
-    let others = image_cases().into_iter().filter(|case| case.number != 0);
+    let others = image_cases()
+        .into_iter()
+        .filter(|case| case.answer != ACCEPTED);
     for case in cases().chain(others) {
         folder.put("case", &case.image);
         let ended = folder.eif("check --strict case");
-        let (number, index) = (case.number, case.index);
+        let (number, index, position) = case.answer;
         match Reason::from_number(number) {
             None => ended.says(0, "case: accepted\n"),
             Some(reason) => {
-                ended.says(1, &format!("case: refused {number} at {index}: {reason}\n"));
+                let refusal = format!("refused {number} at {index} byte {position}");
+                ended.says(1, &format!("case: {refusal}: {reason}\n"));
             }
         }
     }
@@ -203,7 +208,7 @@ fn metadata_that_is_not_json_is_not_packed() {
 fn a_plan_is_judged_before_its_metadata() {
     let folder = half();
     let ended = folder.eif(&format!("{PACK} --force --format 3"));
-    let refusal = "refused 9 at 2: type not allowed in this version";
+    let refusal = "refused 9 at 2 byte 0: type not allowed in this version";
     ended.complains(1, &format!("half.eif: {refusal}\n"));
 }
 

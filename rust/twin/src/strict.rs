@@ -9,7 +9,7 @@ pub fn read_strict(image: &[u8]) -> Result<Reading, Refusal> {
     let reading = read(image)?;
     for (index, section) in reading.sections.iter().enumerate() {
         if section.kind == METADATA && check_json(section.data(image)).is_err() {
-            return refuse(21, index);
+            return refuse_at(21, index, section.position);
         }
     }
     Ok(reading)

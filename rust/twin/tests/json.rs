@@ -1,6 +1,6 @@
 //! JSON texts and the stricter reading through the twin.
 
-use eif_cases::{image_cases, strict_cases, text_cases};
+use eif_cases::{image_cases, strict_cases, text_cases, ACCEPTED};
 use eif_twin::{check_json, read, read_strict};
 
 #[test]
@@ -16,13 +16,13 @@ fn cases_of_every_rule() {
 fn strict_readings() {
     for case in strict_cases() {
         let answer = match read_strict(&case.image) {
-            Ok(_) => (0, 0),
-            Err(refusal) => (refusal.number, refusal.index),
+            Ok(_) => ACCEPTED,
+            Err(refusal) => (refusal.number, refusal.index, refusal.position),
         };
-        assert_eq!(answer, (case.number, case.index), "{}", case.name);
+        assert_eq!(answer, case.answer, "{}", case.name);
     }
     // What is refused at all is refused alike.
-    for case in image_cases().iter().filter(|case| case.number != 0) {
+    for case in image_cases().iter().filter(|case| case.answer != ACCEPTED) {
         let strict = read_strict(&case.image);
         assert_eq!(strict, read(&case.image), "{}", case.name);
     }

@@ -27,7 +27,7 @@ returns c =
     let n = c .before .before in
     let w = n .before .before .before in
     let a = w .before .before .args in
-    c .refuse .ensures
+    c .refuse-at .ensures
     ∙ metadata-stop (now (a .image)) (placeIn (a .t2)) (a .count) (w .loop .i) (n .before .before .loop-test .taken) (sym (c .before .if1 .taken) ∙ n .not-json .ensures)
     ∙ w .loop .inv .1
 
