@@ -12,10 +12,12 @@
 #![forbid(unsafe_code)]
 #![deny(missing_docs)]
 
+pub mod cbor;
 mod digests;
 mod images;
 mod layout;
 mod rolls;
+mod sign1;
 
 pub use digests::{digest_cases, hex, register_cases, DigestCase};
 pub use images::{
@@ -27,3 +29,4 @@ pub use layout::{
     COUNT_AT, HEADER, MAX_SECTIONS, OFFSETS_AT, SECTION_HEADER, SIZES_AT, VERSION_AT,
 };
 pub use rolls::{record, roll_cases, roll_of, RollCase, Row, RECORD_HEADER, WORKED_ROLL};
+pub use sign1::{sign1_cases, sign1_example, Sign1Case, Sign1Parts, SIGN1_ALGORITHMS};
