@@ -135,7 +135,7 @@ impl Encoder<'_> {
                 _ => 8,
             },
         };
-        self.out.push(major << 5 | 24 + width.ilog2() as u8);
+        self.out.push((major << 5) | (24 + width.ilog2() as u8));
         self.out
             .extend_from_slice(&number.to_be_bytes()[8 - width..]);
     }

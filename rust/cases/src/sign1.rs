@@ -4,13 +4,13 @@ use crate::cbor::{count_heads, encode, encode_with, numbers, Head, Item};
 
 /// The algorithms by their number in the COSE registry with its sign left off, and how long their
 /// signatures are: ES256, ES384, ES512.
-pub const SIGN1_ALGORITHMS: [(u8, usize); 3] = [(7, 64), (35, 96), (36, 132)];
+pub const SIGN1_ALGORITHMS: [(u64, usize); 3] = [(7, 64), (35, 96), (36, 132)];
 
 /// What a COSE_Sign1 claims.
 #[derive(Clone, Debug, PartialEq, Eq)]
 pub struct Sign1Parts {
     /// The algorithm's number with its sign left off.
-    pub algorithm: u8,
+    pub algorithm: u64,
     /// The register's index.
     pub index: u64,
     /// The register's value.
@@ -49,9 +49,9 @@ fn encoded(item: Item) -> Item {
 }
 
 /// A map from numbers to negative numbers, those with their sign left off.
-fn protected(pairs: &[(u64, u8)]) -> Item {
-    let pair = |&(key, value): &(u64, u8)| {
-        let value = Item::Negative(u64::from(value) - 1);
+fn protected(pairs: &[(u64, u64)]) -> Item {
+    let pair = |&(key, value): &(u64, u64)| {
+        let value = Item::Negative(value - 1);
         (Item::Unsigned(key), value)
     };
     Item::Map(pairs.iter().map(pair).collect())
@@ -73,7 +73,7 @@ pub struct Sign1Case {
 }
 
 /// A claim with a value of every width of number.
-pub fn sign1_example(algorithm: u8, length: usize) -> Sign1Parts {
+pub fn sign1_example(algorithm: u64, length: usize) -> Sign1Parts {
     Sign1Parts {
         algorithm,
         index: 0,
@@ -219,8 +219,8 @@ fn refused_items(good: &Sign1Parts) -> Vec<(&'static str, Item)> {
     refused
 }
 
-fn refused_headers(algorithm: u8) -> Vec<(&'static str, Item)> {
-    let header = |pairs: &[(u64, u8)]| encoded(protected(pairs));
+fn refused_headers(algorithm: u64) -> Vec<(&'static str, Item)> {
+    let header = |pairs: &[(u64, u64)]| encoded(protected(pairs));
     let to_number = |number| encoded(Item::Map(vec![(Item::Unsigned(1), number)]));
     vec![
         ("empty header", Item::Bytes(vec![])),

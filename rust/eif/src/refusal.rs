@@ -94,6 +94,8 @@ reasons! {
         "nothing is wrong with the file; mend the calling program";
     20 NotPacked: "section not packed, or bytes after the last section",
         "do not use it; fetch it again, and if the answer stays, tell the builder";
+    28 NotSign1: "not one COSE_Sign1 of the accepted form",
+        "do not rely on the signature; tell the builder";
     29 MessageTooLong: "message longer than 2,305,843,009,213,693,951 bytes",
         "nothing is wrong with the file; mend the calling program";
 }

@@ -21,7 +21,7 @@ const REGISTER: usize = 48;
 
 /// Length of the signatures of an algorithm: ES256, ES384 and ES512, which are -7, -35 and -36 in the
 /// COSE registry.
-fn signature_length(algorithm: u8) -> Option<usize> {
+fn signature_length(algorithm: u64) -> Option<usize> {
     match algorithm {
         7 => Some(64),
         35 => Some(96),
@@ -34,7 +34,7 @@ fn signature_length(algorithm: u8) -> Option<usize> {
 #[derive(Clone, Copy, Debug, PartialEq, Eq)]
 pub struct Claim {
     /// The algorithm's number with its sign left off.
-    pub algorithm: u8,
+    pub algorithm: u64,
     /// The register's index.
     pub index: u64,
     /// The register's value.
@@ -86,14 +86,14 @@ fn decode(bytes: &[u8]) -> Option<Sign1> {
 }
 
 /// A map of the one pair: the algorithm.
-fn decode_protected(bytes: &[u8]) -> Option<u8> {
+fn decode_protected(bytes: &[u8]) -> Option<u64> {
     let mut items = Decoder(bytes);
     items.expect(MAP, 1)?;
     items.expect(UNSIGNED, ALG)?;
     // The argument of a negative number n is -1 - n.
     let algorithm = items.head(NEGATIVE)?.checked_add(1)?;
     items.end()?;
-    u8::try_from(algorithm).ok()
+    Some(algorithm)
 }
 
 /// A map of two pairs: the register's index, and its value.
@@ -178,7 +178,7 @@ pub fn write_sign1(claim: &Claim, signature: &[u8], out: &mut [u8]) -> Result<us
 fn encode(claim: &Claim, signature: &[u8]) -> Vec<u8> {
     let mut protected = head(MAP, 1);
     protected.extend(head(UNSIGNED, ALG));
-    protected.extend(head(NEGATIVE, u64::from(claim.algorithm) - 1));
+    protected.extend(head(NEGATIVE, claim.algorithm - 1));
 
     let mut payload = head(MAP, 2);
     payload.extend(string(TEXT_STRING, INDEX_NAME));

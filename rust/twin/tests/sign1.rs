@@ -36,7 +36,7 @@ fn examples() {
 
 #[test]
 fn what_is_refused_is_not_written() {
-    for algorithm in 0..=255 {
+    for algorithm in (0..=300).chain([(1 << 32) + 35, u64::MAX]) {
         let known = SIGN1_ALGORITHMS.iter().find(|(a, _)| *a == algorithm);
         for length in 0..300 {
             let parts = sign1_example(algorithm, length);
