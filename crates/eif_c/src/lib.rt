@@ -1,10 +1,12 @@
 // The library's calls for programs in C and Rust: answers are flat structs with the answer number (0: accepted) and its index
 // instead of a verdict. A slice is a pointer and a length. include/eif.h declares these functions to C.
 //
-// The digest and the registers stand in measure.rt, the reader of an image that arrives in pieces in arrival.rt.
+// The digest and the registers stand in measure.rt, the reader of an image that arrives in pieces in arrival.rt, the COSE_Sign1 of a
+// signature section in signature.rt.
 mod arrival;
 mod measure;
 mod sections;
+mod signature;
 
 ghost use mathlib.Core.Path.{_≡_};
 ghost use mathlib.Core.List.{map};
