@@ -46,7 +46,7 @@ pub(crate) fn pair(refusal: Refusal) -> (u8, u64) {
     (refusal.number(), refusal.index())
 }
 
-fn twin_pair(refusal: twin::Refusal) -> (u8, u64) {
+pub(crate) fn twin_pair(refusal: twin::Refusal) -> (u8, u64) {
     (refusal.number, refusal.index)
 }
 
@@ -178,7 +178,7 @@ fn twin_state(state: raw::Sha384) -> twin::Sha384 {
 
 /// Runs a call with an output three times, by the C interface, the Rust interface and the twin.
 /// Answers the answer number.
-fn compare_output(
+pub(crate) fn compare_output(
     input: &Input,
     what: &str,
     (length, salt): (usize, u8),
@@ -200,7 +200,7 @@ fn compare_output(
 }
 
 /// The same by the C interface and the twin alone. Answers the answer and the output.
-fn compare_c_output(
+pub(crate) fn compare_c_output(
     input: &Input,
     what: &str,
     (length, salt): (usize, u8),
