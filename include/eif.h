@@ -329,6 +329,11 @@ enum eif_sign1_algorithm {
     EIF_ES512 = 36  /* 132 bytes */
 };
 
+/* A position in a COSE_Sign1, from its first byte. */
+typedef struct eif_sign1_position {
+    uint64_t value;
+} eif_sign1_position;
+
 /* What a COSE_Sign1 claims: that a register has a value. */
 typedef struct eif_sign1_claim {
     uint64_t algorithm;        /* of enum eif_sign1_algorithm */
@@ -342,8 +347,8 @@ typedef struct eif_sign1_reading {
     uint8_t reserved[7];
     uint64_t index;
     eif_sign1_claim claim;
-    uint64_t signature_position; /* of the signature, from the first byte that was read */
-    uint64_t signature_length;
+    eif_sign1_position signature_position; /* where the signature's own bytes begin */
+    eif_data_length signature_length;
 } eif_sign1_reading;
 
 /* Reads an image (FORMAT.md, Reading an image). Refusals: 1 to 13 and 20. */

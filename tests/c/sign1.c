@@ -105,7 +105,7 @@ static void try_longest(void) {
     check(is(eif_sign1_write(claim, signature, sizeof signature, out, sizeof out), EIF_ACCEPTED,
              EIF_MAX_SIGN1_LENGTH), "the longest");
     eif_sign1_reading reading = eif_sign1_read(out, sizeof out);
-    check(reading.number == EIF_ACCEPTED && reading.signature_position == 149, "the longest, read");
+    check(reading.number == EIF_ACCEPTED && reading.signature_position.value == 149, "the longest, read");
     check(memcmp(&reading.claim, &claim, sizeof claim) == 0, "the longest, its claim");
 }
 
@@ -114,8 +114,8 @@ static void try_read(const uint8_t *bytes) {
     eif_sign1_reading reading = eif_sign1_read(bytes, LENGTH);
     check(reading.number == EIF_ACCEPTED && reading.index == 0, "read");
     check(memcmp(&reading.claim, &claim, sizeof claim) == 0, "claim");
-    check(reading.signature_position == LENGTH - SIGNATURE_LENGTH, "signature's position");
-    check(reading.signature_length == SIGNATURE_LENGTH, "signature's length");
+    check(reading.signature_position.value == LENGTH - SIGNATURE_LENGTH, "signature's position");
+    check(reading.signature_length.value == SIGNATURE_LENGTH, "signature's length");
 }
 
 /* Beside a refusal all else is 0. */

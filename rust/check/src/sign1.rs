@@ -3,8 +3,8 @@
 use crate::compare::{compare_c_output, compare_output, pair, same, twin_pair, Input};
 use crate::{Call, Rng, Tally};
 use eif::raw::sign1::{self as raw, Sign1Claim, Sign1Reading};
-use eif::sign1::{Algorithm, Claim};
-use eif::Digest;
+use eif::sign1::{Algorithm, Claim, Sign1Position};
+use eif::{DataLength, Digest};
 use eif_cases::cbor::{count_heads, encode, encode_with, numbers, Head, Item};
 use eif_cases::{Sign1Parts, SIGN1_ALGORITHMS};
 use eif_twin as twin;
@@ -213,8 +213,8 @@ fn twin_reading(answer: Result<twin::Sign1, twin::Refusal>) -> Sign1Reading {
                 register_index: sign1.claim.index,
                 register_value: Digest(sign1.claim.value),
             },
-            signature_position: sign1.position as u64,
-            signature_length: sign1.length as u64,
+            signature_position: Sign1Position(sign1.position as u64),
+            signature_length: DataLength(sign1.length as u64),
             ..Sign1Reading::default()
         },
         Err((number, index)) => Sign1Reading {
@@ -264,7 +264,7 @@ pub fn compare_sign1(ordinal: u64, bytes: &[u8], tally: &mut Tally) {
         );
     }
     let [start, length] =
-        [reading.signature_position, reading.signature_length].map(|number| number as usize);
+        [reading.signature_position.0, reading.signature_length.0].map(|number| number as usize);
     let signature = &bytes[start..start + length];
     let view = view.map(|sign1| (Some(sign1.claim), sign1.signature));
     let expected = Ok((rust_claim(&reading.claim), signature));

@@ -2,8 +2,8 @@
 //! with it.
 
 use eif::raw::sign1::{self as raw, Sign1Claim, Sign1Reading};
-use eif::sign1::{self, Algorithm};
-use eif::{Digest, Reason};
+use eif::sign1::{self, Algorithm, Sign1Position};
+use eif::{DataLength, Digest, Reason};
 use eif_cases::{sign1_cases, sign1_example, Sign1Parts, SIGN1_ALGORITHMS};
 use eif_check::{compare_sign1, Output, Tally};
 use std::path::Path;
@@ -22,8 +22,8 @@ fn reading_of(parts: &Sign1Parts) -> Sign1Reading {
     let length = parts.signature.len();
     Sign1Reading {
         claim: claim_of(parts),
-        signature_position: (parts.bytes().len() - length) as u64,
-        signature_length: length as u64,
+        signature_position: Sign1Position((parts.bytes().len() - length) as u64),
+        signature_length: DataLength(length as u64),
         ..Sign1Reading::default()
     }
 }

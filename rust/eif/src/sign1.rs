@@ -35,6 +35,11 @@ use std::fmt;
 /// The length of the longest COSE_Sign1 of this form. A buffer of this length takes any.
 pub const MAX_LENGTH: usize = 281;
 
+/// A position in a COSE_Sign1, from its first byte.
+#[repr(transparent)]
+#[derive(Clone, Copy, Debug, Default, PartialEq, Eq, PartialOrd, Ord, Hash)]
+pub struct Sign1Position(pub u64);
+
 /// The algorithms that may sign: ECDSA with SHA-2.
 ///
 /// ```
@@ -136,14 +141,14 @@ pub struct Sign1<'a> {
 pub fn read(bytes: &[u8]) -> Result<Sign1<'_>, Refusal> {
     let reading = raw::sign1_read(bytes);
     Refusal::check(reading.number, reading.index)?;
-    let start = reading.signature_position as usize;
+    let start = reading.signature_position.0 as usize;
     Ok(Sign1 {
         claim: Claim {
             algorithm: Algorithm::from_raw(reading.claim.algorithm),
             register_index: reading.claim.register_index,
             register_value: reading.claim.register_value,
         },
-        signature: &bytes[start..][..reading.signature_length as usize],
+        signature: &bytes[start..][..reading.signature_length.0 as usize],
     })
 }
 

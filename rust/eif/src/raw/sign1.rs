@@ -1,7 +1,8 @@
 //! The C interface to COSE_Sign1.
 
 use super::Answer;
-use crate::{Digest, DIGEST_LENGTH};
+use crate::sign1::Sign1Position;
+use crate::{DataLength, Digest, DIGEST_LENGTH};
 use std::mem::{align_of, offset_of, size_of};
 
 /// What a COSE_Sign1 claims.
@@ -29,9 +30,9 @@ pub struct Sign1Reading {
     /// What the bytes claim, all zero beside a refusal.
     pub claim: Sign1Claim,
     /// Where the signature begins in the bytes, 0 beside a refusal.
-    pub signature_position: u64,
+    pub signature_position: Sign1Position,
     /// How long the signature is, 0 beside a refusal.
-    pub signature_length: u64,
+    pub signature_length: DataLength,
 }
 
 // The layout that eif.h gives to a C compiler, with no padding.
