@@ -20,7 +20,7 @@ usage: eif signature [--json] FILE..
 
 Shows what the signature section of each image claims. NO SIGNATURE IS VERIFIED:
 whoever can change an image can also write such a claim. For each signature:
-    signature 0: ES384, certificate of 790 bytes
+    signature 0: ES384, certificate of 664 bytes
       claimed   PCR0 HEX
       computed  PCR0 HEX
       equal, not verified
