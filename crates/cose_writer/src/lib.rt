@@ -255,7 +255,11 @@ pub fn write(claim: Claim, signature: &[u8], out: &mut [u8]) -> Written
     if signature.len() != size {
         return refused(Refusal::NOT_SIGN1);
     }
-    let total = opening_size(claim.algorithm) + 2 + payload_size(claim.register_index, value) + 2 + size;
+    let total = opening_size(claim.algorithm)
+        + 2
+        + payload_size(claim.register_index, value)
+        + 2
+        + size;
     if out.len() < total {
         return refused(Refusal::OUTPUT_TOO_SHORT);
     }

@@ -50,12 +50,12 @@ returns-2 c =
 returns-3 : tie.Need-returns-3
 unfolding acceptedSign1
 returns-3 c =
-    let w = c .before .before .before in
+    let w = c .before .before in
     let m = w .before in
     let p = m .before .before .parts-of .result in
     ap (λ (q : Claim). acceptedSign1 q (p .start) (m .signature-size .result)) (claim m)
     ∙ ap₂ (acceptedSign1 (claimOf (s m))) (start m) (size m)
-    ∙ read-same (s m) (sized w) (sym (c .before .before .is-written .ensures) ∙ not-false _ (c .before .if2 .left))
+    ∙ read-same (s m) (sized w) (sym (c .before .is-written .ensures) ∙ not-false _ (c .if2 .left))
 
 pub read-spec : {M : Type 1} → statement M
 read-spec =
