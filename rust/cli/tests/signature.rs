@@ -190,7 +190,7 @@ fn faults() -> Vec<(Vec<u8>, usize, &'static str)> {
         (with(0, 0x9f), 0, array),
         (with(0, 0x9b), 9, pairs),
         (with(0, 0x82), count, pairs),
-        (good[..count - 1].to_vec(), count - 1, number),
+        (good[..count - 1].to_vec(), count - 2, number),
         ([&good[..], &[0]].concat(), count, "the section's end"),
         (nested, 1, pairs),
         (with(1, 0xa1), 1, pairs),
@@ -198,9 +198,9 @@ fn faults() -> Vec<(Vec<u8>, usize, &'static str)> {
         (with(2, 0x72), 2, text),
         (with(3, b'S'), 2, text),
         (with(22, 0xf6), 22, content),
-        (with(22, 0x84), 26, number),
+        (with(22, 0x84), 29, number),
         (with(23, 0xff), 23, number),
-        (with(26, 0x49), 26, "the name signature"),
+        (with(29, 0x49), 29, "the name signature"),
         (vec![b'{'; 40], 0, array),
     ]
 }
