@@ -1,8 +1,7 @@
 -- Heads of RFC 8949, Appendix A, and on both sides of each width; the protected headers; the lengths of signatures; and the bytes of
 -- one claim, line by line as the EIF specification lays them out. All by computation. Assumes nothing.
-use Prim.Native.Nat.{ℕ}
 use mathlib.Core.Path.{_≡_, refl}
-use mathlib.Core.List.{List, [], _∷_, _++_, map}
+use mathlib.Core.List.{[], _∷_, _++_, map}
 use lib.ListN.{length, replicate}
 use Rattle.cose.specs.Cbor.{unsigned, negative, headBytes, stringBytes, numbersBytes}
 use Rattle.cose.specs.Sign1.{longest, es256, es384, es512, signatureSize, protectedBytes, indexPair, valuePair, payloadBytes, sign1Bytes}

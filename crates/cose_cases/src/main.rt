@@ -100,12 +100,6 @@ fn listed(s: &[u8]) {
     text(b"\n");
 }
 
-fn read(label: &[u8], s: &[u8]) {
-    text(label);
-    text(b": ");
-    listed(s);
-}
-
 // ---- writing
 
 // What is to be written, and into how many bytes.
@@ -183,6 +177,7 @@ fn refused_writes() {
     write(7, 0, 0, 65, ROOM);
     write(35, 0, 0, 64, ROOM);
     write(36, 0, 0, 96, ROOM);
+    write(36, 0, 0, 131, ROOM);
     write(36, 0, 0, 133, ROOM);
     // too short: by one, and with both faults
     write(36, 18446744073709551615, 2, 132, LONGEST);
@@ -193,8 +188,18 @@ fn refused_writes() {
 
 // ---- damaged byte strings
 
+fn changed(at: usize, cut: usize, with: &[u8]) {
+    text(b"at ");
+    number(at as u64);
+    text(b" cut ");
+    number(cut as u64);
+    text(b" put ");
+    hex(with);
+    text(b": ");
+}
+
 // The bytes of `s` with `cut` bytes at a position taken out and others put there instead.
-fn spliced(label: &[u8], s: &[u8], at: usize, cut: usize, with: &[u8]) {
+fn spliced(s: &[u8], at: usize, cut: usize, with: &[u8]) {
     if s.len() < at {
         return;
     }
@@ -217,160 +222,200 @@ fn spliced(label: &[u8], s: &[u8], at: usize, cut: usize, with: &[u8]) {
         return;
     }
     let end = at + with.len() + left;
-    read(label, &made[..end]);
+    changed(at, cut, with);
+    listed(&made[..end]);
 }
 
-// An accepted one with index 5, value 0 to 47 and a signature of 64 bytes: the payload's head at 6, its map at 8, names at 9 and 25,
-// the index at 24, the array at 40, its numbers at 42, the signature's head at 114.
-fn damaged_head(s: &[u8]) {
-    spliced(b"as it is", s, 0, 0, b"");
-    spliced(b"array head of two bytes", s, 0, 1, b"\x98\x04");
-    spliced(b"array head of three bytes", s, 0, 1, b"\x99\x00\x04");
-    spliced(b"array of indefinite length", s, 0, 1, b"\x9f");
-    spliced(b"array of three", s, 0, 1, b"\x83");
-    spliced(b"array of five", s, 0, 1, b"\x85");
-    spliced(b"tag 18", s, 0, 0, b"\xd2");
+// The same, with another length in the payload's head.
+fn resized(s: &[u8], size: u8, at: usize, cut: usize, with: &[u8]) {
+    let mut made = [0u8; 180];
+    octets::copy(&mut made, 0, s);
+    made[7] = size;
+    text(b"payload ");
+    number(size as u64);
+    text(b" ");
+    spliced(&made, at, cut, with);
 }
 
-fn damaged_header(s: &[u8]) {
-    spliced(b"protected header of two-byte head", s, 1, 1, b"\x58\x03");
-    spliced(b"protected header empty", s, 1, 4, b"\x40");
-    spliced(b"protected header as a map", s, 1, 4, b"\xa1\x01\x26");
-    spliced(
-        b"protected map of indefinite length",
-        s,
-        1,
-        4,
-        b"\x45\xbf\x01\x26\xff",
-    );
-    spliced(b"protected parameter 2", s, 3, 1, b"\x02");
-    spliced(b"algorithm -8", s, 4, 1, b"\x27");
-    spliced(b"algorithm in two bytes", s, 1, 4, b"\x44\xa1\x01\x38\x06");
+// What is damaged is accepted as it is: register 5, value 0 to 47, a signature of 64 bytes. The payload's head stands at 6, its map at 8,
+// names at 9 and 25, the index at 24, the array at 40, its numbers at 42, the signature's head at 114.
+fn array_heads(s: &[u8]) {
+    // as it is
+    spliced(s, 0, 0, b"");
+    // array head of two bytes
+    spliced(s, 0, 1, b"\x98\x04");
+    // array head of three bytes
+    spliced(s, 0, 1, b"\x99\x00\x04");
 }
 
-fn damaged_algorithm(s: &[u8]) {
-    spliced(
-        b"algorithm -35 with 64 bytes",
-        s,
-        1,
-        4,
-        b"\x44\xa1\x01\x38\x22",
-    );
-    spliced(
-        b"algorithm -36 with 64 bytes",
-        s,
-        1,
-        4,
-        b"\x44\xa1\x01\x38\x23",
-    );
-    spliced(b"algorithm -37", s, 1, 4, b"\x44\xa1\x01\x38\x24");
-    spliced(b"a pair in the second map", s, 5, 1, b"\xa1\x04\x40");
-    spliced(b"second map of two-byte head", s, 5, 1, b"\xb8\x00");
+fn array_lengths(s: &[u8]) {
+    // array of indefinite length
+    spliced(s, 0, 1, b"\x9f");
+    // array of three
+    spliced(s, 0, 1, b"\x83");
+    // array of five
+    spliced(s, 0, 1, b"\x85");
+    // tag 18
+    spliced(s, 0, 0, b"\xd2");
 }
 
-fn damaged_payload(s: &[u8]) {
-    spliced(b"nil payload", s, 6, 108, b"\xf6");
-    spliced(b"empty payload", s, 6, 108, b"\x40");
-    spliced(b"payload head of three bytes", s, 6, 1, b"\x59\x00");
-    spliced(b"payload longer by one", s, 7, 1, b"\x6b");
-    spliced(b"payload shorter by one", s, 7, 1, b"\x69");
-    spliced(b"payload of one pair", s, 8, 1, b"\xa1");
-    spliced(b"payload as text", s, 6, 1, b"\x78");
-    spliced(b"first name changed", s, 10, 1, b"R");
-    spliced(b"first name in bytes", s, 9, 1, b"\x4e");
+fn protected_heads(s: &[u8]) {
+    // protected header of two-byte head
+    spliced(s, 1, 1, b"\x58\x03");
+    // protected header empty
+    spliced(s, 1, 4, b"\x40");
+    // protected header as a map
+    spliced(s, 1, 4, b"\xa1\x01\x26");
+    // protected map of indefinite length
+    spliced(s, 1, 4, b"\x45\xbf\x01\x26\xff");
 }
 
-fn damaged_index(s: &[u8]) {
-    spliced(
-        b"index in two bytes",
-        s,
-        7,
-        18,
-        b"\x6b\xa2\x6eregister_index\x18\x05",
-    );
-    spliced(
-        b"index in three bytes",
-        s,
-        7,
-        18,
-        b"\x6c\xa2\x6eregister_index\x19\x00\x05",
-    );
-    spliced(
-        b"index 24 in two bytes",
-        s,
-        7,
-        18,
-        b"\x6b\xa2\x6eregister_index\x18\x18",
-    );
-    spliced(
-        b"index 255 in three bytes",
-        s,
-        7,
-        18,
-        b"\x6c\xa2\x6eregister_index\x19\x00\xff",
-    );
-    spliced(
-        b"index 256 in three bytes",
-        s,
-        7,
-        18,
-        b"\x6c\xa2\x6eregister_index\x19\x01\x00",
-    );
-    spliced(b"index -6", s, 24, 1, b"\x25");
-    spliced(
-        b"index as a big number",
-        s,
-        7,
-        18,
-        b"\x6c\xa2\x6eregister_index\xc2\x41\x05",
-    );
-    spliced(b"index head 28", s, 24, 1, b"\x1c");
-    spliced(b"index head 31", s, 24, 1, b"\x1f");
+fn protected_pairs(s: &[u8]) {
+    // protected parameter 2
+    spliced(s, 3, 1, b"\x02");
+    // algorithm -8
+    spliced(s, 4, 1, b"\x27");
+    // algorithm in two bytes
+    spliced(s, 1, 4, b"\x44\xa1\x01\x38\x06");
 }
 
-fn damaged_value(s: &[u8]) {
-    spliced(b"value of 47 numbers", s, 41, 1, b"\x2f");
-    spliced(b"value of 49 numbers", s, 41, 1, b"\x31");
-    spliced(b"value as bytes", s, 40, 1, b"\x58");
-    spliced(b"a number 0 in two bytes", s, 42, 1, b"\x18\x00");
-    spliced(
-        b"a number 0 in two bytes and length",
-        s,
-        7,
-        36,
-        b"\x6b\xa2\x6eregister_index\x05\x6eregister_value\x98\x30\x18\x00",
-    );
-    spliced(
-        b"a number 256",
-        s,
-        7,
-        36,
-        b"\x6c\xa2\x6eregister_index\x05\x6eregister_value\x98\x30\x19\x01\x00",
-    );
-    spliced(b"a number 23 in two bytes", s, 65, 1, b"\x18\x17");
-    spliced(b"a number -1", s, 42, 1, b"\x20");
+fn algorithms(s: &[u8]) {
+    // algorithm -35 with 64 bytes
+    spliced(s, 1, 4, b"\x44\xa1\x01\x38\x22");
+    // algorithm -36 with 64 bytes
+    spliced(s, 1, 4, b"\x44\xa1\x01\x38\x23");
+    // algorithm -37
+    spliced(s, 1, 4, b"\x44\xa1\x01\x38\x24");
 }
 
-fn damaged_end(s: &[u8]) {
-    spliced(b"signature head of three bytes", s, 114, 1, b"\x59\x00");
-    spliced(b"signature of 63 bytes", s, 115, 2, b"\x3f");
-    spliced(b"signature of 65 bytes", s, 115, 1, b"\x41\x00");
-    spliced(b"signature nil", s, 114, 66, b"\xf6");
-    spliced(b"a byte after", s, 180, 0, b"\x00");
-    spliced(b"the last byte cut", s, 179, 1, b"");
-    spliced(b"the first byte cut", s, 0, 1, b"");
-    spliced(b"the first half", s, 90, 90, b"");
-    spliced(b"nothing", s, 0, 180, b"");
+fn unprotected(s: &[u8]) {
+    // a pair in the second map
+    spliced(s, 5, 1, b"\xa1\x04\x40");
+    // second map of two-byte head
+    spliced(s, 5, 1, b"\xb8\x00");
+}
+
+fn payload_heads(s: &[u8]) {
+    // nil payload
+    spliced(s, 6, 108, b"\xf6");
+    // empty payload
+    spliced(s, 6, 108, b"\x40");
+    // payload head of three bytes
+    spliced(s, 6, 1, b"\x59\x00");
+}
+
+fn payload_lengths(s: &[u8]) {
+    // payload longer by one
+    resized(s, 0x6b, 0, 0, b"");
+    // payload shorter by one
+    resized(s, 0x69, 0, 0, b"");
+    // payload of one pair
+    spliced(s, 8, 1, b"\xa1");
+    // payload as text
+    spliced(s, 6, 1, b"\x78");
+}
+
+fn first_names(s: &[u8]) {
+    // first name changed
+    spliced(s, 10, 1, b"R");
+    // first name in bytes
+    spliced(s, 9, 1, b"\x4e");
+}
+
+fn index_heads(s: &[u8]) {
+    // index in two bytes
+    resized(s, 0x6b, 24, 1, b"\x18\x05");
+    // index in three bytes
+    resized(s, 0x6c, 24, 1, b"\x19\x00\x05");
+    // index 24 in two bytes
+    resized(s, 0x6b, 24, 1, b"\x18\x18");
+}
+
+fn wider_indexes(s: &[u8]) {
+    // index 255 in three bytes
+    resized(s, 0x6c, 24, 1, b"\x19\x00\xff");
+    // index 256 in three bytes
+    resized(s, 0x6c, 24, 1, b"\x19\x01\x00");
+}
+
+fn index_types(s: &[u8]) {
+    // index -6
+    spliced(s, 24, 1, b"\x25");
+    // index as a big number
+    resized(s, 0x6c, 24, 1, b"\xc2\x41\x05");
+    // index head 28
+    spliced(s, 24, 1, b"\x1c");
+    // index head 31
+    spliced(s, 24, 1, b"\x1f");
+}
+
+fn value_lengths(s: &[u8]) {
+    // value of 47 numbers
+    spliced(s, 41, 1, b"\x2f");
+    // value of 49 numbers
+    spliced(s, 41, 1, b"\x31");
+    // value as bytes
+    spliced(s, 40, 1, b"\x58");
+}
+
+fn value_heads(s: &[u8]) {
+    // a number 0 in two bytes
+    spliced(s, 42, 1, b"\x18\x00");
+    // a number 0 in two bytes and length
+    resized(s, 0x6b, 42, 1, b"\x18\x00");
+    // a number 256
+    resized(s, 0x6c, 42, 1, b"\x19\x01\x00");
+}
+
+fn value_numbers(s: &[u8]) {
+    // a number 23 in two bytes
+    resized(s, 0x6b, 65, 1, b"\x18\x17");
+    // a number -1
+    spliced(s, 42, 1, b"\x20");
+}
+
+fn signatures(s: &[u8]) {
+    // signature head of three bytes
+    spliced(s, 114, 1, b"\x59\x00");
+    // signature of 63 bytes
+    spliced(s, 115, 2, b"\x3f");
+    // signature of 65 bytes
+    spliced(s, 115, 1, b"\x41\x00");
+    // signature nil
+    spliced(s, 114, 66, b"\xf6");
+}
+
+fn cut_or_longer(s: &[u8]) {
+    // a byte after
+    spliced(s, 180, 0, b"\x00");
+    // the last byte cut
+    spliced(s, 179, 1, b"");
+    // the first byte cut
+    spliced(s, 0, 1, b"");
+    // the first half
+    spliced(s, 90, 90, b"");
+    // nothing
+    spliced(s, 0, 180, b"");
 }
 
 fn damaged(s: &[u8]) {
-    damaged_head(s);
-    damaged_header(s);
-    damaged_algorithm(s);
-    damaged_payload(s);
-    damaged_index(s);
-    damaged_value(s);
-    damaged_end(s);
+    array_heads(s);
+    array_lengths(s);
+    protected_heads(s);
+    protected_pairs(s);
+    algorithms(s);
+    unprotected(s);
+    payload_heads(s);
+    payload_lengths(s);
+    first_names(s);
+    index_heads(s);
+    wider_indexes(s);
+    index_types(s);
+    value_lengths(s);
+    value_heads(s);
+    value_numbers(s);
+    signatures(s);
+    cut_or_longer(s);
 }
 
 // The two pairs of the payload in the other order.
@@ -380,7 +425,8 @@ fn exchanged(s: &[u8]) {
     if s.len() == 180 {
         octets::copy(&mut made, 9, &s[25..114]);
         octets::copy(&mut made, 98, &s[9..25]);
-        read(b"pairs exchanged", &made);
+        text(b"pairs exchanged: ");
+        listed(&made);
     }
 }
 

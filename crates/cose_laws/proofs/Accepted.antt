@@ -17,12 +17,11 @@ use Rattle.eif.specs.Numbers.{notSign1, outputTooShort}
 use Rattle.eif.specs.Logic.{choose}
 use Rattle.eif.specs.Answers.{refuse}
 use Rattle.eif.specs.Plan.{writtenFor}
-use Rattle.eif.specs.declared.Verdict.{Verdict}
 use Rattle.eif.specs.declared.Verdict.the-variants.{Accepted}
 use Rattle.eif.specs.declared.Written.{Written}
 use Rattle.eif_rules.proofs.Logic.{both-true}
 use Rattle.eif_rules.proofs.Verdicts.{never}
-use Rattle.cose.specs.Sign1.{registerSize, signatureSize, signatureFits, Typed, Writable, IsSign1, sign1Bytes}
+use Rattle.cose.specs.Sign1.{registerSize, signatureSize, signatureFits, Writable, IsSign1, sign1Bytes}
 use Rattle.cose.specs.Write.{sign1Verdict, sign1Answer, sign1Output, IsWritten}
 use Rattle.cose.specs.Read.{numberAt, byteAt, byteEnd, bytesFrom, algorithmOf, indexStart, valueStart, signatureStart, claimOf, signatureOf, sameBytes, accepted, acceptedSign1, refusedSign1, readSign1}
 use Rattle.cose.specs.declared.Claim.{Claim}

@@ -1,21 +1,18 @@
 -- What is written reads back: each part of the claim stands where the reader takes it, also where more bytes follow.
 -- Assumes nothing.
-use Prim.Native.Nat.{ℕ, suc, _+_, _-_, _^_, _<_, _≤_}
+use Prim.Native.Nat.{ℕ, _+_, _^_, _<_, _≤_}
 use mathlib.Core.Path.{_≡_, refl, sym, ap, ap₂, _∙_}
-use mathlib.Core.List.{List, [], _∷_, _++_, append-assoc, append-nil}
+use mathlib.Core.List.{List, [], _∷_, _++_, append-assoc}
 use mathlib.Core.Logic.{⊎-elim}
 use native.Mathlib.Omega.{arith}
-use lib.ListN.{length, getD, drop, length-append}
-use lib.Seq.{getD-at, getD-append-add, drop-at}
+use lib.ListN.{length, getD, length-append}
+use lib.Seq.{getD-at, getD-append-add}
 use Rattle.octets.specs.Bytes.{AreBytes, beBytes, field}
 use Rattle.octets.proofs.Value.{field-at, field-past}
 use Rattle.octets.proofs.Over.{le-or-lt}
-use Rattle.cose.specs.Cbor.{unsigned, byteString, headBytes, stringBytes, numbersBytes}
-use Rattle.cose.specs.Sign1.{registerSize, es256, es384, es512, signatureSize, signatureFits, Writable, payloadBytes, sign1Bytes}
-use Rattle.cose.specs.Read.{numberAt, numberEnd, byteAt, byteEnd, bytesFrom, bytesEnd, algorithmOf, indexStart, valueStart, signatureStart, claimOf, signatureOf}
-use Rattle.cose.specs.declared.Claim.{Claim}
-use Rattle.cose_rules.proofs.Head.{own-one, own-two, head-two, head-three, head-five, head-nine, size-one, size-two, size-three, size-five, size-nine}
-use Rattle.cose_rules.proofs.Parts.{which, opening, opening-first, opening-second, opening-last, beforeIndex, beforeValue, payload-parts, sign-parts}
+use Rattle.cose.specs.Cbor.{unsigned, headBytes, numbersBytes}
+use Rattle.cose.specs.Read.{numberAt, numberEnd, byteAt, byteEnd, bytesFrom, bytesEnd}
+use Rattle.cose_rules.proofs.Head.{own-one, own-two, head-three, head-five, head-nine, size-one, size-two, size-three, size-five, size-nine}
 use Rattle.cose_rules.proofs.Numbers.{at-one, at-two, at-three, at-five, at-nine, end-one, end-two, end-three, end-five, end-nine, byte-one, byte-two, byte-end-one, byte-end-two}
 
 -- ---- one number

@@ -1,20 +1,17 @@
 -- The bytes of a claim with more bytes after them: the reader takes that claim, and where its signature starts.
 -- Assumes nothing.
-use Prim.Native.Nat.{ℕ, _+_, _-_, _<_, _≤_}
-use mathlib.Core.Bool.{Bool, true, false}
+use Prim.Native.Nat.{ℕ, _+_, _<_, _≤_}
 use mathlib.Core.Path.{_≡_, refl, sym, ap, ap₂, _∙_}
-use mathlib.Core.List.{List, [], _∷_, _++_, append-assoc, append-nil}
+use mathlib.Core.List.{List, _++_, append-assoc}
 use mathlib.Core.Logic.{⊎-elim}
 use native.Mathlib.Omega.{arith}
 use borrow.Author.Tests.{ltb-true, eqb-true}
 use lib.Dec.{ltb, eqb}
-use lib.ListN.{length, getD, drop, length-append}
+use lib.ListN.{length, drop, length-append}
 use lib.Seq.{drop-at}
-use Rattle.octets.specs.Bytes.{AreBytes}
-use Rattle.eif.specs.Logic.{both}
 use Rattle.eif_rules.proofs.Logic.{both-true}
 use Rattle.cose.specs.Cbor.{unsigned, byteString, headBytes, stringBytes, numbersBytes}
-use Rattle.cose.specs.Sign1.{registerSize, longest, es256, es384, es512, signatureSize, signatureFits, Writable, payloadBytes, sign1Bytes}
+use Rattle.cose.specs.Sign1.{registerSize, longest, signatureSize, signatureFits, Writable, payloadBytes, sign1Bytes}
 use Rattle.cose.specs.Read.{numberAt, numberEnd, bytesFrom, bytesEnd, algorithmOf, indexStart, valueStart, signatureStart, claimOf, signatureOf}
 use Rattle.cose.specs.declared.Claim.{Claim}
 use Rattle.cose_rules.proofs.Head.{head-two, numbers-bounds, size-one, size-two, size-three, size-five, size-nine}

@@ -6,11 +6,10 @@ use mathlib.Core.List.{List, [], _∷_, _++_, append-assoc}
 use mathlib.Core.Logic.{_⊎_, inl, inr, ⊎-elim}
 use native.Mathlib.Omega.{arith}
 use native.Mathlib.Decide.{ℕ-discrete}
-use borrow.Author.Tests.{eq-eqb, ne-eqb}
+use borrow.Author.Tests.{ne-eqb}
 use lib.ListN.{length, length-append}
-use Rattle.cose.specs.Cbor.{unsigned, byteString, textString, array, pairs, headBytes, stringBytes, numbersBytes}
-use Rattle.eif.specs.Logic.{choose}
-use Rattle.cose.specs.Sign1.{registerSize, es256, es384, es512, signatureSize, indexName, valueName, protectedBytes, indexPair, valuePair, payloadBytes, sign1Bytes}
+use Rattle.cose.specs.Cbor.{unsigned, byteString, array, pairs, headBytes, stringBytes, numbersBytes}
+use Rattle.cose.specs.Sign1.{es256, es384, es512, signatureSize, indexName, valueName, protectedBytes, indexPair, valuePair, payloadBytes, sign1Bytes}
 use Rattle.cose.specs.declared.Claim.{Claim}
 use Rattle.cose_rules.proofs.Head.{head-two}
 

@@ -1,9 +1,9 @@
 -- Two byte strings are the same exactly when the test says so; and what was written into a buffer, compared with a byte string.
 -- Assumes nothing.
-use Prim.Native.Nat.{ℕ, _+_, _-_, _<_, _≤_}
+use Prim.Native.Nat.{ℕ, _+_, _-_, _≤_}
 use mathlib.Core.Bool.{Bool, true, false}
 use mathlib.Core.Path.{_≡_, refl, sym, ap, ap₂, _∙_}
-use mathlib.Core.List.{List, [], _∷_, _++_}
+use mathlib.Core.List.{List, [], _∷_}
 use mathlib.Core.Logic.{⊎-elim}
 use native.Mathlib.Omega.{arith}
 use borrow.Author.Tests.{eqb-true, eq-eqb, ne-eqb}
@@ -11,9 +11,8 @@ use lib.Dec.{eqb}
 use lib.ListN.{length, getD, take, drop, length-drop}
 use lib.Seq.{take-at, take-all}
 use Rattle.octets.proofs.Over.{le-or-lt, over-start}
-use Rattle.eif.specs.Logic.{choose, both}
+use Rattle.eif.specs.Logic.{choose}
 use Rattle.eif_rules.proofs.Logic.{both-true}
-use Rattle.eif.specs.Plan.{writtenFor}
 use Rattle.eif.specs.declared.Written.{Written}
 use Rattle.cose.specs.Sign1.{registerSize, es256, es384, es512, signatureSize, signatureFits, sign1Bytes}
 use Rattle.cose.specs.Write.{sign1Answer, sign1Output}

@@ -140,13 +140,13 @@ fn put_small(out: &mut [u8], at: usize, n: u8) -> usize
     ensures { λ r. ⌜ r ≤ at + 2 ⌝ }
     ensures { λ _. ⌜ now (out .exit) ≡ over (now (out .entry)) at (headBytes unsigned n) ⌝ }
 {
-    if n < 24 {
-        put_byte(out, at, n);
-        return at + 1;
+    if 24 <= n {
+        put_byte(out, at, 24);
+        put_byte(out, at + 1, n);
+        return at + 2;
     }
-    put_byte(out, at, 24);
-    put_byte(out, at + 1, n);
-    at + 2
+    put_byte(out, at, n);
+    at + 1
 }
 
 // The head of a byte string whose length takes one byte after the first.

@@ -1,11 +1,11 @@
 -- `cose_reader::is_written` meets its contract: the answer of the writer tells whether the lengths agree, and then the buffer starts with the written bytes. Assumes nothing.
 use Prim.Native.Nat.{ℕ, _+_, _-_}
-use mathlib.Core.Path.{_≡_, refl, sym, ap, ap₂, _∙_}
+use mathlib.Core.Path.{_≡_, sym, ap, ap₂, _∙_}
 use mathlib.Core.List.{List}
 use native.Mathlib.Omega.{arith}
 use borrow.Author.Needs.{needs}
 use denote.Ref.{now}
-use lib.ListN.{length, take, drop, replicate, length-take}
+use lib.ListN.{length, take, drop, replicate}
 use Rattle.eif.specs.declared.Written.{Written}
 use Rattle.cose.specs.Sign1.{longest, signatureSize, sign1Bytes}
 use Rattle.cose.specs.Write.{sign1Answer, sign1Output}

@@ -1,5 +1,4 @@
 -- `cose_reader::parts_of` meets its contract: each part starts where the one before it ends. Assumes nothing.
-use mathlib.Core.Path.{_≡_, refl, sym, ap, ap₂, _∙_}
 use native.Mathlib.Omega.{arith}
 use borrow.Author.Needs.{needs}
 use denote.Ref.{now}

@@ -1,8 +1,7 @@
 -- `cose_writer::opening_size` meets its contract: with the first algorithm it is one byte shorter than with the others. Assumes nothing.
-use mathlib.Core.Path.{_≡_, refl, sym, ap, ap₂, _∙_}
+use mathlib.Core.Path.{sym, ap}
 use native.Mathlib.Omega.{arith}
 use lib.ListN.{length}
-use Rattle.cose.specs.Sign1.{es256}
 use Rattle.cose_rules.proofs.Parts.{opening-first, opening-long}
 use Rattle.cose_writer.proofs.opening_size.Statement.{statement}
 use Rattle.cose_writer.proofs.opening_size.Tie as tie

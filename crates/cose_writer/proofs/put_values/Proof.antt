@@ -1,15 +1,14 @@
 -- `cose_writer::put_values` meets its contract: what is left of the numbers, written from the position reached, makes the whole. Assumes nothing.
 use Prim.Native.Nat.{ℕ, suc, _+_, _-_, _*_, _≤_}
 use mathlib.Core.Path.{_≡_, refl, sym, ap, ap₂, _∙_}
-use mathlib.Core.List.{List, [], _∷_, _++_}
+use mathlib.Core.List.{List}
 use native.Mathlib.Omega.{arith}
 use borrow.Author.Needs.{needs}
 use native.Mathlib.Numerals.{add-one}
-use denote.Ref.{now}
 use lib.ListN.{length, drop, getD}
 use Rattle.octets.specs.Over.{over}
 use Rattle.octets.proofs.Over.{length-over}
-use Rattle.cose.specs.Cbor.{unsigned, byteString, headBytes, numbersBytes}
+use Rattle.cose.specs.Cbor.{unsigned, headBytes, numbersBytes}
 use Rattle.cose.specs.Sign1.{registerSize}
 use Rattle.cose_rules.proofs.Head.{numbers-size, size-end, numbers-over, numbers-done}
 use Rattle.cose_writer.proofs.put_values.Statement.{statement}

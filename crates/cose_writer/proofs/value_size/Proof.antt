@@ -1,11 +1,11 @@
 -- `cose_writer::value_size` meets its contract: the total and what is left make the whole. Assumes nothing.
-use Prim.Native.Nat.{ℕ, suc, _+_, _-_, _*_, _≤_}
-use mathlib.Core.Path.{_≡_, refl, sym, ap, ap₂, _∙_}
+use Prim.Native.Nat.{_+_, _-_, _*_, _≤_}
+use mathlib.Core.Path.{_≡_}
 use native.Mathlib.Omega.{arith}
 use borrow.Author.Needs.{needs}
 use native.Mathlib.Numerals.{add-one}
 use lib.ListN.{length, drop}
-use Rattle.cose.specs.Cbor.{unsigned, byteString, headBytes, numbersBytes}
+use Rattle.cose.specs.Cbor.{numbersBytes}
 use Rattle.cose.specs.Sign1.{registerSize}
 use Rattle.cose_rules.proofs.Head.{numbers-size, size-end}
 use Rattle.cose_writer.proofs.value_size.Statement.{statement}

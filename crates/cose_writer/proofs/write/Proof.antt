@@ -1,17 +1,15 @@
 -- `cose_writer::write` meets its contract: by the algorithm, the signature and the room it gives one of the definition's answers. Assumes nothing.
 use Prim.Native.Nat.{ℕ, _+_, _<_, _≤_}
 use mathlib.Core.Bool.{true}
-use mathlib.Core.Path.{_≡_, refl, sym, ap, ap₂, _∙_}
+use mathlib.Core.Path.{_≡_, ap, _∙_}
 use mathlib.Core.List.{List}
 use native.Mathlib.Omega.{arith}
 use borrow.Author.Needs.{needs}
 use denote.Ref.{now}
 use lib.ListN.{length}
-use Rattle.octets.specs.Over.{over}
-use Rattle.eif.specs.declared.Written.{Written}
 use Rattle.eif.specs.declared.Verdict.the-variants.{Accepted}
 use Rattle.eif.specs.Plan.{writtenFor}
-use Rattle.cose.specs.Sign1.{signatureSize, signatureFits, sign1Bytes, payloadBytes}
+use Rattle.cose.specs.Sign1.{signatureSize, signatureFits, sign1Bytes}
 use Rattle.cose.specs.declared.Claim.{Claim}
 use Rattle.cose_rules.proofs.Parts.{size-bounds, sign-size}
 use Rattle.cose_rules.proofs.Answers.{fitting-yes, fitting-none, fitting-not, unfit, short, fine}
