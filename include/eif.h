@@ -336,8 +336,8 @@ typedef struct eif_sign1_position {
 
 /* What a COSE_Sign1 claims: that a register has a value. */
 typedef struct eif_sign1_claim {
-    uint64_t algorithm;        /* of enum eif_sign1_algorithm */
-    uint64_t register_index;   /* any number */
+    uint64_t algorithm;      /* of enum eif_sign1_algorithm */
+    uint64_t register_index; /* any number */
     eif_digest register_value;
 } eif_sign1_claim;
 
