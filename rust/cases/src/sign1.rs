@@ -170,56 +170,54 @@ fn length_cases(good: &Sign1Parts) -> Vec<Sign1Case> {
     cases
 }
 
+/// Items with a name.
+type Named = Vec<(&'static str, Item)>;
+
 /// Items that are well-formed CBOR and something else.
-fn refused_items(good: &Sign1Parts) -> Vec<(&'static str, Item)> {
-    let with = |place: usize, item: Item| {
-        let mut items = good.items();
-        items[place] = item;
-        Item::Array(items.to_vec())
-    };
+fn refused_items(good: &Sign1Parts) -> Named {
+    let [header, _, payload, signature] = good.items();
+    let five = [&good.items()[..], &[Item::Null]].concat();
     let mut refused = vec![
         ("tag 18", Item::Tag(18, Box::new(good.item()))),
         ("tag 98", Item::Tag(98, Box::new(good.item()))),
         ("three items", Item::Array(good.items()[..3].to_vec())),
         (
-            "five items",
-            Item::Array([&good.items()[..], &[Item::Null]].concat()),
+            "no empty map",
+            Item::Array(vec![header, payload, signature]),
         ),
+        ("five items", Item::Array(five)),
         ("in a byte string", encoded(good.item())),
-        (
-            "header parameter kid",
-            with(
-                1,
-                Item::Map(vec![(Item::Unsigned(4), Item::Bytes(b"11".to_vec()))]),
-            ),
-        ),
-        (
-            "unprotected header as an array",
-            with(1, Item::Array(vec![])),
-        ),
-        ("signature as text", with(3, Item::Text("signature"))),
-        ("signature as numbers", with(3, numbers(&good.signature))),
-        ("no signature", with(3, Item::Null)),
     ];
-    refused.extend(
-        refused_headers(good.algorithm)
-            .into_iter()
-            .map(|(name, item)| (name, with(0, item))),
-    );
-    refused.extend(
-        refused_payloads(good)
-            .into_iter()
-            .map(|(name, item)| (name, with(2, item))),
-    );
-    refused.extend(
-        refused_signatures(&good.signature)
-            .into_iter()
-            .map(|(name, item)| (name, with(3, item))),
-    );
+    let parts = [
+        refused_headers(good.algorithm),
+        refused_unprotected(),
+        refused_payloads(good),
+        refused_signatures(&good.signature),
+    ];
+    for (place, others) in parts.into_iter().enumerate() {
+        refused.extend(others.into_iter().map(|(name, item)| {
+            let mut items = good.items();
+            items[place] = item;
+            (name, Item::Array(items.to_vec()))
+        }));
+    }
     refused
 }
 
-fn refused_headers(algorithm: u64) -> Vec<(&'static str, Item)> {
+fn refused_unprotected() -> Named {
+    let kid = (Item::Unsigned(4), Item::Bytes(b"11".to_vec()));
+    vec![
+        ("header parameter kid", Item::Map(vec![kid])),
+        ("unprotected header as an array", Item::Array(vec![])),
+        (
+            "unprotected header in a byte string",
+            encoded(Item::Map(vec![])),
+        ),
+        ("no unprotected header", Item::Null),
+    ]
+}
+
+fn refused_headers(algorithm: u64) -> Named {
     let header = |pairs: &[(u64, u64)]| encoded(protected(pairs));
     let to_number = |number| encoded(Item::Map(vec![(Item::Unsigned(1), number)]));
     vec![
@@ -247,83 +245,76 @@ fn refused_headers(algorithm: u64) -> Vec<(&'static str, Item)> {
     ]
 }
 
-fn refused_payloads(good: &Sign1Parts) -> Vec<(&'static str, Item)> {
-    let index = ("register_index", Item::Unsigned(good.index));
-    let value = ("register_value", numbers(&good.value));
-    let of = |pairs: &[&(&'static str, Item)]| {
-        encoded(payload(pairs.iter().map(|&pair| pair.clone()).collect()))
-    };
-    let with_index = |item: Item| of(&[&("register_index", item), &value]);
-    let with_value = |item: Item| of(&[&index, &("register_value", item)]);
-    let pairs = || payload(vec![index.clone(), value.clone()]);
-    let mut wide = vec![Item::Unsigned(1); 48];
-    wide[47] = Item::Unsigned(256);
-    vec![
+fn refused_payloads(good: &Sign1Parts) -> Named {
+    let index = || ("register_index", Item::Unsigned(good.index));
+    let value = || ("register_value", numbers(&good.value));
+    let of = |pairs: Vec<_>| encoded(payload(pairs));
+    let pairs = || payload(vec![index(), value()]);
+    let longer = [&encode(&pairs())[..], &[0]].concat();
+    let named = |name| of(vec![(name, Item::Unsigned(0)), value()]);
+    let mut refused = vec![
         ("no payload", Item::Null),
         ("payload not in a byte string", pairs()),
         ("payload as text", Item::Text("register_index")),
         ("empty payload", Item::Bytes(vec![])),
-        ("exchanged pairs", of(&[&value, &index])),
-        ("the index alone", of(&[&index])),
-        ("the value alone", of(&[&value])),
-        ("the index twice", of(&[&index, &index])),
-        ("three pairs", of(&[&index, &value, &index])),
-        (
-            "another name",
-            of(&[&("register_indey", Item::Unsigned(0)), &value]),
-        ),
-        (
-            "a shorter name",
-            of(&[&("register_inde", Item::Unsigned(0)), &value]),
-        ),
-        ("negative index", with_index(Item::Negative(0))),
-        ("index as text", with_index(Item::Text("0"))),
-        (
-            "index past 64 bits",
-            with_index(Item::Tag(
-                2,
-                Box::new(Item::Bytes([&[1][..], &[0; 8]].concat())),
-            )),
-        ),
-        (
-            "value as a byte string",
-            with_value(Item::Bytes(good.value.to_vec())),
-        ),
-        ("47 numbers", with_value(numbers(&good.value[..47]))),
-        (
-            "49 numbers",
-            with_value(numbers(&[&good.value[..], &[7]].concat())),
-        ),
-        ("a number of 256", with_value(Item::Array(wide))),
-        (
-            "a negative number",
-            with_value(Item::Array(vec![Item::Negative(0); 48])),
-        ),
-        ("no value", with_value(Item::Null)),
-        (
-            "a byte after the payload's map",
-            Item::Bytes([&encode(&pairs())[..], &[0]].concat()),
-        ),
+        ("a byte after the payload's map", Item::Bytes(longer)),
+        ("exchanged pairs", of(vec![value(), index()])),
+        ("the index alone", of(vec![index()])),
+        ("the value alone", of(vec![value()])),
+        ("the index twice", of(vec![index(), index()])),
+        ("three pairs", of(vec![index(), value(), index()])),
+        ("another name", named("register_indey")),
+        ("a shorter name", named("register_inde")),
+    ];
+    let indices = refused_indices().into_iter();
+    refused.extend(indices.map(|(name, item)| (name, of(vec![("register_index", item), value()]))));
+    let values = refused_values(&good.value).into_iter();
+    refused.extend(values.map(|(name, item)| (name, of(vec![index(), ("register_value", item)]))));
+    refused
+}
+
+fn refused_indices() -> Named {
+    let big = Item::Bytes([&[1][..], &[0; 8]].concat());
+    vec![
+        ("negative index", Item::Negative(0)),
+        ("index as text", Item::Text("0")),
+        ("index past 64 bits", Item::Tag(2, Box::new(big))),
+        ("no index", Item::Null),
     ]
 }
 
-/// Signatures of the lengths of other algorithms, and of lengths near these.
-fn refused_signatures(signature: &[u8]) -> Vec<(&'static str, Item)> {
-    let long = signature.repeat(4);
+fn refused_values(value: &[u8]) -> Named {
+    let mut wide = vec![Item::Unsigned(1); 48];
+    wide[47] = Item::Unsigned(256);
+    let longer = [value, &[7]].concat();
+    vec![
+        ("value as a byte string", Item::Bytes(value.to_vec())),
+        ("47 numbers", numbers(&value[..47])),
+        ("49 numbers", numbers(&longer)),
+        ("a number of 256", Item::Array(wide)),
+        ("negative numbers", Item::Array(vec![Item::Negative(0); 48])),
+        ("no value", Item::Null),
+    ]
+}
+
+/// Signatures of the lengths of other algorithms and of lengths near these, and what is no byte string.
+fn refused_signatures(signature: &[u8]) -> Named {
+    let mut refused = vec![
+        ("signature as text", Item::Text("signature")),
+        ("signature as numbers", numbers(signature)),
+        ("no signature", Item::Null),
+    ];
+    let long = signature.repeat(5);
     let lengths = SIGN1_ALGORITHMS.map(|(_, length)| [length - 1, length, length + 1]);
     let lengths = lengths
         .into_iter()
         .flatten()
         .chain([0, 1, 23, 24, 255, 256]);
-    let others = lengths.filter(|&length| length != signature.len());
-    others
-        .map(|length| {
-            (
-                "signature of another length",
-                Item::Bytes(long[..length].to_vec()),
-            )
-        })
-        .collect()
+    for length in lengths.filter(|&length| length != signature.len()) {
+        let other = Item::Bytes(long[..length].to_vec());
+        refused.push(("signature of another length", other));
+    }
+    refused
 }
 
 /// The example of RFC 9052, appendix C.2.1, which holds a text: with its tag, and without.

@@ -246,38 +246,36 @@ pub fn compare_sign1(ordinal: u64, bytes: &[u8], tally: &mut Tally) {
     };
     tally.add_input();
     let reading = raw::sign1_read(bytes);
-    same(
-        input,
-        "read",
-        reading,
-        twin_reading(twin::read_sign1(bytes)),
-    );
+    let twin_answer = twin_reading(twin::read_sign1(bytes));
+    same(input, "read", reading, twin_answer);
     tally.add(Call::Sign1Read, reading.number);
-    let view = eif::sign1::read(bytes);
-    if reading.number != 0 {
-        let refusal = view.map(|_| ()).map_err(pair);
-        return same(
-            input,
-            "refusal",
-            refusal,
-            Err((reading.number, reading.index)),
-        );
+    let view = eif::sign1::read(bytes).map_err(pair);
+    match reading.number {
+        0 => {
+            let signature = compare_written_again(input, &reading);
+            let view = view.map(|sign1| (Some(sign1.claim), sign1.signature));
+            let expected = (rust_claim(&reading.claim), signature);
+            same(input, "view", view, Ok(expected));
+        }
+        number => same(input, "refusal", view, Err((number, reading.index))),
     }
-    let [start, length] =
-        [reading.signature_position.0, reading.signature_length.0].map(|number| number as usize);
-    let signature = &bytes[start..start + length];
-    let view = view.map(|sign1| (Some(sign1.claim), sign1.signature));
-    let expected = Ok((rust_claim(&reading.claim), signature));
-    same(input, "view", view.map_err(pair), expected);
-    let mut out = vec![0; bytes.len()];
+}
+
+/// Writes what was accepted. Answers the signature.
+fn compare_written_again<'a>(input: &Input<'a>, reading: &Sign1Reading) -> &'a [u8] {
+    let (start, length) = (reading.signature_position.0, reading.signature_length.0);
+    let signature = &input.bytes[start as usize..][..length as usize];
+    let mut out = vec![0; input.bytes.len()];
     let written = raw::sign1_write(reading.claim, signature, &mut out);
+    let expected = (0, input.bytes.len() as u64);
     same(
         input,
-        "length written again",
-        written.length,
-        bytes.len() as u64,
+        "written again",
+        (written.number, written.length),
+        expected,
     );
-    same(input, "written again", &out[..], bytes);
+    same(input, "bytes written again", &out[..], input.bytes);
+    signature
 }
 
 /// Writes a claim, and reads back what is written.
