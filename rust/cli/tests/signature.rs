@@ -165,8 +165,12 @@ fn without_a_signature() {
     folder.put("image", &worked_image()[..585]);
     let refusal = eif::read(&worked_image()[..585]).unwrap_err();
     let advice = refusal.reason().advice();
-    let refused = format!("image: {refusal}\n  what to do: {advice}\n");
-    folder.eif("signature image").says(1, &refused);
+    let ended = folder.eif("signature image");
+    assert_eq!(ended.status, 1);
+    assert!(ended.text().starts_with(&format!("image: {refusal}\n")));
+    assert!(ended
+        .text()
+        .ends_with(&format!("\n  what to do: {advice}\n")));
 }
 
 /// Sections, where in their data they are at fault, and what should be there.
