@@ -1,4 +1,4 @@
--- A refusal carries the first number that applies, in the order of the lists of rules; and how long a COSE_Sign1 can be.
+-- A refusal carries the first number that applies, in the order of the lists of rules.
 -- Assumes nothing.
 use Prim.Native.Nat.{ℕ}
 use mathlib.Core.Bool.{Bool, true, false, not}
