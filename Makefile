@@ -76,7 +76,7 @@ c-test: $(archive)
 	tests/header.sh $(CC)
 	tests/archive.sh $(EIF_LIB_DIR)/libeif_c.a include/eif.h
 	mkdir -p target/c-test
-	for name in worked boundary; do \
+	for name in worked boundary sign1; do \
 	    $(CC) -std=c99 $(C_WARNINGS) -Iinclude tests/c/$$name.c $(EIF_LIB_DIR)/libeif_c.a -o target/c-test/$$name-c && \
 	    target/c-test/$$name-c && \
 	    $(CXX) -std=c++11 $(C_WARNINGS) -Iinclude -x c++ tests/c/$$name.c -x none $(EIF_LIB_DIR)/libeif_c.a -o target/c-test/$$name-cpp && \
@@ -89,7 +89,7 @@ c-test: $(archive)
 
 rust-test: $(archive)
 	@tests/cargo.sh $(CARGO)
-	cd rust && $(CARGO) test --release $(CARGO_FLAGS)
+	cd rust && EIF_PYTHON="$$(../tests/cbor2.sh)" $(CARGO) test --release $(CARGO_FLAGS)
 
 test-large: $(archive)
 	@tests/cargo.sh $(CARGO)

@@ -1,6 +1,6 @@
 /* SPDX-License-Identifier: Apache-2.0 */
 /*
- * Reader, writer, registers and boot rolls of enclave image files (EIF).
+ * Reader, writer, registers, boot rolls and signatures' claims of enclave image files (EIF).
  *
  * The C interface to a static library, libeif_c.a, whose every function is proved to meet the rules
  * of docs/FORMAT.md, which is cited below by section. It links into x86-64 programs. Of other
@@ -88,6 +88,9 @@ extern "C" {
 /* The most arrays or objects that a JSON text may have open at once. */
 #define EIF_MAX_JSON_DEPTH 32
 
+/* The longest COSE_Sign1. A buffer of this length takes any. */
+#define EIF_MAX_SIGN1_LENGTH 281
+
 /* What first_ramdisk is where there is no ramdisk, and beside a refusal. */
 #define EIF_NO_RAMDISK 32
 
@@ -119,6 +122,7 @@ enum eif_number {
     EIF_PAST_STREAM_END = 19,
     EIF_NOT_PACKED = 20, /* index: of the section, or 0 for bytes after the last */
     EIF_METADATA_NOT_JSON = 21, /* of eif_read_strict alone */
+    EIF_NOT_SIGN1 = 28, /* also of a claim or a signature that cannot be written */
     EIF_MESSAGE_TOO_LONG = 29
 };
 
@@ -149,6 +153,7 @@ static inline const char *eif_meaning(uint8_t number) {
     case EIF_PAST_STREAM_END: return "stream position past the stream's end";
     case EIF_NOT_PACKED: return "section not packed, or bytes after the last section";
     case EIF_METADATA_NOT_JSON: return "metadata is not one JSON text";
+    case EIF_NOT_SIGN1: return "not one COSE_Sign1 of the accepted form";
     case EIF_MESSAGE_TOO_LONG: return "message longer than 2,305,843,009,213,693,951 bytes";
     default: return "unknown number";
     }
@@ -339,6 +344,37 @@ typedef struct eif_roll_reading {
     eif_roll_record records[EIF_MAX_SECTIONS]; /* in order, then zeros */
 } eif_roll_reading;
 
+/* The algorithms that may sign, each by its number in the COSE registry with its sign left off, with the
+ * length of its signatures. */
+enum eif_sign1_algorithm {
+    EIF_ES256 = 7,  /* 64 bytes */
+    EIF_ES384 = 35, /* 96 bytes */
+    EIF_ES512 = 36  /* 132 bytes */
+};
+
+/* A position in a COSE_Sign1, from its first byte. */
+typedef struct eif_sign1_position {
+    uint64_t value;
+} eif_sign1_position;
+
+/* What a COSE_Sign1 claims: that a register has a value. */
+typedef struct eif_sign1_claim {
+    uint64_t algorithm;      /* of enum eif_sign1_algorithm */
+    uint64_t register_index; /* any number */
+    eif_digest register_value;
+} eif_sign1_claim;
+
+/* What one COSE_Sign1 holds. Its signature is not verified. */
+typedef struct eif_sign1_reading {
+    uint8_t number; /* EIF_ACCEPTED, or EIF_NOT_SIGN1 */
+    uint8_t reserved[7];
+    uint64_t index;
+    uint64_t position;
+    eif_sign1_claim claim;
+    eif_sign1_position signature_position; /* where the signature's own bytes begin */
+    eif_data_length signature_length;
+} eif_sign1_reading;
+
 /* Reads an image (FORMAT.md, Reading an image). Refusals: 1 to 13 and 20. */
 EIF_MUST_USE eif_reading eif_read(const uint8_t *image, size_t image_length);
 
@@ -446,6 +482,17 @@ EIF_MUST_USE eif_answer eif_roll_write(const uint8_t *image, size_t image_length
 /* Reads a boot roll, which is accepted exactly when it is the roll of some accepted image.
  * Refusals: for each record 16 (head cut), 17, 5, 16 (data cut), 10, 11; then 18, 12, 1. */
 EIF_MUST_USE eif_roll_reading eif_roll_read(const uint8_t *roll, size_t roll_length);
+
+/* Reads one COSE_Sign1 and nothing after it (FORMAT.md, Signatures), as the signature section of an image
+ * holds it. The signature is not verified: whoever writes an image can claim what they like.
+ * Refusal: 28. */
+EIF_MUST_USE eif_sign1_reading eif_sign1_read(const uint8_t *bytes, size_t bytes_length);
+
+/* Writes the COSE_Sign1 of a claim and its signature over the start of out and answers its length. Bytes
+ * of out past it stay. Refusals: 28 where the algorithm is none of the three or the signature is not of its
+ * length; then 14. */
+EIF_MUST_USE eif_answer eif_sign1_write(eif_sign1_claim claim, const uint8_t *signature,
+                                        size_t signature_length, uint8_t *out, size_t out_length);
 
 #ifdef __cplusplus
 }

@@ -40,6 +40,9 @@ static eif_registers_answer registers;
 static eif_sha384 begun;
 static eif_sha384_fed fed;
 static eif_digest digest;
+static eif_sign1_claim claim;
+static eif_sign1_reading sign1_reading;
+static uint8_t sign1[EIF_MAX_SIGN1_LENGTH];
 
 static void nothing(void) {}
 static void call_read(void) { reading = eif_read(image, image_length); }
@@ -79,6 +82,11 @@ static void call_roll_write(void) {
     answer = eif_roll_write(image, image_length, out, sizeof out);
 }
 static void call_roll_read(void) { roll_reading = eif_roll_read(roll, roll_length); }
+/* The longest, which is 281 bytes. */
+static void call_sign1_write(void) {
+    answer = eif_sign1_write(claim, data, 132, sign1, sizeof sign1);
+}
+static void call_sign1_read(void) { sign1_reading = eif_sign1_read(sign1, sizeof sign1); }
 
 /* The bytes of stack that a function takes, with what the switch to it takes. */
 static size_t used(void (*function)(void)) {
@@ -103,6 +111,8 @@ static int prepare(void) {
     memset(text + PART / 2, ']', PART / 2);
     memset(data, 0x5a, sizeof data);
     memcpy(data + 2 * PART, text, PART);
+    memset(&claim, 0xff, sizeof claim);
+    claim.algorithm = EIF_ES512;
     plan.version = 4;
     plan.count = SECTIONS;
     for (unsigned i = 0; i < SECTIONS; i++) {
@@ -149,6 +159,8 @@ int main(void) {
         {"eif_roll_length", call_roll_length},
         {"eif_roll_write", call_roll_write},
         {"eif_roll_read", call_roll_read},
+        {"eif_sign1_write", call_sign1_write},
+        {"eif_sign1_read", call_sign1_read},
     };
     int failures = 0;
     size_t least = used(nothing);
@@ -162,7 +174,7 @@ int main(void) {
         printf("stack: %-20s %6zu bytes%s\n", calls[i].name, bytes, fits ? "" : ": too many");
         failures += !fits || reading.number != 0 || arrived.reading.number != 0 ||
                     roll_reading.number != 0 || answer.number != 0 || registers.number != 0 ||
-                    fed.number != 0;
+                    fed.number != 0 || sign1_reading.number != 0;
     }
     failures += json.is_text != 1;
     return failures != 0;

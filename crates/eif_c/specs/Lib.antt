@@ -3,3 +3,4 @@ pub mod Measure
 pub mod Listed
 pub mod Arrival
 pub mod Strict
+pub mod Signature

@@ -13,11 +13,13 @@
 #![forbid(unsafe_code)]
 #![deny(missing_docs)]
 
+pub mod cbor;
 mod digests;
 mod images;
 mod layout;
 mod positions;
 mod rolls;
+mod sign1;
 mod strict;
 mod texts;
 
@@ -32,5 +34,6 @@ pub use layout::{
 };
 pub use positions::{located_images, located_plans, located_rolls, PlanCase};
 pub use rolls::{record, roll_cases, roll_of, RollCase, Row, RECORD_HEADER, WORKED_ROLL};
+pub use sign1::{sign1_cases, sign1_example, Sign1Case, Sign1Parts, SIGN1_ALGORITHMS};
 pub use strict::strict_cases;
 pub use texts::{nested, text_cases, TextCase};

@@ -185,7 +185,7 @@ fn twin_state(state: raw::Sha384) -> twin::Sha384 {
 
 /// Runs a call with an output three times, by the C interface, the Rust interface and the twin.
 /// Answers the answer number.
-fn compare_output(
+pub(crate) fn compare_output(
     input: &Input,
     what: &str,
     (length, salt): (usize, u8),
@@ -207,7 +207,7 @@ fn compare_output(
 }
 
 /// The same by the C interface and the twin alone. Answers the answer and the output.
-fn compare_c_output(
+pub(crate) fn compare_c_output(
     input: &Input,
     what: &str,
     (length, salt): (usize, u8),

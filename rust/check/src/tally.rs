@@ -4,7 +4,7 @@ use std::fmt;
 use std::ops::AddAssign;
 
 /// How many kinds of call there are.
-const CALLS: usize = 13;
+const CALLS: usize = 15;
 
 /// Answer numbers are below this.
 const NUMBERS: usize = 30;
@@ -38,6 +38,10 @@ pub enum Call {
     Registers,
     /// A piece for a digest in progress.
     Update,
+    /// Reading a COSE_Sign1.
+    Sign1Read,
+    /// Writing a COSE_Sign1.
+    Sign1Write,
 }
 
 impl Call {
@@ -56,6 +60,8 @@ impl Call {
         Call::RollRead,
         Call::Registers,
         Call::Update,
+        Call::Sign1Read,
+        Call::Sign1Write,
     ];
 
     /// The numbers that FORMAT.md lets this call answer.
@@ -73,6 +79,8 @@ impl Call {
             Call::RollWrite => image.chain([14]).collect(),
             Call::RollRead => vec![0, 1, 5, 10, 11, 12, 16, 17, 18],
             Call::Update => vec![0, 29],
+            Call::Sign1Read => vec![0, 28],
+            Call::Sign1Write => vec![0, 14, 28],
         };
         numbers.sort();
         numbers

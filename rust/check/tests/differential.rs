@@ -17,6 +17,8 @@ const MESSAGES: u64 = 40_000;
 const READINGS: u64 = 40_000;
 const ARRIVALS: u64 = 40_000;
 const STATES: u64 = 40_000;
+const SIGN1S: u64 = 100_000;
+const CLAIMS: u64 = 40_000;
 
 /// Writes a line that is seen also where the test passes.
 fn say(line: &str) {
@@ -76,6 +78,21 @@ fn states(seed: u64, ordinals: Range<u64>, tally: &mut Tally) {
     }
 }
 
+fn sign1s(seed: u64, ordinals: Range<u64>, tally: &mut Tally) {
+    for ordinal in ordinals {
+        let mut rng = Rng::of_input(seed.rotate_left(8), ordinal);
+        compare_sign1(ordinal, &any_sign1(&mut rng), tally);
+    }
+}
+
+fn claims(seed: u64, ordinals: Range<u64>, tally: &mut Tally) {
+    for ordinal in ordinals {
+        let mut rng = Rng::of_input(!seed.rotate_left(8), ordinal);
+        let given = any_claim(&mut rng);
+        compare_claim(&mut rng, ordinal, &given, tally);
+    }
+}
+
 /// Images longer than they may be. No call looks at their bytes.
 fn long_images(seed: u64, tally: &mut Tally) {
     let mut rng = Rng::of_input(seed, u64::MAX);
@@ -124,6 +141,8 @@ fn library_and_twin_agree() {
             readings(seed, share(READINGS * times, part, parts), &mut tally);
             arrivals(seed, share(ARRIVALS * times, part, parts), &mut tally);
             states(seed, share(STATES * times, part, parts), &mut tally);
+            sign1s(seed, share(SIGN1S * times, part, parts), &mut tally);
+            claims(seed, share(CLAIMS * times, part, parts), &mut tally);
             if part == 0 {
                 long_images(seed, &mut tally);
             }

@@ -12,7 +12,7 @@ use std::os::unix::net::UnixStream;
 use std::process::Stdio;
 
 /// Every subcommand with files in the places of its inputs.
-const READERS: [&str; 12] = [
+const READERS: [&str; 13] = [
     "show FILE",
     "show --strict FILE",
     "check FILE",
@@ -20,6 +20,7 @@ const READERS: [&str; 12] = [
     "json FILE",
     "compare FILE good",
     "registers FILE",
+    "signature FILE",
     "roll FILE",
     "extract FILE 0",
     "stream FILE whole",
@@ -160,6 +161,8 @@ fn a_full_disk() {
         "compare good good",
         "registers good",
         "registers --json good",
+        "signature good",
+        "signature --json good",
         "roll good",
         "extract good 0",
         "stream good whole",
@@ -267,6 +270,8 @@ const WRONG: &[(&str, &str)] = &[
     ("compare - -", "- is named twice"),
     ("registers", "FILE is missing"),
     ("registers - -", "- is named twice"),
+    ("signature", "FILE is missing"),
+    ("signature - -", "- is named twice"),
     ("roll", "IMAGE is missing"),
     ("roll good --output", "--output needs a value"),
     ("roll good --output a --output b", "--output is given twice"),

@@ -4,6 +4,7 @@
 mod common;
 
 use common::{repository_text, Folder};
+use eif::sign1::Algorithm;
 use eif::{Reason, Refusal, SectionType};
 use eif_cases::{located_images, located_rolls};
 use std::process::Command;
@@ -111,11 +112,22 @@ fn the_header_has_the_same_limits() {
         ("EIF_REGISTERS", eif::REGISTERS),
         ("EIF_MAX_JSON_DEPTH", eif::json::MAX_DEPTH),
         ("EIF_DIGEST_LENGTH", eif::DIGEST_LENGTH),
+        ("EIF_MAX_SIGN1_LENGTH", eif::sign1::MAX_LENGTH),
     ] {
         assert_eq!(macro_value(&header, name), value.to_string(), "{name}");
     }
     let most = format!("UINT64_C({})", eif::MAX_MESSAGE_LENGTH);
     assert_eq!(macro_value(&header, "EIF_MAX_MESSAGE_LENGTH"), most);
+}
+
+#[test]
+fn the_header_has_the_same_algorithms() {
+    let header = repository_text("include/eif.h");
+    let numbers = enumerators(&header, "eif_sign1_algorithm");
+    let names = Algorithm::ALL.map(|algorithm| format!("EIF_{algorithm}"));
+    let expected = names.iter().zip(Algorithm::ALL);
+    let expected = expected.map(|(name, algorithm)| (&name[..], algorithm as u16));
+    assert_eq!(numbers, expected.collect::<Vec<_>>());
 }
 
 /// The digits in groups of three, as the words have them.
@@ -259,7 +271,7 @@ fn help_manual_and_man_page_have_the_same_subcommands_and_options() {
     let names = subcommands(&folder);
     assert_eq!(
         names.join(" "),
-        "show check compare registers roll pack extract stream json"
+        "show check compare registers signature roll pack extract stream json"
     );
     for name in names {
         let help = folder.run([&name[..], "--help"]);

@@ -15,6 +15,7 @@
 //! | [`registers()`] | registers 0, 1 and 2, as the platform measures the image |
 //! | [`Sha384`] | SHA-384, fed in pieces |
 //! | [`write_roll`], [`roll_length`], [`roll_to_vec`], [`read_roll`] | the boot roll |
+//! | [`sign1::read`], [`sign1::write`], [`sign1::to_vec`] | what a signature claims, not verified |
 //!
 //! Every call takes any bytes and any numbers. A [`Refusal`] has the first answer number that applies,
 //! in the order that FORMAT.md gives for the call, and says where; then no byte of an output buffer has
@@ -93,6 +94,7 @@ mod refusal;
 mod registers;
 mod roll;
 mod sha384;
+pub mod sign1;
 mod stream;
 
 pub use arriving::Arriving;

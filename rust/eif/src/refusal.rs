@@ -96,6 +96,8 @@ reasons! {
         "do not use it; fetch it again, and if the answer stays, tell the builder";
     21 MetadataNotJson: "metadata is not one JSON text",
         "do not use it; tell the builder";
+    28 NotSign1: "not one COSE_Sign1 of the accepted form",
+        "do not rely on the signature; tell the builder";
     29 MessageTooLong: "message longer than 2,305,843,009,213,693,951 bytes",
         "nothing is wrong with the file; mend the calling program";
 }

@@ -2,7 +2,7 @@
 //!
 //! Written from the rules alone (docs/FORMAT.md), to be compared with the proved library: it gives the
 //! same answers and shares no code with it. It is also what the library's speed is measured against.
-//! [`Sha384`] is written from FIPS 180-4, and [`check_json`] from RFC 8259 and RFC 3629.
+//! [`Sha384`] is written from FIPS 180-4, and [`check_json`] from RFC 8259 and RFC 3629, [`read_sign1`] and [`write_sign1`] from RFC 8949 and RFC 9052.
 //!
 //! ```
 //! use eif_twin::{read_roll, Refusal};
@@ -22,6 +22,7 @@ mod registers;
 mod roll;
 mod rules;
 mod sha384;
+mod sign1;
 mod stream;
 mod strict;
 
@@ -33,5 +34,6 @@ pub use registers::registers;
 pub use roll::{read_roll, roll_length, write_roll, Record};
 pub use rules::{Refusal, MAX_IMAGE};
 pub use sha384::Sha384;
+pub use sign1::{read_sign1, write_sign1, Claim, Sign1};
 pub use stream::{copy_sections, copy_stream, stream_length, stream_sections, Stream};
 pub use strict::read_strict;

@@ -1,6 +1,6 @@
 //! The subcommands, each in a file of its own.
 //!
-//! A new one (signature, assemble, stage) is a file here and a row in the table.
+//! A new one (assemble, stage) is a file here and a row in the table.
 
 use crate::args::{Args, Options};
 use crate::status::{Status, Trouble};
@@ -13,6 +13,7 @@ mod pack;
 mod registers;
 mod roll;
 mod show;
+mod signature;
 mod stream;
 
 /// A subcommand.
@@ -27,11 +28,12 @@ pub struct Command {
 }
 
 /// All of them, in the order of the overview.
-pub const COMMANDS: [Command; 9] = [
+pub const COMMANDS: [Command; 10] = [
     show::COMMAND,
     check::COMMAND,
     compare::COMMAND,
     registers::COMMAND,
+    signature::COMMAND,
     roll::COMMAND,
     pack::COMMAND,
     extract::COMMAND,
