@@ -1,7 +1,7 @@
 //! Words that subcommands share. What a refusal means, what stands at its position and what to do about it
 //! are the library's words.
 
-use eif::Refusal;
+use eif::{Architecture, Refusal};
 use std::ffi::OsStr;
 use std::os::unix::ffi::OsStrExt;
 
@@ -39,6 +39,11 @@ pub fn place(indent: &str, refusal: &Refusal, place: Option<String>) -> String {
 /// The line on what to do about a refusal.
 pub fn advice(refusal: &Refusal) -> String {
     format!("  what to do: {}\n", refusal.reason().advice())
+}
+
+/// Header flags and the processor that they tell: `0x0001 (aarch64)`.
+pub fn flags(flags: u16, architecture: Architecture) -> String {
+    format!("{flags:#06x} ({architecture})")
 }
 
 /// `1 byte`, `2 bytes`.
