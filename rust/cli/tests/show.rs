@@ -134,7 +134,8 @@ cut: refused 2 at 0 byte 0: image shorter than 548 bytes
   byte 0: the start of the file
   what to do: fetch it again
   as a boot roll: refused 16 at 5 byte 99: roll ends inside a record, or before its end record
-    byte 99: the start of record 5";
+    byte 99: the start of record 5
+    what to do: fetch the roll again";
     assert_eq!(lines, expected.lines().collect::<Vec<_>>());
 }
 
@@ -148,7 +149,8 @@ fn every_number_of_the_roll_reader_is_told() {
             assert_eq!(folder.eif("show roll").status, 0);
             continue;
         };
-        let meaning = Reason::from_number(number).expect("a reason").meaning();
+        let reason = Reason::from_number(number).expect("a reason");
+        let (meaning, advice) = (reason.meaning(), reason.advice());
         let place = match number {
             12 => "the start of the roll".to_string(),
             5 => "the start of record 33".to_string(),
@@ -164,7 +166,8 @@ fn every_number_of_the_roll_reader_is_told() {
         };
         let lines = format!(
             "  as a boot roll: refused {number} at {index} byte {position}: {meaning}\n    \
-             byte {position}: {place}\n"
+             byte {position}: {place}\n    \
+             what to do: {advice}\n"
         );
         let ended = folder.eif("show roll");
         assert_eq!(ended.status, 1);
@@ -238,7 +241,9 @@ fn a_roll_of_the_old_form_is_told_so() {
     let reason = Reason::RecordTypeWrong;
     let lines = format!(
         "  as a boot roll: refused 17 at 0 byte 0: {reason}\n    \
-         byte 0: the start of the flags record\n"
+         byte 0: the start of the flags record\n    \
+         what to do: fetch the roll again; one that an older eif has written must be written again \
+         from its image\n"
     );
     for words in ["show old.roll", "compare old.roll packed.eif"] {
         let ended = folder.eif(words);
