@@ -5,6 +5,7 @@ use mathlib.Core.Bool.{Bool, true, not}
 use mathlib.Core.List.{List, [], _∷_, _++_}
 use lib.Dec.{ltb, leb, eqb}
 use lib.ListN.{length}
+use Rattle.octets.specs.Bytes.{leField}
 use Rattle.eif.specs.Numbers.{sizeLimit, placeCount, oldestVersion, kernel, ramdisk, imageTooLong, imageTooShort, wrongMagic, wrongVersion, wrongCount, startsEarly, endsLate, sizesDiffer, typeNotAllowed, ramdiskBeforeKernel, typeRepeated, sectionMissing, checksumDiffers, notPacked, outputTooShort, dataLengthDiffers, recordCut, recordTypeWrong, bytesAfterEnd, pastStreamEnd}
 use Rattle.eif.specs.Logic.{both, either, choose}
 use Rattle.eif.specs.Answers.{refuseAt}
@@ -13,7 +14,7 @@ use Rattle.eif.specs.Layout.{magicNumber, headerSize, versionAt, countAt
 use Rattle.eif.specs.Reading.{hasTail, checksumOf}
 use Rattle.eif.specs.Plan.{plannedKind, plainSize, dataBefore}
 use Rattle.eif.specs.Stream.{streamOf, listedBytes}
-use Rattle.eif.specs.Roll.{recordHeadSize, recordAt, recordSize, recordKind, isEnd, imageSize, rollBytes}
+use Rattle.eif.specs.Roll.{recordHeadSize, flagsType, flagsLength, flagsRecordSize, restOf, recordAt, recordStart, recordSize, recordKind, isEnd, imageSize, rollBytes}
 use Rattle.eif.specs.declared.Plan.{Plan}
 use Rattle.eif.specs.declared.Stream.{Stream}
 use Rattle.eif.specs.declared.StreamSections.{StreamSections}
@@ -37,16 +38,16 @@ firstThatApplies (r ∷ rs) = choose (r .applies) (refuseAt (r .number) (r .inde
 
 -- ---- rules on section types, for image, plan and roll: types are given by a function from place to type
 
--- 10 and 11 at place i, whose refusals give a position
-unfoldable pub orderRules : (ℕ → ℕ) → ℕ → ℕ → List Rule
-orderRules kinds i position =
-    rule (both (eqb (kinds i) ramdisk) (not (seen kinds kernel i))) ramdiskBeforeKernel i position
-    ∷ rule (both (not (eqb (kinds i) ramdisk)) (seen kinds (kinds i) i)) typeRepeated i position
+-- 10 and 11 at place i, whose refusals give an index and a position
+unfoldable pub orderRules : (ℕ → ℕ) → ℕ → ℕ → ℕ → List Rule
+orderRules kinds i index position =
+    rule (both (eqb (kinds i) ramdisk) (not (seen kinds kernel i))) ramdiskBeforeKernel index position
+    ∷ rule (both (not (eqb (kinds i) ramdisk)) (seen kinds (kinds i) i)) typeRepeated index position
     ∷ []
 
 -- 9, 10 and 11 at place i, in a version
 unfoldable pub typeRules : ℕ → (ℕ → ℕ) → ℕ → ℕ → List Rule
-typeRules version kinds i position = rule (not (allowedIn version (kinds i))) typeNotAllowed i position ∷ orderRules kinds i position
+typeRules version kinds i position = rule (not (allowedIn version (kinds i))) typeNotAllowed i position ∷ orderRules kinds i i position
 
 -- the rules at n places from place i on
 unfoldable pub rulesFrom : (ℕ → List Rule) → ℕ → ℕ → List Rule
@@ -115,33 +116,41 @@ copyListedRules s list from = rule (ltb (length (listedBytes s list)) from) past
 unfoldable pub rollWriteRules : List ℕ → ℕ → List Rule
 rollWriteRules s room = imageRules s ++ (rule (ltb room (length (rollBytes s))) outputTooShort 0 0 ∷ [])
 
--- ---- reading a roll: per record 16, 17; stop at the end record; 5, 16, 10, 11. After the end record 18, 12, 1
+-- ---- reading a roll: of the flags record 16, 17, 16; then per record 16, 17; stop at the end record; 5, 16, 10, 11. After the end
+-- record 18, 12, 1. Record i of the rest is record i + 1 of the roll, and starts twelve bytes further on in it
+
+unfoldable pub flagsRules : List ℕ → List Rule
+flagsRules s =
+    rule (ltb (length s) recordHeadSize) recordCut 0 0
+    ∷ rule (either (not (eqb (leField 2 8 s) flagsType)) (not (eqb (leField 8 0 s) flagsLength))) recordTypeWrong 0 0
+    ∷ rule (ltb (length s) flagsRecordSize) recordCut 0 0
+    ∷ []
 
 unfoldable pub headRules : List ℕ → ℕ → List Rule
 headRules s i =
-    rule (ltb (length s) (recordAt s i + recordHeadSize)) recordCut i (recordAt s i)
-    ∷ rule (either (ltb ramdisk (recordKind s i)) (both (isEnd s i) (not (eqb (recordSize s i) 0)))) recordTypeWrong i (recordAt s i)
+    rule (ltb (length s) (recordAt s i + recordHeadSize)) recordCut (suc i) (recordStart s i)
+    ∷ rule (either (ltb ramdisk (recordKind s i)) (both (isEnd s i) (not (eqb (recordSize s i) 0)))) recordTypeWrong (suc i) (recordStart s i)
     ∷ []
 
 unfoldable pub bodyRules : List ℕ → ℕ → List Rule
 bodyRules s i =
-    rule (leb placeCount i) wrongCount 0 (recordAt s i)
-    ∷ rule (ltb (length s) (recordAt s (suc i))) recordCut i (recordAt s i)
-    ∷ orderRules (recordKind s) i (recordAt s i)
+    rule (leb placeCount i) wrongCount 0 (recordStart s i)
+    ∷ rule (ltb (length s) (recordAt s (suc i))) recordCut (suc i) (recordStart s i)
+    ∷ orderRules (recordKind s) i (suc i) (recordStart s i)
 
 -- with the end record at place n
 unfoldable pub endRules : List ℕ → ℕ → List Rule
 endRules s n =
-    rule (ltb (recordAt s n + recordHeadSize) (length s)) bytesAfterEnd 0 (recordAt s n + recordHeadSize)
+    rule (ltb (recordAt s n + recordHeadSize) (length s)) bytesAfterEnd 0 (recordStart s n + recordHeadSize)
     ∷ rule (missing (recordKind s) oldestVersion n) sectionMissing 0 0
     ∷ rule (ltb sizeLimit (imageSize s n)) imageTooLong 0 0
     ∷ []
 
 -- from record i on, in at most n records
 unfoldable pub rollRulesFrom : List ℕ → ℕ → ℕ → List Rule
-rollRulesFrom s zero i = rule true wrongCount 0 (recordAt s i) ∷ []
+rollRulesFrom s zero i = rule true wrongCount 0 (recordStart s i) ∷ []
 rollRulesFrom s (suc n) i = headRules s i ++ choose (isEnd s i) (endRules s i) (bodyRules s i ++ rollRulesFrom s n (suc i))
 
--- at most 32 records and the end record
+-- the flags record, at most 32 records and the end record
 abbrev pub rollRules : List ℕ → List Rule
-rollRules s = rollRulesFrom s (suc placeCount) 0
+rollRules s = flagsRules s ++ rollRulesFrom (restOf s) (suc placeCount) 0

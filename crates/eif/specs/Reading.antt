@@ -11,7 +11,7 @@ use Rattle.eif.specs.Logic.{either, choose}
 use Rattle.eif.specs.Answers.{refuseAt, andThen, wholeAt, wholeVerdict}
 use Rattle.eif.specs.Rules.{versionKnown, countKnown, allowedIn, orderFault, missing, firstFault}
 use Rattle.eif.specs.Table.{filled}
-use Rattle.eif.specs.Layout.{magicNumber, headerSize, sectionHeaderSize, versionAt, countAt, offsetsAt, checksumAt, View, viewOf, magic, version, headerFlags, memory, cpus, count, offsetEntry, offset, size, checksum, end, start}
+use Rattle.eif.specs.Layout.{magicNumber, headerSize, sectionHeaderSize, versionAt, countAt, offsetsAt, checksumAt, View, viewOf, magic, version, headerFlags, architecture, memory, cpus, count, offsetEntry, offset, size, checksum, end, start}
 use Rattle.eif.specs.declared.Section.{Section}
 use Rattle.eif.specs.declared.Reading.{Reading}
 use Rattle.eif.specs.declared.Verdict.{Verdict}
@@ -162,6 +162,7 @@ blankReading verdict =
       verdict = verdict;
       version = 0;
       flags = 0;
+      architecture = 0;
       memory = 0;
       cpus = 0;
       count = 0;
@@ -176,6 +177,7 @@ readingOf v Accepted =
       verdict = Accepted;
       version = version v;
       flags = headerFlags v;
+      architecture = architecture (headerFlags v);
       memory = memory v;
       cpus = cpus v;
       count = count v;

@@ -14,7 +14,7 @@ use Rattle.eif.specs.Answers.{refuse, refuseAt}
 use Rattle.eif.specs.Layout.{offsetAt}
 use Rattle.eif.specs.Reading.{headerRule, entryRule, sectionRule, missingRule, tailRule, checksumRule, positionIn, judged, early, verdictIn, checksumOf, verdictOf, blankSection, sectionsOf}
 use Rattle.eif.specs.Plan.{blankPlace, fieldFault, planFault, planVerdict, packedAt, dataBefore, fixedFields, offsetTable, sizeTable, headerBytes, sectionHeader, sectionBytes, plainImage}
-use Rattle.eif.specs.Roll.{headOf, rollOf, recordsIn, rollBytes}
+use Rattle.eif.specs.Roll.{headOf, flagsRecord, rollOf, recordsIn, rollBytes}
 use Rattle.eif.specs.Stream.{keeps, kept, streamSections}
 use Rattle.eif.specs.Rows.{worked}
 use Rattle.eif.specs.declared.Place.{Place}
@@ -127,7 +127,7 @@ unfolding field beValue plainImage headerBytes fixedFields offsetTable sizeTable
 worked-sections = refl
 
 pub worked-roll : rollBytes workedImage ≡ worked
-unfolding rollBytes rollOf headOf recordsIn field beValue crc32 crcFrom shiftBits shiftBit plainImage headerBytes fixedFields offsetTable sizeTable packedAt sectionBytes sectionHeader dataBefore
+unfolding rollBytes flagsRecord rollOf headOf recordsIn field beValue crc32 crcFrom shiftBits shiftBit plainImage headerBytes fixedFields offsetTable sizeTable packedAt sectionBytes sectionHeader dataBefore
 worked-roll = refl
 
 -- ---- streams in file order: of kernel, two ramdisks and then the command line

@@ -82,6 +82,17 @@ impl RecordHead {
     pub const END_TYPE: u16 = 0;
 }
 
+// The flags record, a boot roll's first: its type, the length of its data, and its size.
+pub struct FlagsRecord;
+
+impl FlagsRecord {
+    pub const TYPE: u16 = 256;
+
+    pub const LENGTH: u64 = 2;
+
+    pub const SIZE: usize = 12;
+}
+
 // ---- numbers that must not be mixed up
 
 // A position in the file, in a stream and in a boot roll, and a length of data.
@@ -235,12 +246,13 @@ pub struct Section {
     pub length: DataLength,
 }
 
-// `memory` and `cpus` are the header's default_mem and default_cpus; `ramdisks` is the ramdisk mark, a term of FORMAT.md: its
-// bit i is one exactly when section i is a ramdisk.
+// `architecture` is the lowest bit of the flags; `memory` and `cpus` are the header's default_mem and default_cpus; `ramdisks` is the
+// ramdisk mark, a term of FORMAT.md: its bit i is one exactly when section i is a ramdisk.
 pub struct Reading {
     pub verdict: Verdict,
     pub version: u16,
     pub flags: u16,
+    pub architecture: u16,
     pub memory: u64,
     pub cpus: u64,
     pub count: u16,
@@ -312,8 +324,10 @@ pub struct RollRecord {
     pub length: DataLength,
 }
 
+// `flags` are those of the flags record, which the list leaves out.
 pub struct RollReading {
     pub verdict: Verdict,
+    pub flags: u16,
     pub count: u64,
     pub records: [RollRecord; PLACES],
 }

@@ -39,6 +39,7 @@ flatReading r =
       ramdisks = r .ramdisks;
       «ramdisk_count» = ones (r .ramdisks);
       «first_ramdisk» = trailingZeros 32 (r .ramdisks);
+      architecture = r .architecture;
       «reserved_after» = 0;
       sections = map flatSection (r .sections);
     }
@@ -63,7 +64,9 @@ abbrev pub flatRollReading : RollReading → EifRollReading
 flatRollReading r =
     record {
       number = numberOf (r .verdict);
-      reserved = replicate 7 0;
+      reserved = 0;
+      flags = r .flags;
+      «reserved_after» = 0;
       index = indexOf (r .verdict);
       position = positionOf (r .verdict);
       count = r .count;

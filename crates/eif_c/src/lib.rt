@@ -58,7 +58,8 @@ pub struct EifReading {
     pub ramdisks: u32,
     pub ramdisk_count: u32,
     pub first_ramdisk: u32,
-    pub reserved_after: u32,
+    pub architecture: u16,
+    pub reserved_after: u16,
     pub sections: [EifSection; PLACES],
 }
 
@@ -84,7 +85,9 @@ pub struct EifRollRecord {
 #[repr(C)]
 pub struct EifRollReading {
     pub number: u8,
-    pub reserved: [u8; 7],
+    pub reserved: u8,
+    pub flags: u16,
+    pub reserved_after: u32,
     pub index: u64,
     pub position: u64,
     pub count: u64,
@@ -218,6 +221,7 @@ fn flat_reading(reading: Reading) -> EifReading
         ramdisks: reading.ramdisks,
         ramdisk_count: eif_judge::ramdisk_count(reading),
         first_ramdisk: eif_judge::first_ramdisk(reading),
+        architecture: reading.architecture,
         reserved_after: 0,
         sections: flat_sections(sections),
     }
@@ -340,7 +344,9 @@ pub extern "C" fn eif_roll_read(roll: &[u8]) -> EifRollReading
     let records = reading.records;
     EifRollReading {
         number: number_of(verdict),
-        reserved: [0u8; 7],
+        reserved: 0,
+        flags: reading.flags,
+        reserved_after: 0,
         index: index_of(verdict),
         position: position_of(verdict),
         count: reading.count,

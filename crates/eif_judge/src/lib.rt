@@ -85,6 +85,7 @@ pub fn refused(verdict: Verdict) -> Reading
         verdict,
         version: 0,
         flags: 0,
+        architecture: 0,
         memory: 0,
         cpus: 0,
         count: 0,
@@ -317,10 +318,12 @@ pub fn judge(header: &[u8], heads: &[u8], size: u64) -> Reading
     if walked.end < size {
         return refused(Verdict::refuse_at(Refusal::NOT_PACKED, 0, walked.end));
     }
+    let flags = octets::be16(header, Header::FLAGS_AT);
     Reading {
         verdict,
         version,
-        flags: octets::be16(header, Header::FLAGS_AT),
+        flags,
+        architecture: flags % 2,
         memory: octets::be64(header, Header::MEMORY_AT),
         cpus: octets::be64(header, Header::CPUS_AT),
         count,

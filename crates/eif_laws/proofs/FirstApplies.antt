@@ -8,6 +8,7 @@ use mathlib.Core.List.{List, [], _∷_, _++_}
 use borrow.Author.Tests.{eq-eqb}
 use lib.Dec.{ltb, leb, eqb}
 use lib.ListN.{length}
+use Rattle.octets.specs.Bytes.{leField}
 use Rattle.eif.specs.Numbers.{sizeLimit, placeCount, oldestVersion, kernel, ramdisk, sectionMissing, checksumDiffers, notPacked, outputTooShort, pastStreamEnd}
 use Rattle.eif.specs.Logic.{both, either, choose}
 use Rattle.eif.specs.Answers.{refuse, refuseAt, andThen, wholeAt, wholeVerdict}
@@ -16,8 +17,8 @@ use Rattle.eif.specs.Layout.{magicNumber, headerSize, countAt, checksumAt, View
 use Rattle.eif.specs.Reading.{headerRule, entryRule, sectionRule, hasTail, missingRule, tailRule, checksumRule, positionIn, located, judged, early, verdictIn, checksumOf, verdictOf}
 use Rattle.eif.specs.Plan.{plannedKind, plainSize, dataBefore, fieldFault, sizeFault, planFault, planVerdict, writeVerdict, planLength}
 use Rattle.eif.specs.Stream.{streamOf, copyVerdict, copyListedAnswer, lengthAnswer}
-use Rattle.eif.specs.Roll.{recordHeadSize, recordAt, recordSize, recordKind, isEnd, imageSize, rollBytes, rollVerdict, rollLength, Ending, ended, stopped, stopVerdict, endVerdict, headFault, bodyFault, rollFault, endFrom, rollAnswerFor, readRoll}
-use Rattle.eif.specs.Order.{Rule, rule, firstThatApplies, orderRules, typeRules, rulesFrom, headerRules, sectionRules, viewRules, imageRules, planRules, writeRules, copyRules, copyListedRules, rollWriteRules, headRules, bodyRules, endRules, rollRulesFrom, rollRules}
+use Rattle.eif.specs.Roll.{recordHeadSize, flagsType, flagsLength, flagsRecordSize, flagsFault, rollFlags, restOf, recordAt, recordStart, recordSize, recordKind, isEnd, imageSize, rollBytes, rollVerdict, rollLength, Ending, ended, stopped, stopVerdict, endVerdict, headFault, bodyFault, rollFault, endFrom, refusedRoll, rollAnswerFor, readRest, readRoll}
+use Rattle.eif.specs.Order.{Rule, rule, firstThatApplies, orderRules, typeRules, rulesFrom, headerRules, sectionRules, viewRules, imageRules, planRules, writeRules, copyRules, copyListedRules, rollWriteRules, flagsRules, headRules, bodyRules, endRules, rollRulesFrom, rollRules}
 use Rattle.eif.specs.declared.Plan.{Plan}
 use Rattle.eif.specs.declared.RollReading.{RollReading}
 use Rattle.eif.specs.declared.Stream.{Stream}
@@ -72,9 +73,9 @@ order-by true false t i p = refl
 order-by false k true i p = refl
 order-by false k false i p = refl
 
-order-first : (kinds : ℕ → ℕ) (i p : ℕ) → firstThatApplies (orderRules kinds i p) ≡ at (orderFault kinds (kinds i) i) i p
+order-first : (kinds : ℕ → ℕ) (i index p : ℕ) → firstThatApplies (orderRules kinds i index p) ≡ at (orderFault kinds (kinds i) i) index p
 unfolding firstThatApplies orderRules orderFault
-order-first kinds i p = order-by (eqb (kinds i) ramdisk) (seen kinds kernel i) (seen kinds (kinds i) i) i p
+order-first kinds i index p = order-by (eqb (kinds i) ramdisk) (seen kinds kernel i) (seen kinds (kinds i) i) index p
 
 type-by : (d : Bool) (fault i p : ℕ) → choose d (refuseAt 9 i p) (at fault i p) ≡ at (choose d 9 fault) i p
 type-by true fault i p = refl
@@ -83,7 +84,7 @@ type-by false fault i p = refl
 type-first : (version : ℕ) (kinds : ℕ → ℕ) (i p : ℕ) → firstThatApplies (typeRules version kinds i p) ≡ at (typeFault version kinds i) i p
 unfolding firstThatApplies typeRules typeFault
 type-first version kinds i p =
-    ap (choose (not (allowedIn version (kinds i))) (refuseAt 9 i p)) (order-first kinds i p)
+    ap (choose (not (allowedIn version (kinds i))) (refuseAt 9 i p)) (order-first kinds i i p)
     ∙ type-by (not (allowedIn version (kinds i))) (orderFault kinds (kinds i) i) i p
 
 -- ---- reading an image
@@ -293,7 +294,7 @@ module _ (s : List ℕ) where
 
   -- the rules on a head, and what follows it
   head-by : (a b c : Bool) (i : ℕ) (x : Ending) (w : Verdict) → w ≡ endingVerdict x
-      → andThen (choose a (refuseAt 16 i (recordAt s i)) (choose (either b c) (refuseAt 17 i (recordAt s i)) Accepted)) w
+      → andThen (choose a (refuseAt 16 (suc i) (recordStart s i)) (choose (either b c) (refuseAt 17 (suc i) (recordStart s i)) Accepted)) w
       ≡ endingVerdict (choose (eqb (choose a 16 (choose b 17 (choose c 17 0))) 0) x (stopped (choose a 16 (choose b 17 (choose c 17 0))) i))
   head-by true b c i x w e = refl
   head-by false true c i x w e = refl
@@ -302,7 +303,7 @@ module _ (s : List ℕ) where
 
   -- the rules on the rest of a record, and what follows it
   body-by : (a b r k t : Bool) (i : ℕ) (x : Ending) (w : Verdict) → w ≡ endingVerdict x
-      → andThen (choose a (refuseAt 5 0 (recordAt s i)) (choose b (refuseAt 16 i (recordAt s i)) (at (order r k t) i (recordAt s i)))) w
+      → andThen (choose a (refuseAt 5 0 (recordStart s i)) (choose b (refuseAt 16 (suc i) (recordStart s i)) (at (order r k t) (suc i) (recordStart s i)))) w
       ≡ endingVerdict (choose (eqb (choose a 5 (choose b 16 (order r k t))) 0) x (stopped (choose a 5 (choose b 16 (order r k t))) i))
   body-by true b r k t i x w e = refl
   body-by false true r k t i x w e = refl
@@ -312,7 +313,7 @@ module _ (s : List ℕ) where
   body-by false false false k false i x w e = e
 
   end-by : (n : ℕ) (a b c : Bool)
-      → choose a (refuseAt 18 0 (recordAt s n + recordHeadSize)) (choose b (refuse 12 0) (choose c (refuse 1 0) Accepted))
+      → choose a (refuseAt 18 0 (recordStart s n + recordHeadSize)) (choose b (refuse 12 0) (choose c (refuse 1 0) Accepted))
       ≡ choose (eqb (choose a 18 (choose b 12 (choose c 1 0))) 0) Accepted (endVerdict s (choose a 18 (choose b 12 (choose c 1 0))) n)
   end-by n true b c = refl
   end-by n false true c = refl
@@ -338,7 +339,7 @@ module _ (s : List ℕ) where
       let k : Bool = seen (recordKind s) kernel i in
       let t : Bool = seen (recordKind s) (recordKind s i) i in
       first-append (bodyRules s i) rest
-      ∙ ap (λ (o : Verdict). andThen (choose a (refuseAt 5 0 (recordAt s i)) (choose b (refuseAt 16 i (recordAt s i)) o)) (firstThatApplies rest)) (order-first (recordKind s) i (recordAt s i))
+      ∙ ap (λ (o : Verdict). andThen (choose a (refuseAt 5 0 (recordStart s i)) (choose b (refuseAt 16 (suc i) (recordStart s i)) o)) (firstThatApplies rest)) (order-first (recordKind s) i (suc i) (recordStart s i))
       ∙ body-by a b r k t i x (firstThatApplies rest) e
 
   records-first : (n i : ℕ) → firstThatApplies (rollRulesFrom s n i) ≡ endingVerdict (endFrom s n i)
@@ -354,14 +355,31 @@ module _ (s : List ℕ) where
       ∙ head-by (ltb (length s) (recordAt s i + recordHeadSize)) (ltb ramdisk (recordKind s i)) (both (isEnd s i) (not (eqb (recordSize s i) 0))) i
       (choose (isEnd s i) (ended i) judged) (firstThatApplies next) after
 
-  answer-verdict : (e : Ending) → rollAnswerFor s e .verdict ≡ endingVerdict e
-  answer-verdict (stopped number i) = refl
-  answer-verdict (ended n) = go (eqb (rollFault s n) 0) _ _
+  answer-verdict : (flags : ℕ) (e : Ending) → rollAnswerFor flags s e .verdict ≡ endingVerdict e
+  answer-verdict flags (stopped number i) = refl
+  answer-verdict flags (ended n) = go (eqb (rollFault s n) 0) _ _
     where
       go : (b : Bool) (x y : RollReading) → choose b x y .verdict ≡ choose b (x .verdict) (y .verdict)
       go true x y = refl
       go false x y = refl
 
-  pub roll-read-first : readRoll s .verdict ≡ firstThatApplies (rollRules s)
-  unfolding readRoll
-  roll-read-first = answer-verdict (endFrom s (suc placeCount) 0) ∙ sym (records-first (suc placeCount) 0)
+  rest-first : (flags : ℕ) → readRest flags s .verdict ≡ firstThatApplies (rollRulesFrom s (suc placeCount) 0)
+  unfolding readRest
+  rest-first flags = answer-verdict flags (endFrom s (suc placeCount) 0) ∙ sym (records-first (suc placeCount) 0)
+
+-- the rules on the flags record, and what follows it
+flags-by : (a b c : Bool) (x : RollReading) (w : Verdict) → x .verdict ≡ w
+    → choose (eqb (choose a 16 (choose b 17 (choose c 16 0))) 0) x (refusedRoll (refuse (choose a 16 (choose b 17 (choose c 16 0))) 0)) .verdict
+    ≡ andThen (choose a (refuse 16 0) (choose b (refuse 17 0) (choose c (refuse 16 0) Accepted))) w
+flags-by true b c x w e = refl
+flags-by false true c x w e = refl
+flags-by false false true x w e = refl
+flags-by false false false x w e = e
+
+pub roll-read-first : (s : List ℕ) → readRoll s .verdict ≡ firstThatApplies (rollRules s)
+unfolding readRoll flagsFault flagsRules firstThatApplies
+roll-read-first s =
+    let rest : List Rule = rollRulesFrom (restOf s) (suc placeCount) 0 in
+    flags-by (ltb (length s) recordHeadSize) (either (not (eqb (leField 2 8 s) flagsType)) (not (eqb (leField 8 0 s) flagsLength))) (ltb (length s) flagsRecordSize)
+    (readRest (rollFlags s) (restOf s)) (firstThatApplies rest) (rest-first (restOf s) (rollFlags s))
+    ∙ sym (first-append (flagsRules s) rest)

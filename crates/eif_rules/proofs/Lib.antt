@@ -8,3 +8,4 @@ pub mod Reading
 pub mod Accept
 pub mod Agree
 pub mod Mark
+pub mod Flags

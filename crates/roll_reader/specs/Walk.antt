@@ -1,6 +1,6 @@
 -- The rules on one record together, and what the walk over a roll's records hands to the rules on the whole roll.
 -- Assumes nothing.
-use Prim.Native.Nat.{ℕ, suc}
+use Prim.Native.Nat.{ℕ, suc, _+_}
 use mathlib.Core.List.{List}
 use lib.Dec.{eqb}
 use lib.ListN.{replicate}
@@ -8,7 +8,7 @@ use Rattle.eif.specs.Numbers.{placeCount, wrongCount}
 use Rattle.eif.specs.Logic.{choose}
 use Rattle.eif.specs.Answers.{refuseAt}
 use Rattle.eif.specs.Table.{filled}
-use Rattle.eif.specs.Roll.{Ending, stopped, ended, recordAt, recordKind, listedAt, blankRecord, isEnd, headFault, bodyFault, endFrom}
+use Rattle.eif.specs.Roll.{flagsRecordSize, Ending, stopped, ended, recordAt, recordKind, listedAt, blankRecord, isEnd, headFault, bodyFault, endFrom}
 use Rattle.eif.specs.declared.Verdict.the-variants.{Accepted}
 use Rattle.roll_reader.specs.declared.Walked.{Walked}
 
@@ -28,9 +28,9 @@ stoppedWith number index position =
       records = replicate placeCount blankRecord;
     }
 
--- the same at record i, which starts at a position: 5 gives the index 0
+-- the same at record i of the rest, which starts at a position of the rest: 5 gives the index 0
 abbrev pub stoppedAt : ℕ → ℕ → ℕ → Walked
-stoppedAt number i at = stoppedWith number (choose (eqb number wrongCount) 0 i) at
+stoppedAt number i at = stoppedWith number (choose (eqb number wrongCount) 0 (suc i)) (flagsRecordSize + at)
 
 -- record n is the end record
 unfoldable pub endedAt : List ℕ → ℕ → Walked

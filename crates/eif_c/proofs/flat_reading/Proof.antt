@@ -28,6 +28,7 @@ with r number index position count first sections =
       ramdisks = r .ramdisks;
       «ramdisk_count» = count;
       «first_ramdisk» = first;
+      architecture = r .architecture;
       «reserved_after» = 0;
       sections = sections;
     }

@@ -32,7 +32,7 @@ abbrev μ-loop : tie.MeasureT-loop
 
 module _ (c : tie.At-loop Inv-loop μ-loop) where
   abbrev roll : List ℕ
-  roll = now (c .before .before .before .args .roll)
+  roll = now (c .before .before .before .args .rest)
 
   abbrev i : ℕ
   i = c .loop .i
@@ -143,9 +143,6 @@ mul-kinds c = omega (arith, free c)
 array-write-kinds : tie.Need-array-write-kinds Inv-loop μ-loop
 array-write-kinds c = free c
 
-add-t11 : tie.Need-add-t11 Inv-loop μ-loop
-add-t11 c = omega (arith, inside c)
-
 mul-records : tie.Need-mul-records Inv-loop μ-loop
 mul-records c = omega (arith, free c)
 
@@ -200,7 +197,8 @@ walk-spec =
     le64-requires
     mul-kinds
     array-write-kinds
-    add-t11
+    (λ c. omega (arith, inside c))
+    (λ c. omega (arith, inside c))
     mul-records
     array-set-from-records
     add-at

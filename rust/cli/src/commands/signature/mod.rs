@@ -191,8 +191,8 @@ fn signature_text(index: usize, signature: &Signature) -> String {
             format!("  signature {index}: {algorithm}, certificate of {certificate}\n{lines}")
         }
         Err(refusal) => {
-            let advice = words::advice(refusal);
-            format!("  signature {index}: {refusal}\n  {advice}")
+            let advice = refusal.reason().advice();
+            format!("  signature {index}: {refusal}\n    what to do: {advice}\n")
         }
     }
 }
