@@ -2,3 +2,8 @@ pub mod Xor
 pub mod Linear
 pub mod Tabulate
 pub mod Bounds
+pub mod Sparse
+pub mod Point
+pub mod Steps
+pub mod Window
+pub mod Eight
