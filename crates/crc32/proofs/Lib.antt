@@ -3,7 +3,8 @@ pub mod Linear
 pub mod Tabulate
 pub mod Bounds
 pub mod Sparse
-pub mod Point
 pub mod Steps
-pub mod Window
-pub mod Eight
+pub mod Left
+pub mod Joined
+pub mod FoldBits
+pub mod FoldWords

@@ -1,4 +1,4 @@
--- The bit step of the checksum is linear over exclusive or, so eight steps are one look into a table of 256 entries.
+-- The bit step of the checksum keeps exclusive or, so steps go by parts of a number, and the checksum by parts of a byte string.
 -- Assumes nothing.
 use Prim.Native.Nat.{ℕ, zero, suc, _+_, _*_, _/_, _%_, _^_, _<_}
 use mathlib.Core.Path.{_≡_, refl, sym, ap, ap₂, _∙_}
@@ -89,11 +89,3 @@ crcFrom-value c (x ∷ xs) w =
     ∙ ap (shiftBits (8 * length xs)) (sym (shiftBits-linear 8 (bitXor c x) (v * 2 ^ 8)) ∙ ap (shiftBits 8) e)
     ∙ shiftBits-add 8 (8 * length xs) (bitXor c (x + 256 * v))
     ∙ ap (λ (k : ℕ). shiftBits k (bitXor c (x + 256 * v))) n
-
--- a byte taken in through the table
-pub table-step : (c b : ℕ) → b < 256 → bitXor (c / 256) (shiftBits 8 (bitXor c b % 256)) ≡ shiftBits 8 (bitXor c b)
-table-step c b h = sym (shiftBits-split 8 (bitXor c b) ∙ ap (λ (x : ℕ). bitXor x (shiftBits 8 (bitXor c b % 256))) (xor-shr c b 8 ∙ ap (bitXor (c / 256)) (div-eq-of-lt h) ∙ xor-zero-r (c / 256)))
-
-pub crcFrom-step : (c : ℕ) (s : List ℕ) (i : ℕ) → i < length s → crcFrom c (drop i s) ≡ crcFrom (shiftBits 8 (bitXor c (getD s i 0))) (drop (i + 1) s)
-unfolding crcFrom
-crcFrom-step c s i h = rw (add-one, drop-cons s i 0)

@@ -1,4 +1,4 @@
--- `crc32::le64` meets its contract.
+-- `crc32::le64` meets its contract: two halves.
 -- Assumes nothing.
 use Prim.Native.Nat.{_+_}
 use mathlib.Core.Path.{_≡_}
@@ -9,9 +9,9 @@ use Rattle.crc32.proofs.le64.Tie as tie
 
 returns : tie.Need-returns
 returns c =
-    let i = c .before .before .before .args .i in
+    let i = c .before .before .before .before .before .args .i in
     let e : i + 4 + 4 ≡ i + 8 = omega arith in
-    let q = rw e at (c .le322 .ensures .0) in
+    let q = rw e at (c .before .le322 .ensures .0) in
     (omega arith, omega arith)
 
 pub le64-spec : {M : Type 1} → statement M
@@ -19,7 +19,9 @@ le64-spec =
     tie.close
     (tie.spec
     (λ c κs. search needs)
+    (λ c κs. search needs)
     (λ c. search needs)
+    (λ c κs. search needs)
     (λ c κs. search needs)
     (λ c. search needs)
     (λ c. search needs)

@@ -1,18 +1,45 @@
--- `crc32::update` meets its contract: the constants are the tables, by computing.
+-- `crc32::update` meets its contract: so does each way, and two halves taken in one after the other are the whole.
 -- Assumes nothing.
-use Rattle.crc32.specs.Crc.{shiftBits, shiftBit}
-use Rattle.crc32.proofs.Eight.{rows, tables, tables-right}
+use Prim.Native.Nat.{ℕ, _-_, _/_}
+use mathlib.Core.Path.{sym, ap, _∙_}
+use native.Mathlib.Omega.{arith}
+use lib.ListN.{length, take, drop, length-take, length-drop, take-append-drop}
+use lib.Seq.{take-all}
 use borrow.Author.Needs.{needs}
+use Rattle.crc32.specs.Crc.{crcFrom}
+use Rattle.crc32.proofs.Linear.{crcFrom-append}
 use Rattle.crc32.proofs.update.Statement.{statement}
 use Rattle.crc32.proofs.update.Tie as tie
 
-chosen-requires : tie.Need-chosen-requires
-unfolding tables rows shiftBits shiftBit
-chosen-requires c κs = tables-right
+slice-aggregate-long : tie.Need-slice-aggregate-long
+slice-aggregate-long c = simp length-take (omega arith)
+
+long-requires-2 : tie.Need-long-requires-2
+long-requires-2 c κs = simp length-take (omega arith)
+
+returns-3 : tie.Need-returns-3
+returns-3 c =
+    let a = c .before .before .before .before .before .before .before .args in
+    let s = a .bytes .now in
+    let h = length s / 2 in
+    c .long3 .ensures
+    ∙ ap (λ (x : ℕ). crcFrom x (take (length s - h) (drop h s))) (c .before .before .long2 .ensures)
+    ∙ ap (crcFrom (crcFrom (a .state) (take h s))) (take-all (length s - h) (drop h s) (simp length-drop (omega arith)))
+    ∙ sym (crcFrom-append (a .state) (take h s) (drop h s))
+    ∙ ap (crcFrom (a .state)) (take-append-drop h s)
 
 pub update-spec : {M : Type 1} → statement M
 update-spec =
     tie.close
     (tie.spec
-    chosen-requires
-    (λ c. search needs))
+    (λ c κs. search needs)
+    (λ c. search needs)
+    (λ c κs. search needs)
+    (λ c. search needs)
+    slice-aggregate-long
+    long-requires-2
+    (λ c. search needs)
+    (λ c. search needs)
+    (λ c. search needs)
+    (λ c κs. search needs)
+    returns-3)
