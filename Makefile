@@ -33,7 +33,7 @@ help:
 	@echo 'make rust-test c-test     the command and the library from Rust; the library from C'
 	@echo 'make rust-lint doc        lints of the Rust code, its documentation'
 	@echo 'make test-large           the tests that keep images of 1 GiB in memory: minutes, 4 GiB'
-	@echo 'make bench                speed beside the plain Rust twin; BENCH_LARGE=1: images of 1 GiB too; BENCH=json: JSON texts alone'
+	@echo 'make bench                speed beside the plain Rust twin, zlib, libdeflate and OpenSSL, with plots; BENCH_LARGE=1: images of 1 GiB too; BENCH=json: JSON texts alone'
 	@echo 'make install PREFIX=dir   command, man page, C header, archive, pkg-config file'
 
 kit:
@@ -99,8 +99,13 @@ rust-lint:
 	cd rust && $(CARGO) fmt --check
 	cd rust && $(CARGO) clippy --release --all-targets $(CARGO_FLAGS) -- -D warnings
 
+# Tables on standard output and in target/bench/tables.md, plots in target/bench.
 bench: $(archive)
-	cd rust && BENCH_LARGE=$(BENCH_LARGE) $(CARGO) run --release $(CARGO_FLAGS) -p eif-bench -- $(BENCH)
+	@tests/need_library.sh zlib1g libz.so.1
+	@tests/need_library.sh libdeflate0 libdeflate.so.0
+	@mkdir -p target/bench
+	cd rust && $(CARGO) build --release $(CARGO_FLAGS) -p eif-bench
+	BENCH_PLOTS=target/bench BENCH_LARGE=$(BENCH_LARGE) rust/target/release/eif-bench $(BENCH) | tee target/bench/tables.md
 
 doc:
 	cd rust && RUSTDOCFLAGS="-D warnings" $(CARGO) doc --no-deps $(CARGO_FLAGS)

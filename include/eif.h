@@ -7,8 +7,8 @@
  * libraries it needs memcpy and memset alone.
  *
  * Every function takes any bytes and any numbers, returns, and keeps nothing between calls. Calls
- * from several threads do not disturb each other. A call takes at most EIF_STACK_KIB of stack and
- * no heap.
+ * from several threads do not disturb each other. A call takes at most EIF_STACK_KIB of stack, and no
+ * more than EIF_SHORT_STACK_KIB where it is handed EIF_SHORT_LENGTH bytes at most, and no heap.
  *
  * What a caller owes is what C cannot say in a type:
  *   - a pointer and its length describe bytes that stay as they are during the call, but for those
@@ -97,9 +97,12 @@ extern "C" {
 /* What first_ramdisk is where there is no ramdisk, and beside a refusal. */
 #define EIF_NO_RAMDISK 32
 
-/* The most stack that a call takes, in KiB (1,024 bytes): measured, not proved, and without what the
- * loader may take to find memcpy and memset at a first call. */
-#define EIF_STACK_KIB 12
+/* The most stack that a call takes, in KiB (1,024 bytes), and the most that it takes where no slice that it is
+ * handed is longer than EIF_SHORT_LENGTH bytes: measured, not proved, and without what the loader may take to
+ * find memcpy and memset at a first call. */
+#define EIF_STACK_KIB 24
+#define EIF_SHORT_STACK_KIB 12
+#define EIF_SHORT_LENGTH 4096
 
 /* Answer numbers (FORMAT.md, Answer numbers). eif_meaning gives their words. */
 enum eif_number {

@@ -1,6 +1,7 @@
 /*
- * How much stack each call takes, held to EIF_STACK_KIB. Each call runs on a stack of its own that was
- * filled with a pattern; what is left of the pattern was not used.
+ * How much stack each call takes: on an image of EIF_SHORT_LENGTH bytes at most held to EIF_SHORT_STACK_KIB, on
+ * a longer one to EIF_STACK_KIB. Each call runs on a stack of its own that was filled with a pattern; what is
+ * left of the pattern was not used.
  * Prints a line for each call and ends with status 0, or says which takes more and ends with status 1.
  */
 #define _XOPEN_SOURCE 700
@@ -10,21 +11,17 @@
 #include <string.h>
 #include <ucontext.h>
 
-enum {
-    STACK_LENGTH = 1 << 18,
-    PATTERN = 0xa5,
-    SECTIONS = EIF_MAX_SECTIONS,
-    PART = 64,
-    DATA_LENGTH = SECTIONS * PART
-};
+enum { STACK_LENGTH = 1 << 18, PATTERN = 0xa5, SECTIONS = EIF_MAX_SECTIONS, METADATA = 2 };
+enum { TEXT_LENGTH = 2 * EIF_MAX_JSON_DEPTH };
+enum { SHORT_SECTION = 40, LONG_SECTION = 4000, ROOM = 1 << 18 };
 
 static uint8_t stack[STACK_LENGTH];
 static ucontext_t here, there;
 
 static eif_plan plan;
-static uint8_t data[DATA_LENGTH], text[PART];
-static uint8_t image[4096], out[4096], roll[4096];
-static size_t image_length, roll_length;
+static uint8_t data[SECTIONS * LONG_SECTION], text[TEXT_LENGTH];
+static uint8_t image[ROOM], out[ROOM], roll[ROOM];
+static size_t data_length, image_length, roll_length;
 static eif_stream_position start;
 
 /* Answers stand here, so that only the call's own stack counts. */
@@ -54,7 +51,7 @@ static void call_arriving_feed(void) {
 }
 static void call_arriving_finish(void) { arrived = eif_arriving_finish(arriving_fed.state); }
 static void call_plan_length(void) { answer = eif_plan_length(plan); }
-static void call_write(void) { answer = eif_write(plan, data, sizeof data, out, sizeof out); }
+static void call_write(void) { answer = eif_write(plan, data, data_length, out, sizeof out); }
 static void call_whole_length(void) { answer = eif_whole_length(image, image_length); }
 static void call_boot_length(void) { answer = eif_boot_length(image, image_length); }
 static void call_app_length(void) { answer = eif_app_length(image, image_length); }
@@ -104,22 +101,25 @@ static size_t used(void (*function)(void)) {
     return sizeof stack - left;
 }
 
-/* The largest image in sections: kernel, command line, metadata and 29 ramdisks of 64 bytes each. The metadata
- * is the deepest JSON text. */
-static int prepare(void) {
-    memset(text, '[', PART / 2);
-    memset(text + PART / 2, ']', PART / 2);
+/* An image of as many sections as one can have: kernel, command line, metadata and ramdisks, each of so many
+ * bytes but the metadata, which is the deepest JSON text. */
+static int prepare(size_t section) {
+    memset(text, '[', TEXT_LENGTH / 2);
+    memset(text + TEXT_LENGTH / 2, ']', TEXT_LENGTH / 2);
     memset(data, 0x5a, sizeof data);
-    memcpy(data + 2 * PART, text, PART);
+    memcpy(data + METADATA * section, text, TEXT_LENGTH);
+    data_length = (SECTIONS - 1) * section + TEXT_LENGTH;
     memset(&claim, 0xff, sizeof claim);
     claim.algorithm = EIF_ES512;
     plan.version = 4;
     plan.count = SECTIONS;
     for (unsigned i = 0; i < SECTIONS; i++) {
-        plan.places[i].type = (uint16_t)(i < 2 ? i + 1 : i == 2 ? EIF_METADATA : EIF_RAMDISK);
-        plan.places[i].length.value = PART;
+        plan.places[i].type = (uint16_t)(i < METADATA ? i + 1 : EIF_RAMDISK);
+        plan.places[i].length.value = section;
     }
-    answer = eif_write(plan, data, sizeof data, image, sizeof image);
+    plan.places[METADATA].type = EIF_METADATA;
+    plan.places[METADATA].length.value = TEXT_LENGTH;
+    answer = eif_write(plan, data, data_length, image, sizeof image);
     image_length = (size_t)answer.length;
     if (answer.number != EIF_ACCEPTED) {
         return 0;
@@ -129,53 +129,62 @@ static int prepare(void) {
     return answer.number == EIF_ACCEPTED;
 }
 
-int main(void) {
-    static const struct {
-        const char *name;
-        void (*function)(void);
-    } calls[] = {
-        {"eif_read", call_read},
-        {"eif_read_strict", call_read_strict},
-        {"eif_json_check", call_json_check},
-        {"eif_arriving_begin", call_arriving_begin},
-        {"eif_arriving_feed", call_arriving_feed},
-        {"eif_arriving_finish", call_arriving_finish},
-        {"eif_plan_length", call_plan_length},
-        {"eif_write", call_write},
-        {"eif_whole_length", call_whole_length},
-        {"eif_boot_length", call_boot_length},
-        {"eif_app_length", call_app_length},
-        {"eif_copy_whole", call_copy_whole},
-        {"eif_copy_boot", call_copy_boot},
-        {"eif_copy_app", call_copy_app},
-        {"eif_app_sections", call_app_sections},
-        {"eif_boot_sections", call_boot_sections},
-        {"eif_whole_sections", call_whole_sections},
-        {"eif_copy_sections", call_copy_sections},
-        {"eif_registers", call_registers},
-        {"eif_sha384_begin", call_sha384_begin},
-        {"eif_sha384_update", call_sha384_update},
-        {"eif_sha384_finish", call_sha384_finish},
-        {"eif_roll_length", call_roll_length},
-        {"eif_roll_write", call_roll_write},
-        {"eif_roll_read", call_roll_read},
-        {"eif_sign1_write", call_sign1_write},
-        {"eif_sign1_read", call_sign1_read},
-    };
+static const struct {
+    const char *name;
+    void (*function)(void);
+} calls[] = {
+    {"eif_read", call_read},
+    {"eif_read_strict", call_read_strict},
+    {"eif_json_check", call_json_check},
+    {"eif_arriving_begin", call_arriving_begin},
+    {"eif_arriving_feed", call_arriving_feed},
+    {"eif_arriving_finish", call_arriving_finish},
+    {"eif_plan_length", call_plan_length},
+    {"eif_write", call_write},
+    {"eif_whole_length", call_whole_length},
+    {"eif_boot_length", call_boot_length},
+    {"eif_app_length", call_app_length},
+    {"eif_copy_whole", call_copy_whole},
+    {"eif_copy_boot", call_copy_boot},
+    {"eif_copy_app", call_copy_app},
+    {"eif_app_sections", call_app_sections},
+    {"eif_boot_sections", call_boot_sections},
+    {"eif_whole_sections", call_whole_sections},
+    {"eif_copy_sections", call_copy_sections},
+    {"eif_registers", call_registers},
+    {"eif_sha384_begin", call_sha384_begin},
+    {"eif_sha384_update", call_sha384_update},
+    {"eif_sha384_finish", call_sha384_finish},
+    {"eif_roll_length", call_roll_length},
+    {"eif_roll_write", call_roll_write},
+    {"eif_roll_read", call_roll_read},
+    {"eif_sign1_write", call_sign1_write},
+    {"eif_sign1_read", call_sign1_read},
+};
+
+/* Each call on an image of sections of so many bytes, within so many KiB. Answers how many take more. */
+static int try_calls(size_t section, size_t kib) {
     int failures = 0;
     size_t least = used(nothing);
-    if (!prepare()) {
+    if (!prepare(section)) {
         printf("stack: no image to try\n");
         return 1;
     }
+    printf("stack: an image of %zu bytes\n", image_length);
     for (size_t i = 0; i < sizeof calls / sizeof calls[0]; i++) {
         size_t bytes = used(calls[i].function) - least;
-        int fits = bytes <= (size_t)EIF_STACK_KIB * 1024;
+        int fits = bytes <= kib * 1024;
         printf("stack: %-20s %6zu bytes%s\n", calls[i].name, bytes, fits ? "" : ": too many");
         failures += !fits || reading.number != 0 || arrived.reading.number != 0 ||
                     roll_reading.number != 0 || answer.number != 0 || registers.number != 0 ||
-                    fed.number != 0 || sign1_reading.number != 0;
+                    fed.number != 0 || json.is_text != 1 || sign1_reading.number != 0;
     }
-    failures += json.is_text != 1;
+    return failures;
+}
+
+int main(void) {
+    int failures = try_calls(SHORT_SECTION, EIF_SHORT_STACK_KIB);
+    failures += image_length > EIF_SHORT_LENGTH;
+    failures += try_calls(LONG_SECTION, EIF_STACK_KIB);
     return failures != 0;
 }

@@ -1,17 +1,18 @@
--- The bit step of the checksum is linear over exclusive or, so eight steps are one look into a table of 256 entries.
+-- The bit step of the checksum keeps exclusive or, so steps go by parts of a number, and the checksum by parts of a byte string.
 -- Assumes nothing.
 use Prim.Native.Nat.{ℕ, zero, suc, _+_, _*_, _/_, _%_, _^_, _<_}
 use mathlib.Core.Path.{_≡_, refl, sym, ap, ap₂, _∙_}
 use mathlib.Core.List.{List, [], _∷_, _++_}
 use native.Mathlib.Omega.{arith}
-use native.Mathlib.Nat.{div-eq-of-lt, mod-lt, mul-one}
+use native.Mathlib.Nat.{div-eq-of-lt, zero-add, suc-add, mod-lt, mul-one}
 use lib.Pow.{pow-pos, split}
-use lib.Bits.{bitXor, differ, xor-shr, xor-zero-r, xor-shifted, shifted-half, shifted-even}
+use lib.Bits.{bitXor, differ, xor-shr, xor-zero-r, xor-comm, xor-shifted, shifted-half, shifted-even}
 use lib.ListN.{length, getD, drop}
 use lib.Seq.{drop-cons}
 use native.Mathlib.Numerals.{add-one}
+use Rattle.octets.specs.Bytes.{AreBytes, leValue}
 use Rattle.crc32.specs.Crc.{poly, shiftBit, shiftBits, crcFrom}
-use Rattle.crc32.proofs.Xor.{xor-swap, xor-half, xor-odd, bit-lt, too-big}
+use Rattle.crc32.proofs.Xor.{xor-assoc, xor-swap, xor-half, xor-odd, bit-lt, too-big}
 
 times-poly : (x y : ℕ) → x < 2 → y < 2 → differ x y * poly ≡ bitXor (x * poly) (y * poly)
 times-poly zero zero h g = refl
@@ -69,10 +70,22 @@ crcFrom-linear a b (x ∷ s) (y ∷ t) e =
     ap (λ (c : ℕ). crcFrom c (xorEach s t)) (ap (shiftBits 8) (xor-swap a b x y) ∙ shiftBits-linear 8 (bitXor a x) (bitXor b y))
     ∙ crcFrom-linear (shiftBits 8 (bitXor a x)) (shiftBits 8 (bitXor b y)) s t (omega arith)
 
--- a byte taken in through the table
-pub table-step : (c b : ℕ) → b < 256 → bitXor (c / 256) (shiftBits 8 (bitXor c b % 256)) ≡ shiftBits 8 (bitXor c b)
-table-step c b h = sym (shiftBits-split 8 (bitXor c b) ∙ ap (λ (x : ℕ). bitXor x (shiftBits 8 (bitXor c b % 256))) (xor-shr c b 8 ∙ ap (bitXor (c / 256)) (div-eq-of-lt h) ∙ xor-zero-r (c / 256)))
+pub shiftBits-add : (j k c : ℕ) → shiftBits k (shiftBits j c) ≡ shiftBits (j + k) c
+unfolding shiftBits
+shiftBits-add zero k c = ap (λ (n : ℕ). shiftBits n c) (sym (zero-add k))
+shiftBits-add (suc j) k c = shiftBits-add j k (shiftBit c) ∙ ap (λ (n : ℕ). shiftBits n c) (sym (suc-add j k))
 
-pub crcFrom-step : (c : ℕ) (s : List ℕ) (i : ℕ) → i < length s → crcFrom c (drop i s) ≡ crcFrom (shiftBits 8 (bitXor c (getD s i 0))) (drop (i + 1) s)
-unfolding crcFrom
-crcFrom-step c s i h = rw (add-one, drop-cons s i 0)
+-- bytes taken in: eight steps for each, on the remainder with their little-endian value
+pub crcFrom-value : (c : ℕ) (s : List ℕ) → AreBytes s → crcFrom c s ≡ shiftBits (8 * length s) (bitXor c (leValue s))
+unfolding crcFrom shiftBits
+crcFrom-value c [] w = sym (xor-zero-r c)
+crcFrom-value c (x ∷ xs) w =
+    let v : ℕ = leValue xs in
+    let e : bitXor (bitXor c x) (v * 2 ^ 8) ≡ bitXor c (x + 256 * v) =
+    xor-assoc c x (v * 2 ^ 8) ∙ ap (bitXor c) (xor-comm x (v * 2 ^ 8) ∙ xor-shifted v 8 x (w .0) ∙ omega arith) in
+    let n : 8 + 8 * length xs ≡ 8 * suc (length xs) = omega arith in
+    crcFrom-value (shiftBits 8 (bitXor c x)) xs (w .1)
+    ∙ ap (λ (y : ℕ). shiftBits (8 * length xs) (bitXor (shiftBits 8 (bitXor c x)) y)) (sym (shiftBits-high 8 v))
+    ∙ ap (shiftBits (8 * length xs)) (sym (shiftBits-linear 8 (bitXor c x) (v * 2 ^ 8)) ∙ ap (shiftBits 8) e)
+    ∙ shiftBits-add 8 (8 * length xs) (bitXor c (x + 256 * v))
+    ∙ ap (λ (k : ℕ). shiftBits k (bitXor c (x + 256 * v))) n

@@ -1,295 +1,341 @@
 // CRC-32 of IEEE 802.3, as in zlib and Ethernet: reflected, polynomial 0xEDB88320, start and final inversion all ones.
 //
 // `checksum` takes one slice. For bytes in several slices: `update` from START, slice by slice, and `finish` at the end.
+//
+// There is no table. The bits of a slice, first bit first, are a polynomial over the two elements 0 and 1, and sought is its remainder modulo
+// the polynomial P of the standard. P divides
+//
+//     f(x) = x^300 + x^155 + x^117 + x^89 + 1,
+//
+// so x^300 = x^155 + x^117 + x^89 + 1 modulo P: a bit can be taken away if the bits 145, 183, 211 and 300 places after it are inverted
+// where it was one, and the remainder stays. `short` does this with 64 bits at once, by shifts; what is to be added to the five words after
+// them is kept in five numbers.
+//
+// Since (a + b)^2 = a^2 + b^2 where 1 + 1 = 0, f(x)^2 = f(x^2), and P divides f(x^2), f(x^4) and so on to f(y) with y = x^64:
+// y^300 = y^155 + y^117 + y^89 + 1. So what holds of bits holds of words too: a word can be taken away if it is added, as it is, to the words
+// 145, 183, 211 and 300 places after it. `long` does this, without shifts, but with a window of 300 words, which pays for itself from some
+// KiB on.
+//
+// Either way five words are left at last, and a few bytes. They go by `steps32`, which makes 32 bit steps of the definition at once.
 ghost use mathlib.Core.Path.{_≡_};
+ghost use Prim.Native.Nat.{_<_, _≤_, _+_, _*_, _/_, _%_, _^_};
+ghost use lib.ListN.{length, drop};
 ghost use lib.Bits.{bitXor};
-ghost use Rattle.crc32.specs.Crc.{crcFrom, crc32, ones32};
+ghost use Rattle.octets.specs.Bytes.{leValue};
+ghost use Rattle.crc32.specs.Crc.{crcFrom, crc32, ones32, shiftBits};
+ghost use Rattle.crc32.specs.Fold.{taps, up, inverse, left, shr, spread, carried, mix, window, added, TakenIn, Words};
 
 const ONES: u32 = 0xFFFFFFFF;
 
 // The state before the first byte.
 pub const START: u32 = ONES;
 
-// What eight bit steps make of each byte.
-const TABLE: [u32; 256] = [
-    0x00000000,
-    0x77073096,
-    0xEE0E612C,
-    0x990951BA,
-    0x076DC419,
-    0x706AF48F,
-    0xE963A535,
-    0x9E6495A3,
-    0x0EDB8832,
-    0x79DCB8A4,
-    0xE0D5E91E,
-    0x97D2D988,
-    0x09B64C2B,
-    0x7EB17CBD,
-    0xE7B82D07,
-    0x90BF1D91,
-    0x1DB71064,
-    0x6AB020F2,
-    0xF3B97148,
-    0x84BE41DE,
-    0x1ADAD47D,
-    0x6DDDE4EB,
-    0xF4D4B551,
-    0x83D385C7,
-    0x136C9856,
-    0x646BA8C0,
-    0xFD62F97A,
-    0x8A65C9EC,
-    0x14015C4F,
-    0x63066CD9,
-    0xFA0F3D63,
-    0x8D080DF5,
-    0x3B6E20C8,
-    0x4C69105E,
-    0xD56041E4,
-    0xA2677172,
-    0x3C03E4D1,
-    0x4B04D447,
-    0xD20D85FD,
-    0xA50AB56B,
-    0x35B5A8FA,
-    0x42B2986C,
-    0xDBBBC9D6,
-    0xACBCF940,
-    0x32D86CE3,
-    0x45DF5C75,
-    0xDCD60DCF,
-    0xABD13D59,
-    0x26D930AC,
-    0x51DE003A,
-    0xC8D75180,
-    0xBFD06116,
-    0x21B4F4B5,
-    0x56B3C423,
-    0xCFBA9599,
-    0xB8BDA50F,
-    0x2802B89E,
-    0x5F058808,
-    0xC60CD9B2,
-    0xB10BE924,
-    0x2F6F7C87,
-    0x58684C11,
-    0xC1611DAB,
-    0xB6662D3D,
-    0x76DC4190,
-    0x01DB7106,
-    0x98D220BC,
-    0xEFD5102A,
-    0x71B18589,
-    0x06B6B51F,
-    0x9FBFE4A5,
-    0xE8B8D433,
-    0x7807C9A2,
-    0x0F00F934,
-    0x9609A88E,
-    0xE10E9818,
-    0x7F6A0DBB,
-    0x086D3D2D,
-    0x91646C97,
-    0xE6635C01,
-    0x6B6B51F4,
-    0x1C6C6162,
-    0x856530D8,
-    0xF262004E,
-    0x6C0695ED,
-    0x1B01A57B,
-    0x8208F4C1,
-    0xF50FC457,
-    0x65B0D9C6,
-    0x12B7E950,
-    0x8BBEB8EA,
-    0xFCB9887C,
-    0x62DD1DDF,
-    0x15DA2D49,
-    0x8CD37CF3,
-    0xFBD44C65,
-    0x4DB26158,
-    0x3AB551CE,
-    0xA3BC0074,
-    0xD4BB30E2,
-    0x4ADFA541,
-    0x3DD895D7,
-    0xA4D1C46D,
-    0xD3D6F4FB,
-    0x4369E96A,
-    0x346ED9FC,
-    0xAD678846,
-    0xDA60B8D0,
-    0x44042D73,
-    0x33031DE5,
-    0xAA0A4C5F,
-    0xDD0D7CC9,
-    0x5005713C,
-    0x270241AA,
-    0xBE0B1010,
-    0xC90C2086,
-    0x5768B525,
-    0x206F85B3,
-    0xB966D409,
-    0xCE61E49F,
-    0x5EDEF90E,
-    0x29D9C998,
-    0xB0D09822,
-    0xC7D7A8B4,
-    0x59B33D17,
-    0x2EB40D81,
-    0xB7BD5C3B,
-    0xC0BA6CAD,
-    0xEDB88320,
-    0x9ABFB3B6,
-    0x03B6E20C,
-    0x74B1D29A,
-    0xEAD54739,
-    0x9DD277AF,
-    0x04DB2615,
-    0x73DC1683,
-    0xE3630B12,
-    0x94643B84,
-    0x0D6D6A3E,
-    0x7A6A5AA8,
-    0xE40ECF0B,
-    0x9309FF9D,
-    0x0A00AE27,
-    0x7D079EB1,
-    0xF00F9344,
-    0x8708A3D2,
-    0x1E01F268,
-    0x6906C2FE,
-    0xF762575D,
-    0x806567CB,
-    0x196C3671,
-    0x6E6B06E7,
-    0xFED41B76,
-    0x89D32BE0,
-    0x10DA7A5A,
-    0x67DD4ACC,
-    0xF9B9DF6F,
-    0x8EBEEFF9,
-    0x17B7BE43,
-    0x60B08ED5,
-    0xD6D6A3E8,
-    0xA1D1937E,
-    0x38D8C2C4,
-    0x4FDFF252,
-    0xD1BB67F1,
-    0xA6BC5767,
-    0x3FB506DD,
-    0x48B2364B,
-    0xD80D2BDA,
-    0xAF0A1B4C,
-    0x36034AF6,
-    0x41047A60,
-    0xDF60EFC3,
-    0xA867DF55,
-    0x316E8EEF,
-    0x4669BE79,
-    0xCB61B38C,
-    0xBC66831A,
-    0x256FD2A0,
-    0x5268E236,
-    0xCC0C7795,
-    0xBB0B4703,
-    0x220216B9,
-    0x5505262F,
-    0xC5BA3BBE,
-    0xB2BD0B28,
-    0x2BB45A92,
-    0x5CB36A04,
-    0xC2D7FFA7,
-    0xB5D0CF31,
-    0x2CD99E8B,
-    0x5BDEAE1D,
-    0x9B64C2B0,
-    0xEC63F226,
-    0x756AA39C,
-    0x026D930A,
-    0x9C0906A9,
-    0xEB0E363F,
-    0x72076785,
-    0x05005713,
-    0x95BF4A82,
-    0xE2B87A14,
-    0x7BB12BAE,
-    0x0CB61B38,
-    0x92D28E9B,
-    0xE5D5BE0D,
-    0x7CDCEFB7,
-    0x0BDBDF21,
-    0x86D3D2D4,
-    0xF1D4E242,
-    0x68DDB3F8,
-    0x1FDA836E,
-    0x81BE16CD,
-    0xF6B9265B,
-    0x6FB077E1,
-    0x18B74777,
-    0x88085AE6,
-    0xFF0F6A70,
-    0x66063BCA,
-    0x11010B5C,
-    0x8F659EFF,
-    0xF862AE69,
-    0x616BFFD3,
-    0x166CCF45,
-    0xA00AE278,
-    0xD70DD2EE,
-    0x4E048354,
-    0x3903B3C2,
-    0xA7672661,
-    0xD06016F7,
-    0x4969474D,
-    0x3E6E77DB,
-    0xAED16A4A,
-    0xD9D65ADC,
-    0x40DF0B66,
-    0x37D83BF0,
-    0xA9BCAE53,
-    0xDEBB9EC5,
-    0x47B2CF7F,
-    0x30B5FFE9,
-    0xBDBDF21C,
-    0xCABAC28A,
-    0x53B39330,
-    0x24B4A3A6,
-    0xBAD03605,
-    0xCDD70693,
-    0x54DE5729,
-    0x23D967BF,
-    0xB3667A2E,
-    0xC4614AB8,
-    0x5D681B02,
-    0x2A6F2B94,
-    0xB40BBE37,
-    0xC30C8EA1,
-    0x5A05DF1B,
-    0x2D02EF8D,
-];
+// From this length on, the window of `long` pays for itself.
+const LONG: usize = 6144;
 
-fn wide(b: u8) -> u32
-    ensures { λ r. ⌜ r ≡ b ⌝ }
+// From this length on, a slice is taken in two halves.
+const HALVED: usize = 16777216;
+
+// ---- numbers
+
+fn wide8(x: u8) -> u32
+    ensures { λ r. ⌜ (r ≡ x) × (r < 256) ⌝ }
 {
-    b as u32
+    x as u32
 }
+
+fn wide32(x: u32) -> u64
+    ensures { λ r. ⌜ (r ≡ x) × (r < 2 ^ 32) ⌝ }
+{
+    x as u64
+}
+
+fn low32(x: u64) -> u32
+    ensures { λ r. ⌜ r ≡ x % 2 ^ 32 ⌝ }
+{
+    (x % 0x100000000) as u32
+}
+
+fn high32(x: u64) -> u32
+    ensures { λ r. ⌜ r ≡ x / 2 ^ 32 ⌝ }
+{
+    (x >> 32) as u32
+}
+
+// The number of the bytes at i, lowest first. In a straight line, which compiles to one load.
+fn le16(s: &[u8], i: usize) -> u32
+    requires { ⌜ i + 2 ≤ length (now s) ⌝ }
+    ensures { λ r. ⌜ (leValue (drop i (now (s .entry))) ≡ r + 2 ^ 16 * leValue (drop (i + 2) (now (s .entry)))) × (r < 2 ^ 16) ⌝ }
+{
+    wide8(s[i]) + wide8(s[i + 1]) * 0x100
+}
+
+fn le32(s: &[u8], i: usize) -> u32
+    requires { ⌜ i + 4 ≤ length (now s) ⌝ }
+    ensures { λ r. ⌜ (leValue (drop i (now (s .entry))) ≡ r + 2 ^ 32 * leValue (drop (i + 4) (now (s .entry)))) × (r < 2 ^ 32) ⌝ }
+{
+    le16(s, i) + le16(s, i + 2) * 0x10000
+}
+
+fn le64(s: &[u8], i: usize) -> u64
+    requires { ⌜ i + 8 ≤ length (now s) ⌝ }
+    ensures { λ r. ⌜ (leValue (drop i (now (s .entry))) ≡ r + 2 ^ 64 * leValue (drop (i + 8) (now (s .entry)))) × (r < 2 ^ 64) ⌝ }
+{
+    wide32(le32(s, i)) + wide32(le32(s, i + 4)) * 0x100000000
+}
+
+// ---- bit steps, without a table
+//
+// A step takes the lowest bit off a number, and adds the polynomial where that bit was one. So 32 steps take 32 bits off and add the
+// polynomial times q, whose bits are those that fell out, and all 32 low bits of x + q * (1 + 2 * 0xEDB88320) are zero: q is x times the
+// inverse of 1 + 2 * 0xEDB88320 modulo x^32, 0xF7011641.
+
+// The bits that fall out in 32 steps.
+fn quotient(x: u32) -> u32
+    ensures { λ r. ⌜ r ≡ taps up inverse x ⌝ }
+{
+    x
+        ^ (x << 6)
+        ^ (x << 9)
+        ^ (x << 10)
+        ^ (x << 12)
+        ^ (x << 16)
+        ^ (x << 24)
+        ^ (x << 25)
+        ^ (x << 26)
+        ^ (x << 28)
+        ^ (x << 29)
+        ^ (x << 30)
+        ^ (x << 31)
+}
+
+// 32 bit steps: the shifts are the powers in the standard's polynomial.
+fn steps32(x: u32) -> u32
+    ensures { λ r. ⌜ r ≡ shiftBits 32 x ⌝ }
+{
+    let q = quotient(x);
+    q
+        ^ (q >> 1)
+        ^ (q >> 2)
+        ^ (q >> 4)
+        ^ (q >> 5)
+        ^ (q >> 7)
+        ^ (q >> 8)
+        ^ (q >> 10)
+        ^ (q >> 11)
+        ^ (q >> 12)
+        ^ (q >> 16)
+        ^ (q >> 22)
+        ^ (q >> 23)
+        ^ (q >> 26)
+}
+
+fn steps64(x: u64) -> u32
+    ensures { λ r. ⌜ r ≡ shiftBits 64 x ⌝ }
+{
+    steps32(high32(x) ^ steps32(low32(x)))
+}
+
+fn steps8(x: u32) -> u32
+    ensures { λ r. ⌜ r ≡ shiftBits 8 x ⌝ }
+{
+    (x >> 8) ^ steps32(x << 24)
+}
+
+// What is left from a position on, four bytes at a time and then byte by byte.
+fn tail(state: u32, s: &[u8], from: usize) -> u32
+    requires { ⌜ from ≤ length (now s) ⌝ }
+    ensures { λ r. ⌜ r ≡ left (now (s .entry)) from state ⌝ }
+{
+    let mut c = state;
+    let mut i = from;
+    while 4 <= s.len() - i {
+        c = steps32(c ^ le32(s, i));
+        i += 4;
+    }
+    while i < s.len() {
+        c = steps8(c ^ wide8(s[i]));
+        i += 1;
+    }
+    c
+}
+
+// ---- a short slice: bits are folded
+
+// What the words that were taken away add to the five words after them.
+struct Carry {
+    a: u64,
+    b: u64,
+    c: u64,
+    d: u64,
+    e: u64,
+}
+
+// One word further: the word, with what was added to it, is taken away.
+fn fold_bits(n: Carry, word: u64) -> Carry
+    ensures { λ r. ⌜ carried r ≡ bitXor (shr 64 (carried n)) (spread 1 236 (bitXor (n .a) word)) ⌝ }
+{
+    let w = n.a ^ word;
+    Carry {
+        a: n.b,
+        b: n.c ^ ((w << 55) ^ (w << 17)),
+        c: n.d ^ (((w << 19) ^ (w >> 9)) ^ (w >> 47)),
+        d: n.e ^ ((w << 44) ^ (w >> 45)),
+        e: w >> 20,
+    }
+}
+
+// One word taken in, with what was added to it.
+fn take_in(state: u32, more: u64, s: &[u8], i: usize) -> u32
+    requires { ⌜ i + 8 ≤ length (now s) ⌝ }
+    ensures { λ r. ⌜ TakenIn (now (s .entry)) i state more r ⌝ }
+{
+    steps64(wide32(state) ^ (more ^ le64(s, i)))
+}
+
+// The last five words.
+fn last_words(n: Carry, s: &[u8], i: usize) -> u32
+    requires { ⌜ i + 40 ≤ length (now s) ⌝ }
+    ensures { λ r. ⌜ left (now (s .entry)) (i + 40) r ≡ left (now (s .entry)) i (carried n) ⌝ }
+{
+    let a = take_in(0, n.a, s, i);
+    let b = take_in(a, n.b, s, i + 8);
+    let c = take_in(b, n.c, s, i + 16);
+    let d = take_in(c, n.d, s, i + 24);
+    take_in(d, n.e, s, i + 32)
+}
+
+// What is left from a position on, and what is added to it.
+fn rest(first: Carry, s: &[u8], from: usize) -> u32
+    requires { ⌜ (from + 40 ≤ length (now s)) × (first .a < 2 ^ 64) ⌝ }
+    ensures { λ r. ⌜ r ≡ left (now (s .entry)) from (carried first) ⌝ }
+{
+    let mut n = first;
+    let mut i = from;
+    while 48 <= s.len() - i {
+        let next = fold_bits(n, le64(s, i));
+        n = next;
+        i += 8;
+    }
+    let c = last_words(n, s, i);
+    tail(c, s, i + 40)
+}
+
+fn short(state: u32, s: &[u8]) -> u32
+    ensures { λ r. ⌜ r ≡ crcFrom state (now (s .entry)) ⌝ }
+{
+    if s.len() < 40 {
+        return tail(state, s, 0);
+    }
+    let first = Carry {
+        a: wide32(state),
+        b: 0,
+        c: 0,
+        d: 0,
+        e: 0,
+    };
+    rest(first, s, 0)
+}
+
+// ---- a long slice: words are folded
+
+// What the words taken away, of which v has the last 300 from j on, add to the next word.
+fn added_to(v: &[u64; 1324], j: usize) -> u64
+    requires { ⌜ j < 1024 ⌝ }
+    ensures { λ r. ⌜ r ≡ added (now (v .entry)) j ⌝ }
+{
+    v[j] ^ v[j + 89] ^ v[j + 117] ^ v[j + 155]
+}
+
+// n words from a position on are taken away.
+fn fold_words(s: &[u8], at: usize, n: usize, v: &mut [u64; 1324])
+    requires { ⌜ (at + n * 8 + 2400 ≤ length (now s)) × (n ≤ 1024) × Words (now v) ⌝ }
+    ensures { λ r. ⌜ (left (now (s .entry)) (at + n * 8) (mix 64 (window (now (v .exit)) n)) ≡ left (now (s .entry)) at (mix 64 (window (now (v .entry)) 0))) × Words (now (v .exit)) ⌝ }
+{
+    let mut j = 0;
+    while j < n {
+        let w = added_to(v, j) ^ le64(s, at + j * 8);
+        v[j + 300] = w;
+        j += 1;
+    }
+}
+
+// The window back to the front.
+fn move_back(n: usize, v: &mut [u64; 1324])
+    requires { ⌜ (1 ≤ n) × (n ≤ 1024) × Words (now v) ⌝ }
+    ensures { λ r. ⌜ (window (now (v .exit)) 0 ≡ window (now (v .entry)) n) × Words (now (v .exit)) ⌝ }
+{
+    let mut j = 0;
+    while j < 300 {
+        v[j] = v[j + n];
+        j += 1;
+    }
+}
+
+// The words under the window, folded as bits, until the window is empty.
+fn empty(s: &[u8], at: usize, v: &mut [u64; 1324]) -> Carry
+    requires { ⌜ (at + 2440 ≤ length (now s)) × Words (now v) ⌝ }
+    ensures { λ r. ⌜ (left (now (s .entry)) (at + 2400) (carried r) ≡ left (now (s .entry)) at (mix 64 (window (now (v .entry)) 0))) × (r .a < 2 ^ 64) ⌝ }
+{
+    let mut n = Carry {
+        a: 0,
+        b: 0,
+        c: 0,
+        d: 0,
+        e: 0,
+    };
+    let mut j = 0;
+    while j < 300 {
+        let w = added_to(v, j) ^ le64(s, at + j * 8);
+        v[j + 300] = 0;
+        let next = fold_bits(n, w);
+        n = next;
+        j += 1;
+    }
+    n
+}
+
+fn at_most_1024(n: usize) -> usize
+    requires { ⌜ 1 ≤ n ⌝ }
+    ensures { λ r. ⌜ (1 ≤ r) × (r ≤ n) × (r ≤ 1024) ⌝ }
+{
+    if n < 1024 { n } else { 1024 }
+}
+
+fn long(state: u32, s: &[u8]) -> u32
+    requires { ⌜ 2440 ≤ length (now s) ⌝ }
+    ensures { λ r. ⌜ r ≡ crcFrom state (now (s .entry)) ⌝ }
+{
+    let mut v = [0u64; 1324];
+    v[0] = wide32(state);
+    let mut i = 0;
+    while 2448 <= s.len() - i {
+        let n = at_most_1024((s.len() - i - 2440) / 8);
+        fold_words(s, i, n, &mut v);
+        move_back(n, &mut v);
+        i += n * 8;
+    }
+    let n = empty(s, i, &mut v);
+    rest(n, s, i + 2400)
+}
+
+// ---- any slice
 
 // The state after the bytes, from the state before them.
 pub fn update(state: u32, bytes: &[u8]) -> u32
     ensures { λ r. ⌜ r ≡ crcFrom state (now (bytes .entry)) ⌝ }
 {
-    // A copy: an index into the constant itself would build the table anew for each byte.
-    let table = TABLE;
-    let mut c = state;
-    let mut i: usize = 0;
-    while i < bytes.len() {
-        let low = ((c ^ wide(bytes[i])) % 256) as usize;
-        c = (c >> 8) ^ table[low];
-        i += 1;
+    if bytes.len() < LONG {
+        return short(state, bytes);
     }
-    c
+    if bytes.len() < HALVED {
+        return long(state, bytes);
+    }
+    // A compiler puts a function that is called once into its caller: then each call, of a short slice too, would take the stack of the
+    // window. So `long` is called more than once.
+    let half = bytes.len() / 2;
+    let before = long(state, &bytes[..half]);
+    long(before, &bytes[half..])
 }
 
 // The checksum of all bytes that were taken in.

@@ -24,4 +24,5 @@ fn main() {
     show(b"one-zero-byte", b"\0");
     show(b"123456789", b"123456789");
     show(b"every-byte-value", &every_value());
+    show(b"32768-zero-bytes", &[0u8; 32768]);
 }

@@ -3,7 +3,7 @@
 use crate::sample::{bytes, Sample};
 use crate::scratch::Scratch;
 use crate::table::row;
-use crate::timing::{compare, medians};
+use crate::timing::{compare, times, Time};
 use eif::{Digest, Sha384, Stream};
 use eif_twin as twin;
 use std::fs::File;
@@ -55,7 +55,7 @@ pub fn registers_beside_parts(length: usize) {
     let image = Sample::new(length).image;
     let streams = [Stream::Whole, Stream::App];
     let streams = streams.map(|stream| eif::stream_to_vec(&image, stream).expect("accepted"));
-    let [registers, read, hashed] = medians([
+    let [registers, read, hashed] = times([
         &mut || eif::registers(black_box(&image)).map_or(0, |r| first_word(&r.0[2].0)),
         &mut || eif::read(black_box(&image)).map_or(0, |image| image.sections().len()),
         &mut || {
@@ -65,7 +65,16 @@ pub fn registers_beside_parts(length: usize) {
                 .fold(0, usize::wrapping_add)
         },
     ]);
-    row("registers", length, (registers, read + hashed));
+    row("registers", length, (registers, together(read, hashed)));
+}
+
+/// The time of two calls.
+fn together(one: Time, other: Time) -> Time {
+    Time {
+        low: one.low + other.low,
+        median: one.median + other.median,
+        high: one.high + other.high,
+    }
 }
 
 fn file_digest(file: &Path) -> io::Result<Digest> {
@@ -80,12 +89,18 @@ fn file_digest(file: &Path) -> io::Result<Digest> {
     }
 }
 
+/// What OpenSSL keeps from using of the processor: all that its code for SHA-384 could use but plain
+/// 64-bit words. The variable is OpenSSL's own.
+const NO_SIMD: (&str, &str) = ("OPENSSL_ia32cap", "0x0:0x0");
+
 /// What `openssl dgst -sha384` prints of a file, its digest in hexadecimal at the end.
-fn openssl(file: &Path) -> io::Result<String> {
-    let output = Command::new("openssl")
-        .args(["dgst", "-sha384"])
-        .arg(file)
-        .output()?;
+fn openssl(file: &Path, simd: bool) -> io::Result<String> {
+    let mut command = Command::new("openssl");
+    command.args(["dgst", "-sha384"]).arg(file);
+    if !simd {
+        command.env(NO_SIMD.0, NO_SIMD.1);
+    }
+    let output = command.output()?;
     if !output.status.success() {
         return Err(io::Error::other("openssl dgst failed"));
     }
@@ -94,21 +109,32 @@ fn openssl(file: &Path) -> io::Result<String> {
         .to_string())
 }
 
-/// The digest of a file of `length` bytes beside OpenSSL's, whose time on an empty file is taken off.
+/// The digest of a file of `length` bytes beside OpenSSL's, with SIMD instructions and without.
 pub fn file(length: usize) -> io::Result<()> {
     let empty = Scratch::new("empty", &[])?;
     let full = Scratch::new("full", &bytes(length))?;
-    let said = openssl(full.path())?;
+    let said = openssl(full.path(), false)?;
     let digest = file_digest(full.path())?.to_string();
     assert!(
         said.ends_with(&digest),
         "OpenSSL says {said}, the library {digest}"
     );
-    let [library, start, whole] = medians([
+    let call = |file: &Path, simd| openssl(file, simd).map_or(0, |said| said.len());
+    let [library, start, plain, simd] = times([
         &mut || file_digest(full.path()).map_or(0, |digest| first_word(&digest.0)),
-        &mut || openssl(empty.path()).map_or(0, |said| said.len()),
-        &mut || openssl(full.path()).map_or(0, |said| said.len()),
+        &mut || call(empty.path(), false),
+        &mut || call(full.path(), false),
+        &mut || call(full.path(), true),
     ]);
-    row("SHA-384 of a file", length, (library, whole - start));
+    row(
+        "SHA-384 of a file, OpenSSL without SIMD",
+        length,
+        (library, plain.less(start)),
+    );
+    row(
+        "SHA-384 of a file, OpenSSL as it comes",
+        length,
+        (library, simd.less(start)),
+    );
     Ok(())
 }

@@ -2,7 +2,7 @@
 
 use crate::scratch::Scratch;
 use crate::table::row;
-use crate::timing::{compare, medians};
+use crate::timing::{compare, times};
 use eif_twin as twin;
 use std::hint::black_box;
 use std::path::Path;
@@ -94,11 +94,11 @@ pub fn beside_program(program: &str, words: &[&str], length: usize) -> io::Resul
         return Err(io::Error::other("it does not accept a JSON text"));
     }
     let check = || fs::read(full.path()).map(|text| usize::from(eif::json::check(&text).is_ok()));
-    let [library, start, whole] = medians([
+    let [library, start, whole] = times([
         &mut || check().unwrap_or(0),
         &mut || usize::from(accepts(&small).unwrap_or(false)),
         &mut || usize::from(accepts(&full).unwrap_or(false)),
     ]);
-    row("JSON file, records", length, (library, whole - start));
+    row("JSON file, records", length, (library, whole.less(start)));
     Ok(())
 }

@@ -1,23 +1,25 @@
-//! The speed of the proved library beside the twin's and, for SHA-384, OpenSSL's, and for JSON texts that of
-//! common programs, as tables in Markdown.
+//! The speed of the proved library beside the twin's, and beside zlib, libdeflate, OpenSSL and, for JSON texts,
+//! common programs where the machine has them: tables in Markdown, and plots.
 //!
-//! All are called on the same inputs in one run, in turn, and the one that goes first changes from
-//! round to round. A time is the median over the rounds. The word `json` on the command line measures JSON
-//! texts alone.
+//! All that stand in one row are called on the same inputs in one run, in turn, and the one that goes first
+//! changes from round to round. The word `json` on the command line measures JSON texts alone.
 
 mod arriving;
+mod foreign;
 mod hashing;
 mod images;
 mod json;
 mod pieces;
+mod plot;
+mod reading;
 mod sample;
 mod scratch;
 mod table;
 mod timing;
 
-use std::env;
-use std::fs;
+use std::path::PathBuf;
 use std::process::Command;
+use std::{env, fs, io};
 
 /// The machine, as the kernel describes it.
 fn machine() -> String {
@@ -28,62 +30,83 @@ fn machine() -> String {
         value.map_or("unknown", |(_, value)| value.trim())
     };
     let processors = text.lines().filter(|line| line.starts_with("processor"));
+    let load = fs::read_to_string("/proc/loadavg").unwrap_or_default();
     format!(
-        "{} (family {}, model {}), {} processors, {} MHz, cache {}",
+        "{} (family {}, model {}), {} processors, {} MHz, cache {}; load average at the start {}",
         field("model name"),
         field("cpu family"),
         field("model\t"),
         processors.count(),
         field("cpu MHz"),
         field("cache size"),
+        load.split(' ').next().unwrap_or("unknown"),
     )
 }
 
+const KIB: usize = 1 << 10;
 const MIB: usize = 1 << 20;
 
-/// The lengths of the images: to 64 MiB and, where BENCH_LARGE is set, the longest, which takes minutes and
-/// 6 GiB.
-fn lengths() -> Vec<usize> {
+/// The smallest image that is accepted: a header and two empty sections.
+const SMALLEST: usize = 572;
+
+/// The longest image where BENCH_LARGE is set, which takes minutes and 6 GiB.
+fn longest() -> Option<usize> {
     let large = env::var_os("BENCH_LARGE").is_some_and(|value| !value.is_empty());
-    let longest = large.then_some(eif::MAX_IMAGE_LENGTH);
-    [MIB, 16 * MIB, 64 * MIB]
-        .into_iter()
-        .chain(longest)
-        .collect()
+    large.then_some(eif::MAX_IMAGE_LENGTH)
 }
 
-fn main() {
+/// The lengths of the images that every call is measured on.
+fn lengths() -> Vec<usize> {
+    let usual = [MIB, 16 * MIB, 64 * MIB].into_iter();
+    usual.chain(longest()).collect()
+}
+
+/// The lengths of the images that are read.
+fn reading_lengths() -> Vec<usize> {
+    let short = [
+        SMALLEST,
+        KIB,
+        2 * KIB,
+        4 * KIB,
+        16 * KIB,
+        64 * KIB,
+        256 * KIB,
+    ];
+    let long = [MIB, 4 * MIB, 16 * MIB, 64 * MIB];
+    short.into_iter().chain(long).chain(longest()).collect()
+}
+
+fn main() -> io::Result<()> {
+    let folder = PathBuf::from(env::var_os("BENCH_PLOTS").unwrap_or_else(|| ".".into()));
+    fs::create_dir_all(&folder)?;
     println!("Machine: {}.", machine());
     if env::args().any(|word| word == "json") {
         texts_beside_twin();
         texts_beside_programs();
-        return;
+        return Ok(());
     }
     println!();
     println!(
-        "Library and twin in one run, in turn, {} rounds, {} where a call takes longer than half a \
-         second, both built for release; times are medians. The twin computes the checksum by a table of 256 entries, SHA-384 by the \
-         standard's loops, and for the registers hashes all three streams. Each has an output \
-         buffer of its own, which its first, untimed call fills and which is not cleared between \
-         calls; inputs are the same bytes in the same place.",
+        "{} rounds, {} where a call takes longer than half a second; all built for release. A time is the median over the rounds, and \
+         behind it stand, in per cent of it, how far the quartiles lie from it. The twin computes the checksum by a table of 256 entries, \
+         SHA-384 by the standard's loops, and for the registers hashes all three streams. Each has an output buffer of its own, which its \
+         first, untimed call fills and which is not cleared between calls; inputs are the same bytes in the same place, in the caches as \
+         the call before left them.",
         timing::ROUNDS,
         timing::FEW_ROUNDS,
     );
-    table::head("twin");
-    for length in lengths() {
-        images::measure(length);
-        pieces::beside_twin(length);
-        hashing::registers(length);
-    }
-    for length in [MIB, 64 * MIB] {
-        hashing::memory(length);
-    }
-    arriving_beside_whole();
+    println!();
+    println!("Reading an image, beside the checksum alone of other libraries over as many bytes.");
+    reading::by_length(&reading_lengths(), &folder)?;
+    arriving_in_pieces();
+    copying();
+    hashing_beside_twin();
     pieces_beside_rereading();
     registers_beside_parts();
     files_beside_openssl();
     texts_beside_twin();
     texts_beside_programs();
+    Ok(())
 }
 
 fn texts_beside_twin() {
@@ -113,15 +136,45 @@ fn texts_beside_programs() {
     }
 }
 
-fn arriving_beside_whole() {
+fn arriving_in_pieces() {
     println!();
     println!(
-        "An image that arrives in pieces, beside the library's whole reader on the same bytes. \
-         Each piece is handed over where it lies; none is copied."
+        "An image that arrives in pieces, beside whole readers on the same bytes. Each piece is handed over \
+         where it lies; none is copied."
     );
-    table::head("whole");
+    arriving::head();
     for length in lengths() {
-        arriving::beside_whole(length);
+        arriving::measure(length);
+    }
+}
+
+fn copying() {
+    println!();
+    println!(
+        "Calls that read an image, or take its checksum, and copy. Without the reading is the call's time \
+         less that of reading the image, and stands beside a plain copy (`copy_from_slice`) of as many bytes."
+    );
+    images::head();
+    for length in lengths() {
+        images::measure(length);
+    }
+    table::head("plain copy");
+    for length in lengths() {
+        images::copy_alone(length);
+    }
+}
+
+fn hashing_beside_twin() {
+    println!();
+    println!("Registers, SHA-384, streams by pieces from one reading, and rolls, beside the twin.");
+    table::head("twin");
+    for length in lengths() {
+        hashing::registers(length);
+        pieces::beside_twin(length);
+        images::roll(length);
+    }
+    for length in [MIB, 64 * MIB] {
+        hashing::memory(length);
     }
 }
 

@@ -3,7 +3,7 @@
 
 use crate::sample::Sample;
 use crate::table::row;
-use crate::timing::{compare, medians_of};
+use crate::timing::{compare, times_of};
 use eif::{Stream, StreamPosition};
 use eif_twin as twin;
 use std::hint::black_box;
@@ -60,7 +60,7 @@ pub fn beside_twin(length: usize) {
 pub fn beside_rereading(length: usize) {
     let image = Sample::new(length).image;
     assert_eq!(from_one_reading(&image), from_a_reading_each(&image));
-    let [once, each] = medians_of(
+    let [once, each] = times_of(
         ROUNDS,
         [&mut || from_one_reading(&image), &mut || {
             from_a_reading_each(&image)

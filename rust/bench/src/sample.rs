@@ -4,7 +4,23 @@ use eif::{DataLength, Place, SectionType};
 use eif_cases::{Layout, Section, HEADER, SECTION_HEADER};
 use eif_twin as twin;
 
+/// Kernel, command line, metadata and four ramdisks; kernel and command line where there is no room for more.
 const TYPES: [u16; 7] = [1, 2, 5, 3, 3, 3, 3];
+const FEW_TYPES: [u16; 2] = [1, 2];
+const ROOM: usize = 4096;
+
+/// The version, the types and the lengths of the data of an image of `length` bytes.
+fn shape(length: usize) -> (u16, &'static [u16], Vec<usize>) {
+    if length < ROOM {
+        let total = length - HEADER - FEW_TYPES.len() * SECTION_HEADER;
+        return (2, &FEW_TYPES, vec![total - total / 8, total / 8]);
+    }
+    // The command line and the metadata are short, and the rest is shared out.
+    let rest = length - HEADER - TYPES.len() * SECTION_HEADER - 1000;
+    let share = rest / 5;
+    let last = rest - 4 * share;
+    (4, &TYPES, vec![share, 200, 800, share, share, share, last])
+}
 
 /// One image and all that is made of it.
 pub struct Sample {
@@ -16,44 +32,32 @@ pub struct Sample {
 }
 
 impl Sample {
-    /// A plain image of exactly `length` bytes: kernel, command line, metadata and four ramdisks.
+    /// A plain image of exactly `length` bytes.
     pub fn new(length: usize) -> Self {
-        let total = length - HEADER - TYPES.len() * SECTION_HEADER;
-        let data = bytes(total);
-        // The command line and the metadata are short, and the rest is shared out.
-        let share = (total - 1000) / 5;
-        let lengths = [
-            share,
-            200,
-            800,
-            share,
-            share,
-            share,
-            total - 1000 - 4 * share,
-        ];
+        let (version, types, lengths) = shape(length);
+        let data = bytes(lengths.iter().sum());
         let mut rest = &data[..];
-        let sections = TYPES.iter().zip(lengths).map(|(&kind, length)| {
+        let sections = types.iter().zip(&lengths).map(|(&kind, &length)| {
             let (section, others) = rest.split_at(length);
             rest = others;
             Section::new(kind, section)
         });
-        let image = Layout::new(4, sections.collect()).image();
+        let image = Layout::new(version, sections.collect()).image();
         assert_eq!(image.len(), length);
 
         let mut roll = vec![0; length];
         let roll_length = twin::write_roll(&image, &mut roll).expect("an accepted image");
         roll.truncate(roll_length);
-        let places = TYPES.iter().zip(lengths);
-        let place = |(&kind, length): (&u16, usize)| {
+        let place = |(&kind, &length): (&u16, &usize)| {
             Place::new(SectionType(kind), DataLength(length as u64))
         };
         let plan = eif::Plan {
-            version: 4,
-            places: places.map(place).collect(),
+            version,
+            places: types.iter().zip(&lengths).map(place).collect(),
             ..eif::Plan::default()
         };
         let mut twin_places = [twin::Place::default(); 32];
-        for (place, (&kind, length)) in twin_places.iter_mut().zip(TYPES.iter().zip(lengths)) {
+        for (place, (&kind, &length)) in twin_places.iter_mut().zip(types.iter().zip(&lengths)) {
             *place = twin::Place {
                 kind,
                 flags: 0,
@@ -61,11 +65,11 @@ impl Sample {
             };
         }
         let twin_plan = twin::Plan {
-            version: 4,
+            version,
             flags: 0,
             default_mem: 0,
             default_cpus: 0,
-            count: TYPES.len() as u16,
+            count: types.len() as u16,
             places: twin_places,
         };
         Sample {

@@ -1,6 +1,9 @@
 //! Rows of a table in Markdown.
 
-fn show(seconds: f64) -> String {
+use crate::timing::Time;
+
+/// A time.
+pub fn seconds(seconds: f64) -> String {
     match seconds {
         s if s >= 1e-3 => format!("{:.2} ms", s * 1e3),
         s if s >= 1e-6 => format!("{:.2} µs", s * 1e6),
@@ -8,20 +11,68 @@ fn show(seconds: f64) -> String {
     }
 }
 
-/// A row: what was measured on how many bytes, the library's seconds, those beside it, and the ratio.
-pub fn row(call: &str, bytes: usize, (library, other): (f64, f64)) {
-    let ratio = library / other;
-    let digits = if (0.0..0.1).contains(&ratio) { 4 } else { 2 };
-    println!(
-        "| {call} | {bytes} | {} | {} | {ratio:.digits$} |",
-        show(library),
-        show(other),
-    );
+/// A median, and how far the quartiles lie from it in per cent of it.
+pub fn cell(time: Time) -> String {
+    let per_cent = |seconds: f64| (seconds / time.median - 1.0) * 100.0;
+    format!(
+        "{} ({:+.0} {:+.0})",
+        seconds(time.median),
+        per_cent(time.low),
+        per_cent(time.high)
+    )
+}
+
+/// A ratio with as many digits as tell something.
+pub fn ratio(one: f64, other: f64) -> String {
+    let ratio = one / other;
+    let digits = match ratio {
+        r if r >= 10.0 => 1,
+        r if r >= 0.1 => 2,
+        _ => 4,
+    };
+    format!("{ratio:.digits$}")
+}
+
+/// A length as people say it.
+pub fn length(bytes: usize) -> String {
+    match bytes {
+        b if b >= 1 << 30 && b % (1 << 30) == 0 => format!("{} GiB", b >> 30),
+        b if b >= 1 << 20 && b % (1 << 20) == 0 => format!("{} MiB", b >> 20),
+        b if b >= 1 << 10 && b % (1 << 10) == 0 => format!("{} KiB", b >> 10),
+        b => b.to_string(),
+    }
+}
+
+/// A line of a table.
+pub fn line(cells: &[String]) {
+    println!("| {} |", cells.join(" | "));
+}
+
+/// The head of a table.
+pub fn columns(names: &[&str]) {
+    println!();
+    println!("| {} |", names.join(" | "));
+    println!("|{}", "---|".repeat(names.len()));
+}
+
+/// A row: what was measured on how many bytes, the library's time, the time beside it, and the ratio.
+pub fn row(call: &str, bytes: usize, (library, other): (Time, Time)) {
+    line(&[
+        call.to_string(),
+        length(bytes),
+        cell(library),
+        cell(other),
+        ratio(library.median, other.median),
+    ]);
 }
 
 /// The head of a table whose rows are those of [`row`].
 pub fn head(other: &str) {
-    println!();
-    println!("| call | bytes | library | {other} | library / {other} |");
-    println!("|---|---|---|---|---|");
+    columns(&[
+        "call",
+        "bytes",
+        "library",
+        other,
+        &format!("library / {other}"),
+    ]);
 }

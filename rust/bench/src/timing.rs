@@ -15,6 +15,35 @@ const ROUND_TIME: Duration = Duration::from_millis(4);
 /// A call that is measured. Its answer only keeps the compiler from leaving it out.
 pub type Call<'a> = &'a mut dyn FnMut() -> usize;
 
+/// Seconds for one call: the median over the rounds, and the quartiles below and above it.
+#[derive(Clone, Copy)]
+pub struct Time {
+    pub low: f64,
+    pub median: f64,
+    pub high: f64,
+}
+
+impl Time {
+    /// This time less that of a start alone.
+    pub fn less(self, start: Time) -> Time {
+        Time {
+            low: self.low - start.median,
+            median: self.median - start.median,
+            high: self.high - start.median,
+        }
+    }
+
+    fn of(mut times: Vec<f64>) -> Time {
+        times.sort_by(f64::total_cmp);
+        let at = |quarter: usize| times[(times.len() - 1) * quarter / 4];
+        Time {
+            low: at(1),
+            median: at(2),
+            high: at(3),
+        }
+    }
+}
+
 /// How long `times` calls take.
 fn time(times: u32, call: Call) -> Duration {
     let start = Instant::now();
@@ -24,38 +53,41 @@ fn time(times: u32, call: Call) -> Duration {
     start.elapsed()
 }
 
-fn median(mut times: Vec<f64>) -> f64 {
-    times.sort_by(f64::total_cmp);
-    times[times.len() / 2]
-}
-
-/// Seconds for one call of each: medians over the rounds. In each round all are called in turn, and the
-/// one that goes first changes.
-pub fn medians<const N: usize>(mut calls: [Call; N]) -> [f64; N] {
+/// The time of each call. In each round all are called in turn, and the one that goes first changes.
+pub fn times<const N: usize>(mut calls: [Call; N]) -> [Time; N] {
     let long = calls.iter_mut().any(|call| time(1, *call) > LONG);
-    medians_of(if long { FEW_ROUNDS } else { ROUNDS }, calls)
+    times_of(if long { FEW_ROUNDS } else { ROUNDS }, calls)
 }
 
 /// The same over so many rounds, for calls that take seconds.
-pub fn medians_of<const N: usize>(rounds: usize, mut calls: [Call; N]) -> [f64; N] {
-    let once = calls.iter_mut().map(|call| time(1, *call)).max();
-    let once = once.unwrap_or_default().max(Duration::from_nanos(20));
-    let times = (ROUND_TIME.as_nanos() / once.as_nanos()).clamp(1, 100_000) as u32;
+pub fn times_of<const N: usize>(rounds: usize, mut calls: [Call; N]) -> [Time; N] {
+    let repeats = calls.each_mut().map(|call| repeats(*call));
     let mut lists = [(); N].map(|()| Vec::with_capacity(rounds));
     for round in 0..rounds {
         for turn in 0..N {
             let chosen = (round + turn) % N;
-            let taken = time(times, calls[chosen]).as_secs_f64();
-            lists[chosen].push(taken / f64::from(times));
+            let taken = time(repeats[chosen], calls[chosen]).as_secs_f64();
+            lists[chosen].push(taken / f64::from(repeats[chosen]));
         }
     }
-    lists.map(median)
+    lists.map(Time::of)
 }
 
-/// Seconds for one call of the library and of what stands beside it.
-pub fn compare(mut library: impl FnMut() -> usize, mut other: impl FnMut() -> usize) -> (f64, f64) {
+/// How often a call is repeated in a round.
+fn repeats(call: Call) -> u32 {
+    let once = time(1, &mut *call)
+        .min(time(1, call))
+        .max(Duration::from_nanos(20));
+    (ROUND_TIME.as_nanos() / once.as_nanos()).clamp(1, 100_000) as u32
+}
+
+/// The times of the library and of what stands beside it, which answer alike.
+pub fn compare(
+    mut library: impl FnMut() -> usize,
+    mut other: impl FnMut() -> usize,
+) -> (Time, Time) {
     // The first calls also see to it that the output's pages are there.
     assert_eq!(library(), other(), "the two answer alike");
-    let [library, other] = medians([&mut library, &mut other]);
+    let [library, other] = times([&mut library, &mut other]);
     (library, other)
 }

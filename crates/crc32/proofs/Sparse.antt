@@ -1,0 +1,172 @@
+-- A word taken away, and added to what comes after it at the places that a sparse multiple of the polynomial names, leaves the remainder.
+-- The multiple is computed for bits; squaring it gives it for words.
+-- Assumes nothing.
+use Prim.Native.Nat.{ℕ, zero, suc, _+_, _-_, _*_, _/_, _%_, _^_, _<_, _≤_}
+use mathlib.Core.Path.{_≡_, refl, sym, ap, ap₂, _∙_}
+use mathlib.Core.List.{List, [], _∷_}
+use native.Mathlib.Omega.{arith}
+use native.Mathlib.Nat.{add-comm, mul-assoc}
+use lib.Arith.{lt-one}
+use lib.Dec.{lit≤}
+use lib.Pow.{shl-shr, shr-shr, pow-add}
+use lib.Bits.{bitXor, xor-shr, xor-self, xor-zero-l}
+use Rattle.crc32.specs.Crc.{poly, shiftBit, shiftBits}
+use Rattle.crc32.specs.Fold.{shr, shl, taps, mix, spread, sparse}
+use Rattle.crc32.proofs.Xor.{xor-assoc, xor-swap, bit-lt, too-big}
+use Rattle.crc32.proofs.Linear.{shiftBits-linear, shiftBits-high, shiftBits-add}
+
+-- ---- maps that keep exclusive or, and that commute with another
+abbrev pub Add : (ℕ → ℕ) → Type 0
+Add f = (a b : ℕ) → f (bitXor a b) ≡ bitXor (f a) (f b)
+
+abbrev Lin : (ℕ → ℕ) → (ℕ → ℕ) → Type 0
+Lin g f = Add f × ((x : ℕ) → f (g x) ≡ g (f x))
+
+lin-taps : (g : ℕ → ℕ) → Add g → (f : ℕ → ℕ → ℕ) → ((k : ℕ) → Lin g (f k)) → (ks : List ℕ) → Lin g (taps f ks)
+unfolding taps
+lin-taps g ag f h [] = ((λ a b. refl), (λ x. refl))
+lin-taps g ag f h (k ∷ ks) =
+    let p = lin-taps g ag f h ks in
+    let q = h k in (
+      (λ a b. ap₂ bitXor (p .0 a b) (q .0 a b) ∙ xor-swap (taps f ks a) (taps f ks b) (f k a) (f k b)),
+      (λ x. ap₂ bitXor (p .1 x) (q .1 x) ∙ sym (ag (taps f ks x) (f k x))),
+    )
+
+pub add-taps : (f : ℕ → ℕ → ℕ) → ((k : ℕ) → Add (f k)) → (ks : List ℕ) → Add (taps f ks)
+add-taps f h ks = lin-taps (λ (x : ℕ). x) (λ a b. refl) f (λ k. (h k, λ x. refl)) ks .0
+
+pub zero-of : (f : ℕ → ℕ) → Add f → f 0 ≡ 0
+zero-of f a = a 0 0 ∙ xor-self (f 0)
+
+-- ---- places of m bits, as steps
+shiftBits-comm : (j k c : ℕ) → shiftBits j (shiftBits k c) ≡ shiftBits k (shiftBits j c)
+shiftBits-comm j k c = shiftBits-add k j c ∙ ap (λ (n : ℕ). shiftBits n c) (add-comm k j) ∙ sym (shiftBits-add j k c)
+
+lin-shift : (m k : ℕ) → Lin (shiftBits m) (shiftBits k)
+lin-shift m k = (shiftBits-linear k, shiftBits-comm k m)
+
+abbrev places : ℕ → ℕ → ℕ → ℕ
+places m k = shiftBits (m * k)
+
+lin-places : (n m : ℕ) (ks : List ℕ) → Lin (shiftBits n) (taps (places m) ks)
+lin-places n m ks = lin-taps (shiftBits n) (shiftBits-linear n) (places m) (λ k. lin-shift n (m * k)) ks
+
+-- at places of m bits, the polynomial divides the sparse multiple
+abbrev pub Multiple : ℕ → Type 0
+Multiple m = shiftBits (m * 300) poly ≡ taps (places m) sparse poly
+
+pub bits-multiple : Multiple 1
+unfolding taps shiftBits shiftBit
+bits-multiple = refl
+
+twice : (m k x : ℕ) → shiftBits (m * k) (shiftBits (m * k) x) ≡ shiftBits ((m + m) * k) x
+twice m k x = let e : m * k + m * k ≡ (m + m) * k = omega arith in shiftBits-add (m * k) (m * k) x ∙ ap (λ (n : ℕ). shiftBits n x) e
+
+cancel : (p q r : ℕ) → bitXor (bitXor p q) (bitXor q r) ≡ bitXor p r
+cancel p q r =
+    xor-assoc p q (bitXor q r) ∙ ap (bitXor p) (sym (xor-assoc q q r) ∙ ap (λ (z : ℕ). bitXor z r) (xor-self q) ∙ xor-zero-l r)
+
+-- (a + b)^2 = a^2 + b^2
+square : (m : ℕ) (ks : List ℕ) (x : ℕ) → taps (places m) ks (taps (places m) ks x) ≡ taps (places (m + m)) ks x
+unfolding taps
+square m [] x = refl
+square m (k ∷ ks) x =
+    let f : ℕ → ℕ = taps (places m) ks in
+    let p = lin-places (m * k) m ks in
+    ap₂ bitXor (p .0 (f x) (shiftBits (m * k) x)) (shiftBits-linear (m * k) (f x) (shiftBits (m * k) x))
+    ∙ ap (λ (y : ℕ). bitXor (bitXor (f (f x)) y) (bitXor (shiftBits (m * k) (f x)) (shiftBits (m * k) (shiftBits (m * k) x)))) (p .1 x)
+    ∙ cancel (f (f x)) (shiftBits (m * k) (f x)) (shiftBits (m * k) (shiftBits (m * k) x))
+    ∙ ap₂ bitXor (square m ks x) (twice m k x)
+
+double : (m : ℕ) → Multiple m → Multiple (m + m)
+double m e =
+    let p = lin-places (m * 300) m sparse in
+    sym (twice m 300 poly) ∙ ap (shiftBits (m * 300)) e ∙ sym (p .1 poly) ∙ ap (taps (places m) sparse) e ∙ square m sparse poly
+
+pub words-multiple : Multiple 64
+words-multiple = double 32 (double 16 (double 8 (double 4 (double 2 (double 1 bits-multiple)))))
+
+-- two such maps that agree at the polynomial agree at whatever m steps make of m bits
+module _ (f h : ℕ → ℕ) (lf : (m : ℕ) → Lin (shiftBits m) f) (lh : (m : ℕ) → Lin (shiftBits m) h) (e : f poly ≡ h poly) where
+  at-poly : (m x : ℕ) → x < 2 → f (shiftBits m (x * poly)) ≡ h (shiftBits m (x * poly))
+  at-poly m zero l = lf m .1 0 ∙ ap (shiftBits m) (zero-of f (lf m .0) ∙ sym (zero-of h (lh m .0))) ∙ sym (lh m .1 0)
+  at-poly m (suc zero) l = lf m .1 poly ∙ ap (shiftBits m) e ∙ sym (lh m .1 poly)
+  at-poly m (suc (suc x)) l = absurd (too-big l)
+
+  agree : (m u : ℕ) → u < 2 ^ m → f (shiftBits m u) ≡ h (shiftBits m u)
+  unfolding shiftBits shiftBit
+  agree zero u l = rw (lt-one l) (zero-of f (lf 0 .0) ∙ sym (zero-of h (lh 0 .0)))
+  agree (suc m) u l =
+      let b : ℕ = u % 2 * poly in
+      let half : u / 2 < 2 ^ m = omega arith in
+      ap f (shiftBits-linear m (u / 2) b) ∙ lf m .0 (shiftBits m (u / 2)) (shiftBits m b)
+      ∙ ap₂ bitXor (agree m (u / 2) half) (at-poly m (u % 2) (bit-lt u))
+      ∙ sym (ap h (shiftBits-linear m (u / 2) b) ∙ lh m .0 (shiftBits m (u / 2)) (shiftBits m b))
+
+-- ---- places of m bits, as shifts
+pub shr-add : (k : ℕ) → Add (shr k)
+unfolding shr
+shr-add k a b = xor-shr a b k
+
+shr-comm : (j k x : ℕ) → shr j (shr k x) ≡ shr k (shr j x)
+unfolding shr
+shr-comm j k x = shr-shr x k j ∙ ap (λ (n : ℕ). x / 2 ^ n) (add-comm k j) ∙ sym (shr-shr x j k)
+
+lin-mix : (m : ℕ) → Lin (shr 64) (mix m)
+unfolding mix
+lin-mix m = lin-taps (shr 64) (shr-add 64) (λ (k : ℕ). shr (m * k)) (λ k. (shr-add (m * k), shr-comm (m * k) 64)) sparse
+
+pub mix-shr : (m x : ℕ) → mix m (shr 64 x) ≡ shr 64 (mix m x)
+mix-shr m = lin-mix m .1
+
+pub mix-xor : (m : ℕ) → Add (mix m)
+mix-xor m = lin-mix m .0
+
+pub mix-zero : (m : ℕ) → mix m 0 ≡ 0
+mix-zero m = zero-of (mix m) (mix-xor m)
+
+pub shr-shl : (j k u : ℕ) → shr j (shl (k + j) u) ≡ shl k u
+unfolding shr shl
+shr-shl j k u = ap (λ (n : ℕ). n / 2 ^ j) (ap (λ (n : ℕ). u * n) (pow-add 2 k j) ∙ sym (mul-assoc u (2 ^ k) (2 ^ j))) ∙ shl-shr (u * 2 ^ k) j
+
+come-down : (j k u : ℕ) → shiftBits (j + k) (shl j u) ≡ shiftBits k u
+unfolding shl
+come-down j k u = sym (shiftBits-add j k (u * 2 ^ j)) ∙ ap (shiftBits k) (shiftBits-high j u)
+
+-- ---- a word with e bits after it, and places of m bits
+abbrev Below : ℕ → ℕ → List ℕ → Type 0
+Below m e [] = Unit
+Below m e (k ∷ ks) = (m * k ≤ e) × Below m e ks
+
+module _ (m e u : ℕ) where
+  top : (ks : List ℕ) → Below m e ks → shiftBits (e + 64) (taps (λ (k : ℕ). shr (m * k)) ks (shl e u)) ≡ taps (places m) ks (shiftBits 64 u)
+  unfolding taps
+  top [] w = come-down e 64 u
+  top (k ∷ ks) w =
+      let l = w .0 in
+      let j : ℕ = e - m * k in
+      let a : e ≡ j + m * k = omega arith in
+      let b : e + 64 ≡ j + (64 + m * k) = omega arith in
+      shiftBits-linear (e + 64) (taps (λ (i : ℕ). shr (m * i)) ks (shl e u)) (shr (m * k) (shl e u))
+      ∙ ap₂ bitXor (top ks (w .1))
+      (ap₂ (λ (n i : ℕ). shiftBits n (shr (m * k) (shl i u))) b a
+      ∙ ap (shiftBits (j + (64 + m * k))) (shr-shl (m * k) j u)
+      ∙ come-down j (64 + m * k) u
+      ∙ sym (shiftBits-add 64 (m * k) u))
+
+-- the places fit, and the polynomial divides
+abbrev pub Spreads : ℕ → ℕ → Type 0
+Spreads m e = (m * 300 ≡ e + 64) × Below m e sparse × Multiple m
+
+pub bits-spread : Spreads 1 236
+bits-spread = (refl, (lit≤ tt, (lit≤ tt, (lit≤ tt, tt))), bits-multiple)
+
+pub words-spread : Spreads 64 19136
+words-spread = (refl, (lit≤ tt, (lit≤ tt, (lit≤ tt, tt))), words-multiple)
+
+pub spread-steps : (m e : ℕ) → Spreads m e → (u : ℕ) → u < 2 ^ 64 → shiftBits (e + 64) (shiftBits 64 u) ≡ shiftBits (e + 64) (spread m e u)
+unfolding spread mix
+spread-steps m e h u l =
+    ap (λ (n : ℕ). shiftBits n (shiftBits 64 u)) (sym (h .0))
+    ∙ agree (shiftBits (m * 300)) (taps (places m) sparse) (λ n. lin-shift n (m * 300)) (λ n. lin-places n m sparse) (h .2) 64 u l
+    ∙ sym (top m e u sparse (h .1))
