@@ -1,8 +1,10 @@
 // The library's calls for programs in C and Rust: answers are flat structs with the answer number (0: accepted) and its index
 // instead of a verdict. A slice is a pointer and a length. include/eif.h declares these functions to C.
 //
-// The digest and the registers stand in measure.rt, the reader of an image that arrives in pieces in arrival.rt.
+// The digest and the registers stand in measure.rt, the reader of an image that arrives in pieces in arrival.rt, the assembler in
+// assembly.rt.
 mod arrival;
+mod assembly;
 mod measure;
 mod sections;
 
