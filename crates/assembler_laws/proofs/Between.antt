@@ -21,18 +21,8 @@ use Rattle.assembler_rules.proofs.Form.{formed-kinds}
 use Rattle.assembler_rules.proofs.Faults.{accepted-form, accepted-open, accepted-piece, accepted-close}
 use Rattle.assembler_laws.specs.Run.{Memory, memory, answer, after, run, OpenFor, PieceOf, Close, Every, Agrees, StaysOpen, AnyBetween}
 use Rattle.assembler_laws.proofs.Lists.{gap-found}
-use Rattle.assembler_laws.proofs.Calls.{faultAt, refused-keeps, close-ends}
+use Rattle.assembler_laws.proofs.Calls.{faultAt, refused-keeps, no-fault, close-ends}
 use Rattle.assembler_laws.proofs.Transfer.{InProgress, Next, size-is, open-now, one-piece, close-answer, close-leaves, starts}
-
--- an accepted call has no fault
-refused-not : (n : ℕ) (v : Verdict) → v ≡ refuse n 0 → v ≡ Accepted → ⊥
-refused-not n v a b = let z : _≡_ {A = ℕ} 0 1 = cc in omega arith
-
-no-fault : (w : Memory) (r : List ℕ) → answer w r .verdict ≡ Accepted → faultAt w r ≡ 0
-no-fault w r e =
-    ⊎-elim (λ z. z)
-    (λ h. absurd (refused-not (faultAt w r) (answer w r .verdict) (ap (λ (a : Stepped). a .verdict) (refused-keeps w r h .0)) e))
-    (zero-or (faultAt w r))
 
 module _ (m x y : List ℕ) (image-room : length m ≤ length x) (mark-room : piecesOf (length m) ≤ length y) where
   -- any record that agrees and after which the transfer is open

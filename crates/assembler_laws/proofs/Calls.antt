@@ -3,11 +3,11 @@
 use Prim.Native.Nat.{ℕ, _+_, _<_, _≤_}
 use mathlib.Core.Path.{_≡_, refl, sym, ap, _∙_}
 use mathlib.Core.Bool.{Bool, true, false, not}
-use mathlib.Core.List.{List, _++_}
+use mathlib.Core.List.{List, [], _∷_, _++_}
 use mathlib.Core.Logic.{_⊎_, inl, inr, ⊎-elim}
 use native.Mathlib.Omega.{arith}
 use native.Mathlib.Nat.{lt-of-lt-of-le}
-use borrow.Author.Tests.{eqb-true}
+use borrow.Author.Tests.{eqb-true, ne-eqb}
 use lib.Dec.{eqb}
 use lib.ListN.{length, take, drop, getD, set, replicate, length-set, length-replicate}
 use lib.Seq.{length-take-le, take-at, drop-at, getD-set-same, getD-set-other}
@@ -15,8 +15,9 @@ use Rattle.octets.specs.Over.{over}
 use Rattle.octets.proofs.Over.{length-over, over-parts}
 use Rattle.eif.specs.Logic.{both, choose}
 use Rattle.eif.specs.Answers.{refuse}
+use Rattle.eif.specs.declared.Verdict.{Verdict}
 use Rattle.eif.specs.declared.Verdict.the-variants.{Accepted}
-use Rattle.eif_rules.proofs.Logic.{equal-or-not}
+use Rattle.eif_rules.proofs.Logic.{equal-or-not, zero-or}
 use Rattle.assembler_rules.specs.Records.{openKind, pieceKind, closeKind, kindIn, numberIn, dataIn, formed, piecesOf, placeIn}
 use Rattle.eif.specs.Numbers.{pieceOutOfTurn, pieceMissing}
 use Rattle.assembler_rules.specs.Rules.{held, standing, faultOf, isOpened}
@@ -26,7 +27,7 @@ use Rattle.assembler_rules.specs.declared.Stepped.{Stepped}
 use Rattle.assembler_rules.proofs.Piece.{place-in, piece-in, held-yes, piece-kept, piece-put}
 use Rattle.assembler_rules.proofs.Faults.{PieceTaken, fault-not-open, accepted-form, accepted-piece}
 use Rattle.assembler_rules.proofs.Steps.{Answers, step-refused, step-taken, step-closed}
-use Rattle.assembler_laws.specs.Run.{Memory, memory, answer, after}
+use Rattle.assembler_laws.specs.Run.{Memory, memory, answer, after, run, Outside, OutsideTaken, OutsideAll}
 use Rattle.assembler_laws.proofs.Lists.{over-other, same-of, gap-found}
 use Rattle.assembler_laws.proofs.Accept.{LongEnough, piece-fine, close-lacks}
 
@@ -34,7 +35,7 @@ pub both-none : (t : Bool) → both t false ≡ false
 both-none true = refl
 both-none false = refl
 
-bool-or : (t : Bool) → (t ≡ true) ⊎ (t ≡ false)
+pub bool-or : (t : Bool) → (t ≡ true) ⊎ (t ≡ false)
 bool-or true = inl refl
 bool-or false = inr refl
 
@@ -59,6 +60,16 @@ refused-keeps w r h =
     let s = step-refused (w .state) r (w .image) (w .marks) (faultAt w r) refl h in
     (sym (s .0), called w r _ _ _ s)
 
+-- an accepted call has no fault
+refused-not : (n : ℕ) (v : Verdict) → v ≡ refuse n 0 → v ≡ Accepted → ⊥
+refused-not n v a b = let z : _≡_ {A = ℕ} 0 1 = cc in omega arith
+
+pub no-fault : (w : Memory) (r : List ℕ) → answer w r .verdict ≡ Accepted → faultAt w r ≡ 0
+no-fault w r e =
+    ⊎-elim (λ z. z)
+    (λ h. absurd (refused-not (faultAt w r) (answer w r .verdict) (ap (λ (a : Stepped). a .verdict) (refused-keeps w r h .0)) e))
+    (zero-or (faultAt w r))
+
 -- ---- a repeat
 
 module _ (w : Memory) (r : List ℕ) (z : faultAt w r ≡ 0) (k : kindIn r ≡ pieceKind) where
@@ -73,10 +84,10 @@ module _ (w : Memory) (r : List ℕ) (z : faultAt w r ≡ 0) (k : kindIn r ≡ p
   taken = accepted-piece (w .state) r (w .image) (w .marks) z k
 
   -- the piece in its place
-  abbrev put : Memory
+  abbrev pub put : Memory
   put = memory (w .state) (over (w .image) (numberIn r) (dataIn r)) (set (w .marks) (placeIn r) 1)
 
-  put-left : held r (w .marks) ≡ false → after w r ≡ put
+  pub put-left : held r (w .marks) ≡ false → after w r ≡ put
   put-left h =
       let p = piece-put r (w .marks) (w .image) h in
       let s = step-taken (w .state) r (w .image) (w .marks) z k in
@@ -88,7 +99,7 @@ module _ (w : Memory) (r : List ℕ) (z : faultAt w r ≡ 0) (k : kindIn r ≡ p
       let b = taken .image-room in
       omega arith
 
-  put-stands : standing r (put .image) ≡ dataIn r
+  pub put-stands : standing r (put .image) ≡ dataIn r
   put-stands =
       let b = dataIn r in
       let e = over-parts (w .image) (numberIn r) b fits in
@@ -107,7 +118,7 @@ module _ (w : Memory) (r : List ℕ) (z : faultAt w r ≡ 0) (k : kindIn r ≡ p
       k (t .inside) (t .on-grid) (t .sized)
       (ap (λ (t : Bool). both (held r (put .marks)) (not t)) (same-of (standing r (put .image)) (dataIn r) put-stands) ∙ both-none (held r (put .marks)))
 
-  put-held : held r (put .marks) ≡ true
+  pub put-held : held r (put .marks) ≡ true
   put-held =
       let n = lt-of-lt-of-le (place-in (w .state .length) (numberIn r) (taken .inside)) (taken .mark-room) in
       let s = getD-set-same (w .marks) (placeIn r) 1 0 n in
@@ -161,15 +172,32 @@ module _ (w : Memory) (r : List ℕ) (closed : isOpened (w .state) ≡ false) wh
 -- ---- the bytes that a call leaves
 
 module _ (w : Memory) (r : List ℕ) where
-  pub image-elsewhere : (i : ℕ) → (i < numberIn r) ⊎ (numberIn r + length (dataIn r) ≤ i) → getD (after w r .image) i 0 ≡ getD (w .image) i 0
+  -- outside a record's piece no byte of the image buffer changes
+  image-outside : (i : ℕ) → Outside i r → getD (after w r .image) i 0 ≡ getD (w .image) i 0
   unfolding imageAfter
-  image-elsewhere i h = go (eqb (faultAt w r) 0) (eqb (kindIn r) pieceKind) (held r (w .marks))
+  image-outside i h = go (eqb (faultAt w r) 0) (eqb (kindIn r) pieceKind) (held r (w .marks))
     where
       go : (a b c : Bool) → getD (choose a (choose b (choose c (w .image) (over (w .image) (numberIn r) (dataIn r))) (w .image)) (w .image)) i 0 ≡ getD (w .image) i 0
       go true true true = refl
       go true true false = over-other (w .image) (numberIn r) (dataIn r) i h
       go true false c = refl
       go false b c = refl
+
+  no-piece : faultAt w r ≡ 0 → (kindIn r ≡ pieceKind → ⊥) → after w r .image ≡ w .image
+  unfolding imageAfter
+  no-piece z h = rw (z, ne-eqb _ _ h) refl
+
+  taken-accepts : faultAt w r ≡ 0 → kindIn r ≡ pieceKind → answer w r .verdict ≡ Accepted
+  taken-accepts z k = sym (ap (λ (a : Stepped). a .verdict) (step-taken (w .state) r (w .image) (w .marks) z k .0))
+
+  -- and none but those of a piece that is taken
+  pub image-elsewhere : (i : ℕ) → OutsideTaken i w r → getD (after w r .image) i 0 ≡ getD (w .image) i 0
+  image-elsewhere i h =
+      ⊎-elim
+      (λ z.
+      ⊎-elim (λ k. image-outside i (h (taken-accepts z k) k)) (λ k. ap (λ (l : List ℕ). getD l i 0) (no-piece z k)) (equal-or-not (kindIn r) pieceKind))
+      (λ n. ap (λ (v : Memory). getD (v .image) i 0) (refused-keeps w r n .1))
+      (zero-or (faultAt w r))
 
   pub marks-elsewhere : (k : ℕ) → (kindIn r ≡ openKind → piecesOf (numberIn r) ≤ k) → (kindIn r ≡ pieceKind → k ≡ placeIn r → ⊥)
       → getD (after w r .marks) k 0 ≡ getD (w .marks) k 0
@@ -209,3 +237,9 @@ module _ (w : Memory) (r : List ℕ) where
       marks true false true false = length-set (w .marks) (placeIn r) 1
       marks true false false d = refl
       marks false b c d = refl
+
+-- a run changes no byte of the image buffer outside the pieces that it takes
+pub run-elsewhere : (rs : List (List ℕ)) (w : Memory) (i : ℕ) → OutsideAll i w rs → getD (run w rs .image) i 0 ≡ getD (w .image) i 0
+unfolding run OutsideAll
+run-elsewhere [] w i h = refl
+run-elsewhere (r ∷ rs) w i h = run-elsewhere rs (after w r) i (h .1) ∙ image-elsewhere w r i (h .0)

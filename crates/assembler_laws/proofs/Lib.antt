@@ -5,3 +5,4 @@ pub mod Transfer
 pub mod Content
 pub mod Made
 pub mod Between
+pub mod Repeats

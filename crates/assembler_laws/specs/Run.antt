@@ -1,6 +1,6 @@
 -- Transfers: calls in turn, each given the state and both buffers as the last one left them, and what the pieces of an image are.
 -- Assumes nothing.
-use Prim.Native.Nat.{ℕ, _-_, _<_, _≤_, _%_}
+use Prim.Native.Nat.{ℕ, _+_, _-_, _<_, _≤_, _%_}
 use mathlib.Core.Path.{_≡_}
 use mathlib.Core.Bool.{true, false}
 use mathlib.Core.List.{List, [], _∷_, _++_}
@@ -93,6 +93,21 @@ pub record Assembled (m : List ℕ) (w : Memory) (o : List ℕ) (rs : List (List
   pub left : run w (o ∷ (rs ++ (c ∷ [])))
       ≡ memory freshState (m ++ drop (length m) (w .image)) (replicate (piecesOf (length m)) 1 ++ drop (piecesOf (length m)) (w .marks))
 
+-- ---- the bytes of the image buffer that a run leaves
+
+-- byte i lies outside a record's piece
+abbrev pub Outside : ℕ → List ℕ → Type 0
+Outside i r = (i < numberIn r) ⊎ (numberIn r + length (dataIn r) ≤ i)
+
+-- if the call takes a piece, byte i lies outside it
+abbrev pub OutsideTaken : ℕ → Memory → List ℕ → Type 0
+OutsideTaken i w r = answer w r .verdict ≡ Accepted → kindIn r ≡ pieceKind → Outside i r
+
+-- and so for each call in turn
+unfoldable pub OutsideAll : ℕ → Memory → List (List ℕ) → Type 0
+OutsideAll i w [] = Unit
+OutsideAll i w (r ∷ rs) = OutsideTaken i w r × OutsideAll i (after w r) rs
+
 -- ---- any records between the open and the close, also such as are refused
 
 -- a record that is a piece of an image of m's length agrees with m
@@ -104,6 +119,16 @@ pub record Agrees (m r : List ℕ) : Type 0 where
 unfoldable pub StaysOpen : Memory → List (List ℕ) → Type 0
 StaysOpen w [] = Unit
 StaysOpen w (r ∷ rs) = (isOpened (after w r .state) ≡ true) × StaysOpen (after w r) rs
+
+-- a piece is taken, any calls follow with the transfer open, and a record comes with the same start and the same bytes
+pub record Repeated (w : Memory) (r : List ℕ) (rs : List (List ℕ)) (s : List ℕ) : Type 0 where
+  pub taken : answer w r .verdict ≡ Accepted
+  pub kind : kindIn r ≡ pieceKind
+  pub stays-open : StaysOpen (after w r) rs
+  pub form-again : formed s ≡ true
+  pub kind-again : kindIn s ≡ pieceKind
+  pub same-start : numberIn s ≡ numberIn r
+  pub same-bytes : dataIn s ≡ dataIn r
 
 pub record AnyBetween (m : List ℕ) (w : Memory) (o : List ℕ) (rs : List (List ℕ)) (c : List ℕ) : Type 0 where
   pub opens : OpenFor m o
