@@ -5,7 +5,10 @@
 // with the length that this start has, which is too long too: it refuses that as it would the whole record. Where the input ends inside a
 // record, what came of it is handed over, which its own length makes a refusal.
 ghost use mathlib.Core.Path.{_≡_};
-ghost use Prim.Native.Nat.{_≤_};
+ghost use Prim.Native.Nat.{_+_, _≤_};
+ghost use lib.ListN.{length};
+ghost use Rattle.eif.specs.Roll.{recordHeadSize};
+ghost use Rattle.assembler_rules.specs.Records.{pieceSize, numberSize};
 use assembler_rules::PIECE_SIZE;
 use assembler_rules::Record;
 use assembler_rules::State;
@@ -103,24 +106,21 @@ fn lesser(a: u64, b: usize) -> usize
     if a < b as u64 { a as usize } else { b }
 }
 
-// At most so many bytes of the input, over what stands in `out` from `at` on; how many came.
-fn read_over(out: &mut [u8], at: usize, want: usize) -> usize
-    ensures { λ r. ⌜ r ≤ 4105 ⌝ }
+// At most so many bytes of the input, to a place in a buffer; how many came.
+fn read_to(buffer: &mut [u8], at: usize, want: usize) -> usize
+    requires { ⌜ at + want ≤ length (now buffer) ⌝ }
+    ensures { λ r. ⌜ r ≤ want ⌝ }
 {
-    let mut block = [0u8; KEPT_REST];
-    let n = lesser(want as u64, KEPT_REST);
-    let got = io::read_full(libc::STDIN_FILENO, &mut block[..n]);
-    octets::copy(out, at, &block[..got]);
-    got
+    io::read_full(libc::STDIN_FILENO, &mut buffer[at..at + want])
 }
 
 // Leaves so many bytes of the input out; whether they came.
 fn skip(size: u64) -> bool {
-    let mut unused = [0u8; 1];
+    let mut block = [0u8; KEPT_REST];
     let mut left = size;
     while 0 < left {
         let want = lesser(left, KEPT_REST);
-        let got = read_over(&mut unused, 0, want);
+        let got = read_to(&mut block, 0, want);
         if got != want {
             return false;
         }
@@ -136,9 +136,10 @@ struct Came {
 }
 
 fn read_record(record: &mut [u8]) -> Came
-    ensures { λ r. ⌜ r .count ≤ 4115 ⌝ }
+    requires { ⌜ length (now record) ≡ recordHeadSize + numberSize + pieceSize + 1 ⌝ }
+    ensures { λ r. ⌜ r .count ≤ recordHeadSize + numberSize + pieceSize + 1 ⌝ }
 {
-    let head = read_over(record, 0, RecordHead::SIZE);
+    let head = read_to(record, 0, RecordHead::SIZE);
     if head < RecordHead::SIZE {
         return Came {
             count: head,
@@ -147,7 +148,7 @@ fn read_record(record: &mut [u8]) -> Came
     }
     let size = octets::le64(record, RecordHead::LENGTH_AT);
     let want = lesser(size, KEPT_REST);
-    let rest = read_over(record, RecordHead::SIZE, want);
+    let rest = read_to(record, RecordHead::SIZE, want);
     let count = RecordHead::SIZE + rest;
     if rest != want {
         return Came {
