@@ -5,7 +5,7 @@
 // with the length that this start has, which is too long too: it refuses that as it would the whole record. Where the input ends inside a
 // record, what came of it is handed over, which its own length makes a refusal.
 ghost use mathlib.Core.Path.{_≡_};
-ghost use Prim.Native.Nat.{_+_, _≤_};
+ghost use Prim.Native.Nat.{_+_, _≤_, min};
 ghost use lib.ListN.{length};
 ghost use Rattle.eif.specs.Roll.{recordHeadSize};
 ghost use Rattle.assembler_rules.specs.Records.{pieceSize, numberSize};
@@ -101,7 +101,7 @@ fn show(image: &[u8]) {
 // ---- the input
 
 fn lesser(a: u64, b: usize) -> usize
-    ensures { λ r. ⌜ (r ≤ a) × (r ≤ b) ⌝ }
+    ensures { λ r. ⌜ r ≡ min a b ⌝ }
 {
     if a < b as u64 { a as usize } else { b }
 }
@@ -114,14 +114,19 @@ fn read_to(buffer: &mut [u8], at: usize, want: usize) -> usize
     io::read_full(libc::STDIN_FILENO, &mut buffer[at..at + want])
 }
 
+// Leaves so many bytes of the input out, at most as many as are kept of a record; how many came.
+fn skip_block(want: usize) -> usize {
+    let mut block = [0u8; KEPT_REST];
+    let n = lesser(want as u64, KEPT_REST);
+    read_to(&mut block, 0, n)
+}
+
 // Leaves so many bytes of the input out; whether they came.
 fn skip(size: u64) -> bool {
-    let mut block = [0u8; KEPT_REST];
     let mut left = size;
     while 0 < left {
         let want = lesser(left, KEPT_REST);
-        let got = read_to(&mut block, 0, want);
-        if got != want {
+        if skip_block(want) != want {
             return false;
         }
         left -= want as u64;
@@ -135,20 +140,20 @@ struct Came {
     whole: bool,
 }
 
-fn read_record(record: &mut [u8]) -> Came
-    requires { ⌜ length (now record) ≡ recordHeadSize + numberSize + pieceSize + 1 ⌝ }
+fn read_record(sent: &mut [u8]) -> Came
+    requires { ⌜ length (now sent) ≡ recordHeadSize + numberSize + pieceSize + 1 ⌝ }
     ensures { λ r. ⌜ r .count ≤ recordHeadSize + numberSize + pieceSize + 1 ⌝ }
 {
-    let head = read_to(record, 0, RecordHead::SIZE);
+    let head = read_to(sent, 0, RecordHead::SIZE);
     if head < RecordHead::SIZE {
         return Came {
             count: head,
             whole: false,
         };
     }
-    let size = octets::le64(record, RecordHead::LENGTH_AT);
+    let size = octets::le64(sent, RecordHead::LENGTH_AT);
     let want = lesser(size, KEPT_REST);
-    let rest = read_to(record, RecordHead::SIZE, want);
+    let rest = read_to(sent, RecordHead::SIZE, want);
     let count = RecordHead::SIZE + rest;
     if rest != want {
         return Came {
@@ -158,7 +163,7 @@ fn read_record(record: &mut [u8]) -> Came
     }
     let whole = skip(size - want as u64);
     if whole {
-        octets::put_le64(record, RecordHead::LENGTH_AT, want as u64);
+        octets::put_le64(sent, RecordHead::LENGTH_AT, want as u64);
     }
     Came { count, whole }
 }
@@ -185,13 +190,13 @@ struct Turn {
 }
 
 fn take_record(state: State, image: &mut [u8], marks: &mut [u8]) -> Turn {
-    let mut record = [0u8; KEPT];
-    let came = read_record(&mut record);
+    let mut sent = [0u8; KEPT];
+    let came = read_record(&mut sent);
     let count = came.count;
     if count == 0 {
         return Turn { state, more: false };
     }
-    let answer = assembler::step(state, &record[..count], image, marks);
+    let answer = assembler::step(state, &sent[..count], image, marks);
     let next = answer.state;
     say(answer, image);
     Turn {
