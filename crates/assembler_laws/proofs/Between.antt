@@ -1,28 +1,24 @@
 -- Whatever records come between an accepted open and an accepted close, if each that is a piece agrees with m, the
 -- close reports m's length and leaves m. So an accepted close never hands out a wrong or incomplete image. Assumes nothing.
 use Prim.Native.Nat.{ℕ, _<_, _≤_}
-use mathlib.Core.Path.{_≡_, refl, sym, ap, subst, _∙_}
-use mathlib.Core.Bool.{true, false}
+use mathlib.Core.Path.{_≡_, sym, ap, subst, _∙_}
+use mathlib.Core.Bool.{true}
 use mathlib.Core.List.{List, [], _∷_, _++_}
 use mathlib.Core.Logic.{⊎-elim}
 use native.Mathlib.Omega.{arith}
 use lib.ListN.{length, take, drop, getD, replicate}
 use Rattle.eif.specs.Numbers.{sizeLimit}
-use Rattle.eif.specs.Answers.{refuse}
-use Rattle.eif.specs.declared.Verdict.{Verdict}
-use Rattle.eif.specs.declared.Verdict.the-variants.{Accepted}
 use Rattle.eif_rules.proofs.Logic.{not-both, zero-or, equal-or-not}
 use Rattle.assembler_rules.specs.Records.{openKind, pieceKind, closeKind, kindIn, numberIn, piecesOf, pieceAt}
 use Rattle.assembler_rules.specs.Rules.{allHeld, isOpened}
-use Rattle.assembler_rules.specs.Step.{freshState, stepped}
-use Rattle.assembler_rules.specs.declared.State.{State}
+use Rattle.assembler_rules.specs.Step.{freshState}
 use Rattle.assembler_rules.specs.declared.Stepped.{Stepped}
 use Rattle.assembler_rules.proofs.Form.{formed-kinds}
 use Rattle.assembler_rules.proofs.Faults.{accepted-form, accepted-open, accepted-piece, accepted-close}
-use Rattle.assembler_laws.specs.Run.{Memory, memory, answer, after, run, OpenFor, PieceOf, Close, Every, Agrees, StaysOpen, AnyBetween}
+use Rattle.assembler_laws.specs.Run.{Memory, memory, answer, after, run, Every, Agrees, StaysOpen, AnyBetween}
 use Rattle.assembler_laws.proofs.Lists.{gap-found}
 use Rattle.assembler_laws.proofs.Calls.{faultAt, refused-keeps, no-fault, close-ends}
-use Rattle.assembler_laws.proofs.Transfer.{InProgress, Next, size-is, open-now, one-piece, close-answer, close-leaves, starts}
+use Rattle.assembler_laws.proofs.Transfer.{InProgress, size-is, open-now, one-piece, close-answer, close-leaves, starts}
 
 module _ (m x y : List ℕ) (image-room : length m ≤ length x) (mark-room : piecesOf (length m) ≤ length y) where
   -- any record that agrees and after which the transfer is open

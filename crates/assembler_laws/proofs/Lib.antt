@@ -6,3 +6,4 @@ pub mod Content
 pub mod Made
 pub mod Between
 pub mod Repeats
+pub mod Missing

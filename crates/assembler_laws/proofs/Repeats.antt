@@ -10,7 +10,6 @@ use borrow.Author.Tests.{eqb-true, eqb-false, ne-eqb, not-true, not-false}
 use lib.Dec.{eqb}
 use lib.ListN.{length, take, drop, getD, length-take, length-drop, length-set}
 use lib.Seq.{getD-take, getD-drop, getD-set-other, ext-getD}
-use Rattle.octets.specs.Over.{over}
 use Rattle.octets.proofs.Over.{length-over, le-or-lt}
 use Rattle.eif.specs.Logic.{both}
 use Rattle.eif.specs.declared.Verdict.the-variants.{Accepted}
@@ -18,7 +17,6 @@ use Rattle.eif_rules.proofs.Logic.{both-true, not-both, zero-or, equal-or-not}
 use Rattle.assembler_rules.specs.Records.{pieceSize, openKind, pieceKind, closeKind, kindIn, numberIn, dataIn, pieceAt, placeIn}
 use Rattle.assembler_rules.specs.Rules.{isOpened, same, held, standing}
 use Rattle.assembler_rules.specs.Step.{stepped}
-use Rattle.assembler_rules.specs.declared.State.{State}
 use Rattle.assembler_rules.proofs.Form.{formed-kinds}
 use Rattle.assembler_rules.proofs.Faults.{accepted-form, accepted-open, accepted-piece}
 use Rattle.assembler_laws.specs.Run.{Memory, answer, after, run, StaysOpen, Repeated}
@@ -54,7 +52,7 @@ module _ (w : Memory) (r : List ℕ) (z : faultAt w r ≡ 0) (k : kindIn r ≡ p
   from-held h =
       let t = accepted-piece (w .state) r (w .image) (w .marks) z k in
       let other : both true (not (same (standing r (w .image)) (dataIn r))) ≡ false =
-          sym (ap (λ (b : Bool). both b (not (same (standing r (w .image)) (dataIn r)))) h) ∙ t .agrees in
+      sym (ap (λ (b : Bool). both b (not (same (standing r (w .image)) (dataIn r)))) h) ∙ t .agrees in
       record {
         open-now = t .open-now;
         inside = t .inside;

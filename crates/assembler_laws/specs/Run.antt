@@ -137,3 +137,12 @@ pub record AnyBetween (m : List ℕ) (w : Memory) (o : List ℕ) (rs : List (Lis
   pub stays-open : StaysOpen (after w o) rs
   pub closes : Close c
   pub close-accepted : answer (run (after w o) rs) c .verdict ≡ Accepted
+
+-- ---- a piece missing: after an open, any records but the piece of a place, and a close
+
+pub record WithoutPiece (k : ℕ) (w : Memory) (o : List ℕ) (rs : List (List ℕ)) (c : List ℕ) : Type 0 where
+  pub open-kind : kindIn o ≡ openKind
+  pub open-accepted : answer w o .verdict ≡ Accepted
+  pub of-image : k < piecesOf (numberIn o)
+  pub not-sent : Every (λ r. kindIn r ≡ pieceKind → placeIn r ≡ k → ⊥) rs
+  pub closes : Close c

@@ -7,7 +7,7 @@ use lib.Dec.{ltb, eqb}
 use lib.ListN.{length, take, drop, getD}
 use Rattle.eif.specs.Numbers.{sizeLimit, imageTooLong, pieceRecordWrong, pieceOutOfTurn, bufferTooShort, pieceDiffers, pieceMissing}
 use Rattle.eif.specs.Logic.{both, either, choose}
-use Rattle.assembler_rules.specs.Records.{kindIn, numberIn, dataIn, isOpen, isPiece, isClose, formed, piecesOf, offGrid, placeIn}
+use Rattle.assembler_rules.specs.Records.{numberIn, dataIn, isOpen, isPiece, isClose, formed, piecesOf, offGrid, placeIn}
 use Rattle.assembler_rules.specs.declared.State.{State}
 
 -- ---- 23: open when open, or another kind when not open

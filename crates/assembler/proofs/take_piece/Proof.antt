@@ -2,6 +2,7 @@
 use Prim.Native.Nat.{ℕ, _+_, _/_}
 use mathlib.Core.Path.{ap, ap₂, _∙_}
 use mathlib.Core.List.{List}
+use native.Mathlib.Omega.{arith}
 use borrow.Author.Needs.{needs}
 use borrow.Rule.Slice.PartAt.{part-to-end}
 use denote.Ref.{now}
@@ -17,14 +18,14 @@ returns : tie.Need-returns
 returns c =
     let a = c .before .before .before .before .before .before .args in
     let l = c .before .before .le64 in
-    piece-kept (now (a .sent)) (now (a .marks)) (now (a .image)) (held-yes (now (a .sent)) (now (a .marks)) (l .result) (l .ensures) (c .if1 .taken))
+    piece-kept (now (a .sent)) (now (a .marks)) (now (a .image)) (held-yes (now (a .sent)) (now (a .marks)) (l .result) (l .ensures) (λ e. omega arith))
 
 returns-2 : tie.Need-returns-2
 returns-2 c =
     let a = c .before .before .before .before .before .before .before .before .before .before .before .args in
     let q = c .before .before .before .before .before in
     let l = q .before .before .le64 in
-    let p = piece-put (now (a .sent)) (now (a .marks)) (now (a .image)) (held-no (now (a .sent)) (now (a .marks)) (l .result) (l .ensures) (q .if1 .left)) in (
+    let p = piece-put (now (a .sent)) (now (a .marks)) (now (a .image)) (held-no (now (a .sent)) (now (a .marks)) (l .result) (l .ensures) (omega arith)) in (
       c .before .before .copy .ensures
           ∙ ap₂ (λ (n : ℕ) (b : List ℕ). over (now (a .image)) n b) (l .ensures) (part-to-end (now (a .sent)) (recordHeadSize + numberSize)) ∙ p .0,
       ap (λ (n : ℕ). set (now (a .marks)) (n / pieceSize) 1) (l .ensures) ∙ p .1,
