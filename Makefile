@@ -33,7 +33,7 @@ help:
 	@echo 'make rust-test c-test     the command and the library from Rust; the library from C'
 	@echo 'make rust-lint doc        lints of the Rust code, its documentation'
 	@echo 'make test-large           the tests that keep images of 1 GiB in memory: minutes, 4 GiB'
-	@echo 'make bench                speed beside the plain Rust twin; BENCH_LARGE=1: images of 1 GiB too'
+	@echo 'make bench                speed beside the plain Rust twin; BENCH_LARGE=1: images of 1 GiB too; BENCH=json: JSON texts alone'
 	@echo 'make install PREFIX=dir   command, man page, C header, archive, pkg-config file'
 
 kit:
@@ -76,7 +76,7 @@ c-test: $(archive)
 	tests/header.sh $(CC)
 	tests/archive.sh $(EIF_LIB_DIR)/libeif_c.a include/eif.h
 	mkdir -p target/c-test
-	for name in worked boundary; do \
+	for name in worked boundary sign1; do \
 	    $(CC) -std=c99 $(C_WARNINGS) -Iinclude tests/c/$$name.c $(EIF_LIB_DIR)/libeif_c.a -o target/c-test/$$name-c && \
 	    target/c-test/$$name-c && \
 	    $(CXX) -std=c++11 $(C_WARNINGS) -Iinclude -x c++ tests/c/$$name.c -x none $(EIF_LIB_DIR)/libeif_c.a -o target/c-test/$$name-cpp && \
@@ -89,7 +89,7 @@ c-test: $(archive)
 
 rust-test: $(archive)
 	@tests/cargo.sh $(CARGO)
-	cd rust && $(CARGO) test --release $(CARGO_FLAGS)
+	cd rust && EIF_PYTHON="$$(../tests/cbor2.sh)" $(CARGO) test --release $(CARGO_FLAGS)
 
 test-large: $(archive)
 	@tests/cargo.sh $(CARGO)
@@ -100,7 +100,7 @@ rust-lint:
 	cd rust && $(CARGO) clippy --release --all-targets $(CARGO_FLAGS) -- -D warnings
 
 bench: $(archive)
-	cd rust && BENCH_LARGE=$(BENCH_LARGE) $(CARGO) run --release $(CARGO_FLAGS) -p eif-bench
+	cd rust && BENCH_LARGE=$(BENCH_LARGE) $(CARGO) run --release $(CARGO_FLAGS) -p eif-bench -- $(BENCH)
 
 doc:
 	cd rust && RUSTDOCFLAGS="-D warnings" $(CARGO) doc --no-deps $(CARGO_FLAGS)

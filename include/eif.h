@@ -1,6 +1,6 @@
 /* SPDX-License-Identifier: Apache-2.0 */
 /*
- * Reader, writer, registers and boot rolls of enclave image files (EIF).
+ * Reader, writer, registers, boot rolls and signatures' claims of enclave image files (EIF).
  *
  * The C interface to a static library, libeif_c.a, whose every function is proved to meet the rules
  * of docs/FORMAT.md, which is cited below by section. It links into x86-64 programs. Of other
@@ -19,10 +19,15 @@
  * reading): 0 where the call is accepted, and otherwise the first of the numbers below that applies, in
  * the order that FORMAT.md gives for the call. Beside a refusal
  *   - no byte of the output buffer has changed;
- *   - index is the index of the section or record for 6 to 11, 16, 17 and, where a section is not
- *     packed, 20; and 0 for the others;
+ *   - index is the index of the section or record for 6 to 11, 16, 17, 21 and, where a section is
+ *     not packed, 20; and 0 for the others;
+ *   - position is where what is at fault stands (FORMAT.md, Positions), counted from the start of the
+ *     image or, where a roll was read, of the roll: a header field, the table's offset entry of the
+ *     section, its own header, the record's start, or the first byte too many; and 0 for the numbers
+ *     that have no place there, and for every refusal of a plan;
  *   - all else in the answer is 0, but first_ramdisk, which is EIF_NO_RAMDISK, and the states that
  *     eif_sha384_update and eif_arriving_finish answer.
+ * A call that reads an image first hands that refusal on as it is, position too.
  *
  * Answers have no padding, and their reserved fields are 0: equal answers are equal by memcmp.
  *
@@ -65,11 +70,14 @@ extern "C" {
 #define EIF_HEADER_LENGTH 548
 #define EIF_SECTION_HEADER_LENGTH 12
 
-/* Length of a roll record's head, which stands before its data. A roll has a head and the data for
- * each section of type 1, 2 or 3, and one head more, its end record. */
+/* Length of a roll record's head, which stands before its data, and of the flags record, a roll's first.
+ * A roll has the flags record, a head and the data for each section of type 1, 2 or 3, and one head more,
+ * its end record. */
 #define EIF_RECORD_HEAD_LENGTH 10
+#define EIF_FLAGS_RECORD_LENGTH 12
 
-/* The most sections of an image, and the most records of a roll beside its end record. */
+/* The most sections of an image, and the most records of a roll beside its flags record and its end
+ * record. */
 #define EIF_MAX_SECTIONS 32
 
 /* How many registers an image has. */
@@ -79,6 +87,12 @@ extern "C" {
 #define EIF_DIGEST_LENGTH 48
 #define EIF_SHA384_BLOCK_LENGTH 128
 #define EIF_MAX_MESSAGE_LENGTH UINT64_C(2305843009213693951)
+
+/* The most arrays or objects that a JSON text may have open at once. */
+#define EIF_MAX_JSON_DEPTH 32
+
+/* The longest COSE_Sign1. A buffer of this length takes any. */
+#define EIF_MAX_SIGN1_LENGTH 281
 
 /* What first_ramdisk is where there is no ramdisk, and beside a refusal. */
 #define EIF_NO_RAMDISK 32
@@ -110,6 +124,8 @@ enum eif_number {
     EIF_BYTES_AFTER_END = 18,
     EIF_PAST_STREAM_END = 19,
     EIF_NOT_PACKED = 20, /* index: of the section, or 0 for bytes after the last */
+    EIF_METADATA_NOT_JSON = 21, /* of eif_read_strict alone */
+    EIF_NOT_SIGN1 = 28, /* also of a claim or a signature that cannot be written */
     EIF_MESSAGE_TOO_LONG = 29
 };
 
@@ -135,10 +151,13 @@ static inline const char *eif_meaning(uint8_t number) {
     case EIF_OUTPUT_TOO_SHORT: return "output buffer too short";
     case EIF_DATA_LENGTH_DIFFERS: return "data length differs from the plan's sum of lengths";
     case EIF_RECORD_CUT: return "roll ends inside a record, or before its end record";
-    case EIF_RECORD_TYPE_WRONG: return "roll record of type above 3, or type 0 with a length not 0";
+    case EIF_RECORD_TYPE_WRONG:
+        return "roll does not begin with its flags, or record of type above 3, or type 0 with a length not 0";
     case EIF_BYTES_AFTER_END: return "bytes after the end record";
     case EIF_PAST_STREAM_END: return "stream position past the stream's end";
     case EIF_NOT_PACKED: return "section not packed, or bytes after the last section";
+    case EIF_METADATA_NOT_JSON: return "metadata is not one JSON text";
+    case EIF_NOT_SIGN1: return "not one COSE_Sign1 of the accepted form";
     case EIF_MESSAGE_TOO_LONG: return "message longer than 2,305,843,009,213,693,951 bytes";
     default: return "unknown number";
     }
@@ -162,6 +181,21 @@ static inline const char *eif_section_name(uint16_t type) {
     case EIF_SIGNATURE: return "signature";
     case EIF_METADATA: return "metadata";
     default: return "unknown type";
+    }
+}
+
+/* The processor that an image is for, the lowest bit of its header's flags (FORMAT.md, The header). */
+enum eif_architecture {
+    EIF_X86_64 = 0,
+    EIF_AARCH64 = 1
+};
+
+/* The name of an architecture. */
+static inline const char *eif_architecture_name(uint16_t architecture) {
+    switch (architecture) {
+    case EIF_X86_64: return "x86_64";
+    case EIF_AARCH64: return "aarch64";
+    default: return "unknown architecture";
     }
 }
 
@@ -216,21 +250,31 @@ typedef struct eif_plan {
 
 /* What an image holds. */
 typedef struct eif_reading {
-    uint8_t number; /* EIF_ACCEPTED, or one of 1 to 13 and 20 */
+    uint8_t number; /* EIF_ACCEPTED, or one of 1 to 13 and 20; of eif_read_strict also 21 */
     uint8_t reserved;
     uint16_t version;
     uint16_t flags;
     uint16_t count;
     uint64_t index;
+    uint64_t position; /* in the image, of what is at fault */
     uint64_t default_mem;
     uint64_t default_cpus;
     uint32_t ramdisk_mark;  /* bit i is one exactly when section i is a ramdisk */
     uint32_t ramdisk_count; /* the number of ones in the mark */
     uint32_t first_ramdisk; /* the lowest one in the mark; EIF_NO_RAMDISK where there is none, so also
                              * beside a refusal, where the mark is 0 */
-    uint32_t reserved_after;
+    uint16_t architecture;  /* the lowest bit of flags: EIF_X86_64 or EIF_AARCH64; 0 beside a refusal */
+    uint16_t reserved_after;
     eif_section sections[EIF_MAX_SECTIONS]; /* in file order, then zeros */
 } eif_reading;
+
+/* Whether bytes are one JSON text, or where they stop being one. */
+typedef struct eif_json_answer {
+    uint8_t is_text; /* 1 where they are, and otherwise 0 */
+    uint8_t reserved[7];
+    uint64_t place; /* where is_text is 0: of the first byte that no JSON text can have after the bytes
+                     * before it, counted from the start, or text_length where there is none */
+} eif_json_answer;
 
 /* An image that arrives in pieces, a value that can be kept, copied and gone on from. Any value whatever is
  * one; a fresh one comes from eif_arriving_begin. */
@@ -260,7 +304,8 @@ typedef struct eif_answer {
     uint8_t number;
     uint8_t reserved[7];
     uint64_t index;
-    uint64_t length; /* 0 beside a refusal */
+    uint64_t position; /* in the image, of what is at fault */
+    uint64_t length;   /* 0 beside a refusal */
 } eif_answer;
 
 /* The sections of a stream, in its order. */
@@ -279,6 +324,7 @@ typedef struct eif_registers_answer {
     uint8_t number; /* EIF_ACCEPTED, or one of 1 to 13 and 20 */
     uint8_t reserved[7];
     uint64_t index;
+    uint64_t position; /* in the image, of what is at fault */
     eif_digest registers[EIF_REGISTERS]; /* all 0 beside a refusal */
 } eif_registers_answer;
 
@@ -295,7 +341,8 @@ typedef struct eif_sha384_fed {
     uint8_t number; /* EIF_ACCEPTED, or EIF_MESSAGE_TOO_LONG */
     uint8_t reserved[7];
     uint64_t index;
-    eif_sha384 state; /* after the piece; beside a refusal as it was */
+    uint64_t position; /* always 0 */
+    eif_sha384 state;  /* after the piece; beside a refusal as it was */
 } eif_sha384_fed;
 
 /* A record of an accepted roll. */
@@ -307,17 +354,59 @@ typedef struct eif_roll_record {
     eif_data_length length;
 } eif_roll_record;
 
-/* What a roll lists. The end record is not listed. */
+/* What a roll holds. Flags record and end record are not listed. */
 typedef struct eif_roll_reading {
     uint8_t number; /* EIF_ACCEPTED, or one of 1, 5, 10 to 12 and 16 to 18 */
-    uint8_t reserved[7];
-    uint64_t index;
+    uint8_t reserved;
+    uint16_t flags; /* of the image's header; their lowest bit is an enum eif_architecture */
+    uint32_t reserved_after;
+    uint64_t index; /* the flags record is record 0 */
+    uint64_t position; /* in the roll, of what is at fault */
     uint64_t count;
     eif_roll_record records[EIF_MAX_SECTIONS]; /* in order, then zeros */
 } eif_roll_reading;
 
+/* The algorithms that may sign, each by its number in the COSE registry with its sign left off, with the
+ * length of its signatures. */
+enum eif_sign1_algorithm {
+    EIF_ES256 = 7,  /* 64 bytes */
+    EIF_ES384 = 35, /* 96 bytes */
+    EIF_ES512 = 36  /* 132 bytes */
+};
+
+/* A position in a COSE_Sign1, from its first byte. */
+typedef struct eif_sign1_position {
+    uint64_t value;
+} eif_sign1_position;
+
+/* What a COSE_Sign1 claims: that a register has a value. */
+typedef struct eif_sign1_claim {
+    uint64_t algorithm;      /* of enum eif_sign1_algorithm */
+    uint64_t register_index; /* any number */
+    eif_digest register_value;
+} eif_sign1_claim;
+
+/* What one COSE_Sign1 holds. Its signature is not verified. */
+typedef struct eif_sign1_reading {
+    uint8_t number; /* EIF_ACCEPTED, or EIF_NOT_SIGN1 */
+    uint8_t reserved[7];
+    uint64_t index;
+    uint64_t position;
+    eif_sign1_claim claim;
+    eif_sign1_position signature_position; /* where the signature's own bytes begin */
+    eif_data_length signature_length;
+} eif_sign1_reading;
+
 /* Reads an image (FORMAT.md, Reading an image). Refusals: 1 to 13 and 20. */
 EIF_MUST_USE eif_reading eif_read(const uint8_t *image, size_t image_length);
+
+/* Reads an image as eif_read does, and then refuses by 21 a metadata section that is not one JSON text
+ * (FORMAT.md, Stricter reading). Refusals: those of eif_read, then 21. */
+EIF_MUST_USE eif_reading eif_read_strict(const uint8_t *image, size_t image_length);
+
+/* Whether bytes are exactly one JSON text (RFC 8259) in UTF-8, with at most EIF_MAX_JSON_DEPTH arrays or
+ * objects open at once, and where not (FORMAT.md, JSON texts). Nothing is refused. */
+EIF_MUST_USE eif_json_answer eif_json_check(const uint8_t *text, size_t text_length);
 
 /* Reads an image that arrives in pieces of any size, with no room for its bytes (FORMAT.md, Check while
  * it arrives):
@@ -413,8 +502,21 @@ EIF_MUST_USE eif_answer eif_roll_write(const uint8_t *image, size_t image_length
                                        size_t out_length);
 
 /* Reads a boot roll, which is accepted exactly when it is the roll of some accepted image.
- * Refusals: for each record 16 (head cut), 17, 5, 16 (data cut), 10, 11; then 18, 12, 1. */
+ * Refusals: for the flags record 16 (head cut), 17, 16 (data cut); for each record after it 16 (head
+ * cut), 17, 5, 16 (data cut), 10, 11; then 18, 12, 1. A roll that was written before rolls had flags is
+ * refused by 17 at 0. */
 EIF_MUST_USE eif_roll_reading eif_roll_read(const uint8_t *roll, size_t roll_length);
+
+/* Reads one COSE_Sign1 and nothing after it (FORMAT.md, Signatures), as the signature section of an image
+ * holds it. The signature is not verified: whoever writes an image can claim what they like.
+ * Refusal: 28. */
+EIF_MUST_USE eif_sign1_reading eif_sign1_read(const uint8_t *bytes, size_t bytes_length);
+
+/* Writes the COSE_Sign1 of a claim and its signature over the start of out and answers its length. Bytes
+ * of out past it stay. Refusals: 28 where the algorithm is none of the three or the signature is not of its
+ * length; then 14. */
+EIF_MUST_USE eif_answer eif_sign1_write(eif_sign1_claim claim, const uint8_t *signature,
+                                        size_t signature_length, uint8_t *out, size_t out_length);
 
 #ifdef __cplusplus
 }

@@ -9,12 +9,16 @@
 #include <string.h>
 
 /* The layout of each struct, as the Rust interface has it. A wrong size is a negative array length. */
+typedef char layout_of_json[sizeof(eif_json_answer) == 16 ? 1 : -1];
+typedef char layout_of_json_place[offsetof(eif_json_answer, place) == 8 ? 1 : -1];
 typedef char layout_of_section[sizeof(eif_section) == 24 ? 1 : -1];
 typedef char layout_of_place[sizeof(eif_place) == 16 ? 1 : -1];
 typedef char layout_of_plan[sizeof(eif_plan) == 544 ? 1 : -1];
 typedef char layout_of_plan_places[offsetof(eif_plan, places) == 32 ? 1 : -1];
-typedef char layout_of_reading[sizeof(eif_reading) == 48 + 32 * 24 ? 1 : -1];
-typedef char layout_of_reading_sections[offsetof(eif_reading, sections) == 48 ? 1 : -1];
+typedef char layout_of_reading[sizeof(eif_reading) == 56 + 32 * 24 ? 1 : -1];
+typedef char layout_of_reading_position[offsetof(eif_reading, position) == 16 ? 1 : -1];
+typedef char layout_of_reading_architecture[offsetof(eif_reading, architecture) == 52 ? 1 : -1];
+typedef char layout_of_reading_sections[offsetof(eif_reading, sections) == 56 ? 1 : -1];
 typedef char layout_of_arriving[sizeof(eif_arriving) == 8 + 548 + 384 + 4 + 8 ? 1 : -1];
 typedef char layout_of_arriving_header[offsetof(eif_arriving, header) == 8 ? 1 : -1];
 typedef char layout_of_arriving_sections[offsetof(eif_arriving, section_headers) == 556 ? 1 : -1];
@@ -22,24 +26,26 @@ typedef char layout_of_arriving_checksum[offsetof(eif_arriving, checksum) == 940
 typedef char layout_of_arriving_ended[offsetof(eif_arriving, ended) == 944 ? 1 : -1];
 typedef char layout_of_arriving_fed[sizeof(eif_arriving_fed) == 960 ? 1 : -1];
 typedef char layout_of_arriving_count[offsetof(eif_arriving_fed, count) == 952 ? 1 : -1];
-typedef char layout_of_arriving_finished[sizeof(eif_arriving_finished) == 952 + 816 ? 1 : -1];
+typedef char layout_of_arriving_finished[sizeof(eif_arriving_finished) == 952 + 824 ? 1 : -1];
 typedef char layout_of_arriving_reading[offsetof(eif_arriving_finished, reading) == 952 ? 1 : -1];
-typedef char layout_of_answer[sizeof(eif_answer) == 24 ? 1 : -1];
+typedef char layout_of_answer[sizeof(eif_answer) == 32 ? 1 : -1];
+typedef char layout_of_answer_position[offsetof(eif_answer, position) == 16 ? 1 : -1];
 typedef char layout_of_stream_sections[sizeof(eif_stream_sections) == 8 + 32 * 24 ? 1 : -1];
 typedef char layout_of_stream_list[offsetof(eif_stream_sections, sections) == 8 ? 1 : -1];
 typedef char layout_of_sha384[sizeof(eif_sha384) == 200 ? 1 : -1];
 typedef char layout_of_sha384_block[offsetof(eif_sha384, block) == 64 ? 1 : -1];
 typedef char layout_of_sha384_total[offsetof(eif_sha384, total) == 192 ? 1 : -1];
-typedef char layout_of_sha384_fed[sizeof(eif_sha384_fed) == 216 ? 1 : -1];
-typedef char layout_of_sha384_fed_state[offsetof(eif_sha384_fed, state) == 16 ? 1 : -1];
+typedef char layout_of_sha384_fed[sizeof(eif_sha384_fed) == 224 ? 1 : -1];
+typedef char layout_of_sha384_fed_state[offsetof(eif_sha384_fed, state) == 24 ? 1 : -1];
 typedef char layout_of_digest[sizeof(eif_digest) == 48 ? 1 : -1];
-typedef char layout_of_registers[sizeof(eif_registers_answer) == 160 ? 1 : -1];
-typedef char layout_of_registers_values[offsetof(eif_registers_answer, registers) == 16 ? 1 : -1];
+typedef char layout_of_registers[sizeof(eif_registers_answer) == 168 ? 1 : -1];
+typedef char layout_of_registers_values[offsetof(eif_registers_answer, registers) == 24 ? 1 : -1];
 typedef char layout_of_roll_record[sizeof(eif_roll_record) == 24 ? 1 : -1];
-typedef char layout_of_roll_reading[sizeof(eif_roll_reading) == 24 + 32 * 24 ? 1 : -1];
-typedef char layout_of_roll_records[offsetof(eif_roll_reading, records) == 24 ? 1 : -1];
+typedef char layout_of_roll_reading[sizeof(eif_roll_reading) == 32 + 32 * 24 ? 1 : -1];
+typedef char layout_of_roll_flags[offsetof(eif_roll_reading, flags) == 2 ? 1 : -1];
+typedef char layout_of_roll_records[offsetof(eif_roll_reading, records) == 32 ? 1 : -1];
 
-enum { IMAGE_LENGTH = 585, ROLL_LENGTH = 41 };
+enum { IMAGE_LENGTH = 585, ROLL_LENGTH = 53 };
 
 static int failures = 0;
 
@@ -75,6 +81,8 @@ static void try_null(const uint8_t *image) {
     eif_plan empty = plan_of(2);
     empty.places[0].length.value = 0;
     check(eif_read(NULL, 0).number == EIF_IMAGE_TOO_SHORT, "read of null");
+    check(eif_read_strict(NULL, 0).number == EIF_IMAGE_TOO_SHORT, "strict read of null");
+    check(eif_json_check(NULL, 0).is_text == 0 && eif_json_check(NULL, 0).place == 0, "text of null");
     check(eif_whole_length(NULL, 0).number == EIF_IMAGE_TOO_SHORT, "whole length of null");
     check(eif_boot_length(NULL, 0).number == EIF_IMAGE_TOO_SHORT, "boot length of null");
     check(eif_app_length(NULL, 0).number == EIF_IMAGE_TOO_SHORT, "app length of null");
@@ -121,19 +129,34 @@ static int zero(const uint8_t *bytes, size_t length) {
 }
 
 /* An accepted image or, with a shorter length, a refused one. */
-static void try_reading(const uint8_t *image, size_t length) {
+static void try_reading(const uint8_t *image, size_t length,
+                        eif_reading (*read)(const uint8_t *, size_t)) {
     static eif_reading one, other;
     memset(&one, 0x55, sizeof one);
     memset(&other, 0xaa, sizeof other);
     soil(0x11);
-    one = eif_read(image, length);
+    one = read(image, length);
     soil(0xee);
-    other = eif_read(image, length);
+    other = read(image, length);
     check(memcmp(&one, &other, sizeof one) == 0, "equal readings by memcmp");
     check(one.reserved == 0 && one.reserved_after == 0, "reserved of a reading");
     for (unsigned i = 0; i < EIF_MAX_SECTIONS; i++) {
         check(one.sections[i].reserved == 0, "reserved of a section");
     }
+}
+
+/* Bytes that are a JSON text, or are none. */
+static void try_json(const char *text) {
+    static eif_json_answer one, other;
+    const uint8_t *bytes = (const uint8_t *)text;
+    memset(&one, 0x55, sizeof one);
+    memset(&other, 0xaa, sizeof other);
+    soil(0x11);
+    one = eif_json_check(bytes, strlen(text));
+    soil(0xee);
+    other = eif_json_check(bytes, strlen(text));
+    check(memcmp(&one, &other, sizeof one) == 0, "equal JSON answers by memcmp");
+    check(zero(one.reserved, sizeof one.reserved), "reserved of a JSON answer");
 }
 
 static void try_stream_sections(const uint8_t *image, size_t length,
@@ -164,7 +187,7 @@ static void try_roll_reading(const uint8_t *roll, size_t length) {
     soil(0xee);
     other = eif_roll_read(roll, length);
     check(memcmp(&one, &other, sizeof one) == 0, "equal roll readings by memcmp");
-    check(zero(one.reserved, sizeof one.reserved), "reserved of a roll reading");
+    check(one.reserved == 0 && one.reserved_after == 0, "reserved of a roll reading");
     for (unsigned i = 0; i < EIF_MAX_SECTIONS; i++) {
         check(one.records[i].reserved == 0, "reserved of a record");
         check(one.records[i].reserved_after == 0, "reserved after a record");
@@ -236,9 +259,11 @@ static void try_words(void) {
     check(strcmp(eif_meaning(13), "checksum differs") == 0, "meaning of 13");
     check(strcmp(eif_meaning(20), "section not packed, or bytes after the last section") == 0,
           "meaning of 20");
+    check(strcmp(eif_meaning(21), "metadata is not one JSON text") == 0, "meaning of 21");
     check(strcmp(eif_meaning(255), "unknown number") == 0, "meaning of 255");
     check(strcmp(eif_section_name(EIF_COMMAND_LINE), "command line") == 0, "name of 2");
     check(strcmp(eif_section_name(0), "unknown type") == 0, "name of 0");
+    check(strcmp(eif_architecture_name(EIF_AARCH64), "aarch64") == 0, "name of an architecture");
     check(strcmp(EIF_VERSION, "") != 0, "version");
 }
 
@@ -250,8 +275,13 @@ int main(void) {
     check(eif_write(plan, data, sizeof data, image, sizeof image).number == EIF_ACCEPTED, "write");
     check(eif_roll_write(image, sizeof image, roll, sizeof roll).number == EIF_ACCEPTED, "roll");
     try_null(image);
-    try_reading(image, IMAGE_LENGTH);
-    try_reading(image, 547);
+    try_reading(image, IMAGE_LENGTH, eif_read);
+    try_reading(image, 547, eif_read);
+    try_reading(image, IMAGE_LENGTH, eif_read_strict);
+    try_reading(image, 547, eif_read_strict);
+    try_json("{}");
+    try_json("{]");
+    try_json("{");
     try_stream_sections(image, IMAGE_LENGTH, eif_whole_sections);
     try_stream_sections(image, IMAGE_LENGTH, eif_boot_sections);
     try_stream_sections(image, IMAGE_LENGTH, eif_app_sections);

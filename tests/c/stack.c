@@ -10,13 +10,19 @@
 #include <string.h>
 #include <ucontext.h>
 
-enum { STACK_LENGTH = 1 << 18, PATTERN = 0xa5, RAMDISKS = 30, DATA_LENGTH = 32 * 40 };
+enum {
+    STACK_LENGTH = 1 << 18,
+    PATTERN = 0xa5,
+    SECTIONS = EIF_MAX_SECTIONS,
+    PART = 64,
+    DATA_LENGTH = SECTIONS * PART
+};
 
 static uint8_t stack[STACK_LENGTH];
 static ucontext_t here, there;
 
 static eif_plan plan;
-static uint8_t data[DATA_LENGTH];
+static uint8_t data[DATA_LENGTH], text[PART];
 static uint8_t image[4096], out[4096], roll[4096];
 static size_t image_length, roll_length;
 static eif_stream_position start;
@@ -25,6 +31,7 @@ static eif_stream_position start;
 static eif_reading reading;
 static eif_roll_reading roll_reading;
 static eif_answer answer;
+static eif_json_answer json;
 static eif_arriving arriving;
 static eif_arriving_fed arriving_fed;
 static eif_arriving_finished arrived;
@@ -33,9 +40,14 @@ static eif_registers_answer registers;
 static eif_sha384 begun;
 static eif_sha384_fed fed;
 static eif_digest digest;
+static eif_sign1_claim claim;
+static eif_sign1_reading sign1_reading;
+static uint8_t sign1[EIF_MAX_SIGN1_LENGTH];
 
 static void nothing(void) {}
 static void call_read(void) { reading = eif_read(image, image_length); }
+static void call_read_strict(void) { reading = eif_read_strict(image, image_length); }
+static void call_json_check(void) { json = eif_json_check(text, sizeof text); }
 static void call_arriving_begin(void) { arriving = eif_arriving_begin(); }
 static void call_arriving_feed(void) {
     arriving_fed = eif_arriving_feed(arriving, image, image_length, UINT64_MAX);
@@ -70,6 +82,11 @@ static void call_roll_write(void) {
     answer = eif_roll_write(image, image_length, out, sizeof out);
 }
 static void call_roll_read(void) { roll_reading = eif_roll_read(roll, roll_length); }
+/* The longest, which is 281 bytes. */
+static void call_sign1_write(void) {
+    answer = eif_sign1_write(claim, data, 132, sign1, sizeof sign1);
+}
+static void call_sign1_read(void) { sign1_reading = eif_sign1_read(sign1, sizeof sign1); }
 
 /* The bytes of stack that a function takes, with what the switch to it takes. */
 static size_t used(void (*function)(void)) {
@@ -87,14 +104,20 @@ static size_t used(void (*function)(void)) {
     return sizeof stack - left;
 }
 
-/* The largest image in sections: kernel, command line and 30 ramdisks of 40 bytes. */
+/* The largest image in sections: kernel, command line, metadata and 29 ramdisks of 64 bytes each. The metadata
+ * is the deepest JSON text. */
 static int prepare(void) {
+    memset(text, '[', PART / 2);
+    memset(text + PART / 2, ']', PART / 2);
     memset(data, 0x5a, sizeof data);
-    plan.version = 2;
-    plan.count = 2 + RAMDISKS;
-    for (unsigned i = 0; i < 2 + RAMDISKS; i++) {
-        plan.places[i].type = (uint16_t)(i < 2 ? i + 1 : EIF_RAMDISK);
-        plan.places[i].length.value = 40;
+    memcpy(data + 2 * PART, text, PART);
+    memset(&claim, 0xff, sizeof claim);
+    claim.algorithm = EIF_ES512;
+    plan.version = 4;
+    plan.count = SECTIONS;
+    for (unsigned i = 0; i < SECTIONS; i++) {
+        plan.places[i].type = (uint16_t)(i < 2 ? i + 1 : i == 2 ? EIF_METADATA : EIF_RAMDISK);
+        plan.places[i].length.value = PART;
     }
     answer = eif_write(plan, data, sizeof data, image, sizeof image);
     image_length = (size_t)answer.length;
@@ -112,6 +135,8 @@ int main(void) {
         void (*function)(void);
     } calls[] = {
         {"eif_read", call_read},
+        {"eif_read_strict", call_read_strict},
+        {"eif_json_check", call_json_check},
         {"eif_arriving_begin", call_arriving_begin},
         {"eif_arriving_feed", call_arriving_feed},
         {"eif_arriving_finish", call_arriving_finish},
@@ -134,6 +159,8 @@ int main(void) {
         {"eif_roll_length", call_roll_length},
         {"eif_roll_write", call_roll_write},
         {"eif_roll_read", call_roll_read},
+        {"eif_sign1_write", call_sign1_write},
+        {"eif_sign1_read", call_sign1_read},
     };
     int failures = 0;
     size_t least = used(nothing);
@@ -147,7 +174,8 @@ int main(void) {
         printf("stack: %-20s %6zu bytes%s\n", calls[i].name, bytes, fits ? "" : ": too many");
         failures += !fits || reading.number != 0 || arrived.reading.number != 0 ||
                     roll_reading.number != 0 || answer.number != 0 || registers.number != 0 ||
-                    fed.number != 0;
+                    fed.number != 0 || sign1_reading.number != 0;
     }
+    failures += json.is_text != 1;
     return failures != 0;
 }

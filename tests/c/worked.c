@@ -7,7 +7,7 @@
 #include <stdio.h>
 #include <string.h>
 
-enum { IMAGE_LENGTH = 586, ROLL_LENGTH = 42, STAYS = 0xaa };
+enum { IMAGE_LENGTH = 586, ROLL_LENGTH = 54, STAYS = 0xaa };
 
 static eif_stream_position at(uint64_t value) {
     eif_stream_position position;
@@ -16,6 +16,7 @@ static eif_stream_position at(uint64_t value) {
 }
 
 static const uint8_t expected_roll[ROLL_LENGTH] = {
+    0x02, 0, 0, 0, 0, 0, 0, 0, 0x00, 1, 0x00, 0,
     0x01, 0, 0, 0, 0, 0, 0, 0, 0x01, 0, 0x4b,
     0x01, 0, 0, 0, 0, 0, 0, 0, 0x02, 0, 0x61,
     0x00, 0, 0, 0, 0, 0, 0, 0, 0x03, 0,
@@ -30,8 +31,14 @@ static void check(int holds, const char *what) {
     }
 }
 
+/* Every refusal of this kind here has index and position 0. */
 static int is(eif_answer answer, unsigned number, uint64_t length) {
-    return answer.number == number && answer.index == 0 && answer.length == length;
+    return answer.number == number && answer.index == 0 && answer.position == 0 &&
+           answer.length == length;
+}
+
+static int refused(eif_reading reading, unsigned number, uint64_t index, uint64_t position) {
+    return reading.number == number && reading.index == index && reading.position == position;
 }
 
 /* All bytes from begin up to end still have their first value. */
@@ -104,8 +111,9 @@ static void try_read(const uint8_t *image) {
     static const uint64_t offsets[3] = {548, 561, 574};
     static const uint64_t lengths[3] = {1, 1, 0};
     eif_reading reading = eif_read(image, IMAGE_LENGTH);
-    check(reading.number == EIF_ACCEPTED && reading.index == 0, "read");
+    check(refused(reading, EIF_ACCEPTED, 0, 0), "read");
     check(reading.version == 2 && reading.flags == 0, "version and flags");
+    check(reading.architecture == EIF_X86_64, "architecture");
     check(reading.default_mem == 0 && reading.default_cpus == 0, "default_mem and default_cpus");
     check(reading.count == 3, "count");
     check(reading.ramdisk_mark == 4 && reading.ramdisk_count == 1, "ramdisk mark and count");
@@ -118,11 +126,51 @@ static void try_read(const uint8_t *image) {
         check(section.length.value == (i < 3 ? lengths[i] : 0), "length of a section");
     }
 
-    eif_reading refused = eif_read(image, 547);
-    check(refused.number == EIF_IMAGE_TOO_SHORT && refused.index == 0, "read, 547 bytes");
-    check(refused.version == 0 && refused.count == 0, "fields beside a refusal");
-    check(refused.ramdisk_mark == 0 && refused.ramdisk_count == 0, "ramdisks beside a refusal");
-    check(refused.first_ramdisk == EIF_NO_RAMDISK, "first ramdisk beside a refusal");
+    eif_reading cut = eif_read(image, 547);
+    check(refused(cut, EIF_IMAGE_TOO_SHORT, 0, 0), "read, 547 bytes");
+    check(cut.version == 0 && cut.count == 0, "fields beside a refusal");
+    check(cut.ramdisk_mark == 0 && cut.ramdisk_count == 0, "ramdisks beside a refusal");
+    check(cut.first_ramdisk == EIF_NO_RAMDISK, "first ramdisk beside a refusal");
+}
+
+/* A byte of the image changed: where the refusal says that it stands. */
+static void try_position(const uint8_t *image, size_t place, uint8_t value, unsigned number,
+                         uint64_t index, uint64_t position) {
+    uint8_t changed[IMAGE_LENGTH];
+    memcpy(changed, image, IMAGE_LENGTH);
+    changed[place] = value;
+    eif_reading reading = eif_read(changed, IMAGE_LENGTH);
+    check(refused(reading, number, index, position), "position of a refusal");
+    eif_arriving state = eif_arriving_begin();
+    state = eif_arriving_feed(state, changed, IMAGE_LENGTH, UINT64_MAX).state;
+    eif_arriving_finished end = eif_arriving_finish(state);
+    check(refused(end.reading, number, index, position), "position, arriving");
+    eif_answer roll = eif_roll_length(changed, IMAGE_LENGTH);
+    check(roll.number == number && roll.index == index && roll.position == position &&
+              roll.length == 0,
+          "position, handed on by a roll");
+    eif_answer copied = eif_copy_boot(changed, IMAGE_LENGTH, at(UINT64_MAX), NULL, 0);
+    check(copied.number == number && copied.position == position, "position, handed on by a stream");
+    eif_registers_answer registers = eif_registers(changed, IMAGE_LENGTH);
+    check(registers.number == number && registers.index == index &&
+              registers.position == position,
+          "position, handed on by registers");
+}
+
+/* The checksum is never mended: every rule here but 13 is judged before it. */
+static void try_positions(const uint8_t *image) {
+    try_position(image, 3, 'x', EIF_WRONG_MAGIC, 0, 0);
+    try_position(image, 5, 9, EIF_WRONG_VERSION, 0, 4);
+    try_position(image, 27, 1, EIF_WRONG_COUNT, 0, 26);
+    try_position(image, 43, 0, EIF_STARTS_EARLY, 1, 36);
+    try_position(image, 51, 255, EIF_NOT_PACKED, 2, 44);
+    try_position(image, 307, 9, EIF_ENDS_LATE, 2, 44);
+    try_position(image, 572, 9, EIF_SIZES_DIFFER, 1, 561);
+    try_position(image, 575, 9, EIF_TYPE_NOT_ALLOWED, 2, 574);
+    try_position(image, 549, 3, EIF_RAMDISK_BEFORE_KERNEL, 0, 548);
+    try_position(image, 575, 2, EIF_TYPE_REPEATED, 2, 574);
+    try_position(image, 562, 3, EIF_SECTION_MISSING, 0, 26);
+    try_position(image, 560, 0, EIF_CHECKSUM_DIFFERS, 0, 544);
 }
 
 /* A byte after the last section, and a gap of one byte before it. Checksums are not mended: 20 is judged
@@ -131,11 +179,67 @@ static void try_padded(const uint8_t *image) {
     uint8_t padded[IMAGE_LENGTH + 1] = {0};
     memcpy(padded, image, IMAGE_LENGTH);
     eif_reading tail = eif_read(padded, IMAGE_LENGTH + 1);
-    check(tail.number == EIF_NOT_PACKED && tail.index == 0, "read, a byte after the last section");
+    check(refused(tail, EIF_NOT_PACKED, 0, IMAGE_LENGTH), "read, a byte after the last section");
     memcpy(padded + 575, image + 574, IMAGE_LENGTH - 574);
     padded[51] = 575 % 256;
     eif_reading gap = eif_read(padded, IMAGE_LENGTH + 1);
-    check(gap.number == EIF_NOT_PACKED && gap.index == 2, "read, a gap before section 2");
+    check(refused(gap, EIF_NOT_PACKED, 2, 44), "read, a gap before section 2");
+}
+
+/* What is no JSON text, and where. */
+static void try_json(void) {
+    static const struct {
+        const char *text;
+        uint8_t is_text;
+        uint64_t place;
+    } rows[] = {
+        {"{\"name\": [1, -0.5e+3, \"\\u00e9\"]}", 1, 0},
+        {"{\"a\": 1,, 2}", 0, 8},
+        {"{\"a\": [1, 2", 0, 11},
+        {"\xef\xbb\xbf{}", 0, 0},
+        {"\"\xed\xa0\x80\"", 0, 2},
+        {"", 0, 0}};
+    for (unsigned i = 0; i < sizeof rows / sizeof rows[0]; i++) {
+        eif_json_answer answer = eif_json_check((const uint8_t *)rows[i].text, strlen(rows[i].text));
+        check(answer.is_text == rows[i].is_text && answer.place == rows[i].place, rows[i].text);
+    }
+    uint8_t deep[2 * EIF_MAX_JSON_DEPTH + 2];
+    size_t half = sizeof deep / 2;
+    memset(deep, '[', half);
+    memset(deep + half, ']', half);
+    check(eif_json_check(deep, sizeof deep).place == EIF_MAX_JSON_DEPTH, "one open too many");
+    check(eif_json_check(deep + 1, sizeof deep - 2).is_text == 1, "as many open as may be");
+}
+
+/* Metadata that is JSON, and metadata that was cut before it was packed: the file is whole. */
+static void try_strict(const uint8_t *worked) {
+    static const uint8_t data[9] = {'k', 'c', '{', '"', 'a', '"', ':', '1', '}'};
+    uint8_t image[600];
+    eif_plan plan;
+    memset(&plan, 0, sizeof plan);
+    plan.version = 4;
+    plan.count = 3;
+    put_place(&plan, 0, EIF_KERNEL, 1);
+    put_place(&plan, 1, EIF_COMMAND_LINE, 1);
+    for (size_t length = 0; length <= 7; length++) {
+        put_place(&plan, 2, EIF_METADATA, length);
+        eif_answer written = eif_write(plan, data, 2 + length, image, sizeof image);
+        size_t image_length = (size_t)written.length;
+        eif_reading ordinary = eif_read(image, image_length);
+        eif_reading strict = eif_read_strict(image, image_length);
+        check(ordinary.number == EIF_ACCEPTED, "read, metadata of any bytes");
+        if (length == 7) {
+            check(memcmp(&strict, &ordinary, sizeof strict) == 0, "strict reading");
+            continue;
+        }
+        check(strict.number == EIF_METADATA_NOT_JSON && strict.index == 2, "metadata cut");
+        check(strict.count == 0 && strict.first_ramdisk == EIF_NO_RAMDISK, "beside 21");
+        image[560] ^= 1;
+        check(eif_read_strict(image, image_length).number == EIF_CHECKSUM_DIFFERS, "13 before 21");
+    }
+    eif_reading strict = eif_read_strict(worked, IMAGE_LENGTH);
+    eif_reading ordinary = eif_read(worked, IMAGE_LENGTH);
+    check(memcmp(&strict, &ordinary, sizeof strict) == 0, "strict reading, no metadata");
 }
 
 static int same_reading(const eif_reading *a, const eif_reading *b) {
@@ -167,8 +271,8 @@ static void try_arriving_end(const uint8_t *image) {
     eif_arriving_fed none = eif_arriving_feed(fed.state, image, IMAGE_LENGTH, 0);
     check(none.count == 0 && memcmp(&none.state, &fed.state, sizeof state) == 0, "allowance 0");
     eif_arriving_finished end = eif_arriving_finish(fed.state);
-    eif_reading refused = eif_read(image, 547);
-    check(same_reading(&end.reading, &refused), "547 bytes arrived");
+    eif_reading whole = eif_read(image, 547);
+    check(same_reading(&end.reading, &whole), "547 bytes arrived");
     check(end.state.ended == 1 && end.state.taken == 547, "end told");
     fed = eif_arriving_feed(end.state, image + 547, IMAGE_LENGTH - 547, UINT64_MAX);
     check(fed.count == 0 && memcmp(&fed.state, &end.state, sizeof state) == 0, "after the end");
@@ -250,12 +354,12 @@ static void try_file_order(void) {
 }
 
 static void try_roll(const uint8_t *image) {
-    static const uint64_t positions[3] = {10, 21, 32};
-    uint8_t out[50];
+    static const uint64_t positions[3] = {22, 33, 44};
+    uint8_t out[62];
     check(is(eif_roll_length(image, IMAGE_LENGTH), EIF_ACCEPTED, ROLL_LENGTH), "roll's length");
     check(is(eif_roll_length(image, 547), EIF_IMAGE_TOO_SHORT, 0), "roll's length, 547 bytes");
     memset(out, STAYS, sizeof out);
-    check(is(eif_roll_write(image, IMAGE_LENGTH, out, 41), EIF_OUTPUT_TOO_SHORT, 0), "roll, 41");
+    check(is(eif_roll_write(image, IMAGE_LENGTH, out, 53), EIF_OUTPUT_TOO_SHORT, 0), "roll, 53");
     check(stays(out, 0, sizeof out), "output of a refused roll");
     check(is(eif_roll_write(image, IMAGE_LENGTH, out, sizeof out), EIF_ACCEPTED, ROLL_LENGTH),
           "roll");
@@ -263,8 +367,8 @@ static void try_roll(const uint8_t *image) {
     check(stays(out, ROLL_LENGTH, sizeof out), "output past the roll");
 
     eif_roll_reading reading = eif_roll_read(expected_roll, ROLL_LENGTH);
-    check(reading.number == EIF_ACCEPTED && reading.index == 0, "roll read");
-    check(reading.count == 3, "roll's count");
+    check(reading.number == EIF_ACCEPTED && reading.index == 0 && reading.position == 0, "roll read");
+    check(reading.flags == 0 && reading.count == 3, "roll's flags and count");
     for (unsigned i = 0; i < EIF_MAX_SECTIONS; i++) {
         eif_roll_record record = reading.records[i];
         check(record.type == (i < 3 ? i + 1 : 0), "type of a record");
@@ -273,7 +377,33 @@ static void try_roll(const uint8_t *image) {
     }
 
     eif_roll_reading cut = eif_roll_read(expected_roll, ROLL_LENGTH - 1);
-    check(cut.number == EIF_RECORD_CUT && cut.index == 3 && cut.count == 0, "roll cut");
+    check(cut.number == EIF_RECORD_CUT && cut.index == 4 && cut.position == 44 && cut.count == 0,
+          "roll cut");
+    eif_roll_reading old = eif_roll_read(expected_roll + EIF_FLAGS_RECORD_LENGTH,
+                                         ROLL_LENGTH - EIF_FLAGS_RECORD_LENGTH);
+    check(old.number == EIF_RECORD_TYPE_WRONG && old.index == 0 && old.position == 0,
+          "roll without its flags record");
+}
+
+/* Flags join the roll, and their lowest bit is the architecture. */
+static void try_flags(void) {
+    static const uint8_t data[1] = {'k'};
+    static const uint8_t record[EIF_FLAGS_RECORD_LENGTH] = {2, 0, 0, 0, 0, 0, 0, 0, 0, 1, 0x03, 0x12};
+    uint8_t image[573], roll[64];
+    eif_plan plan;
+    memset(&plan, 0, sizeof plan);
+    plan.version = 2;
+    plan.flags = 0x1203;
+    plan.count = 2;
+    put_place(&plan, 0, EIF_KERNEL, 1);
+    put_place(&plan, 1, EIF_COMMAND_LINE, 0);
+    check(is(eif_write(plan, data, 1, image, sizeof image), EIF_ACCEPTED, 573), "image with flags");
+    eif_reading reading = eif_read(image, sizeof image);
+    check(reading.flags == 0x1203 && reading.architecture == EIF_AARCH64, "flags of an image");
+    eif_answer written = eif_roll_write(image, sizeof image, roll, sizeof roll);
+    check(is(written, EIF_ACCEPTED, 43), "roll with flags");
+    check(memcmp(roll, record, sizeof record) == 0, "flags record");
+    check(eif_roll_read(roll, 43).flags == 0x1203, "flags of a roll");
 }
 
 /* Whether a digest begins with these 8 bytes. */
@@ -293,10 +423,10 @@ static void try_registers(const uint8_t *image) {
     check(begins(answer.registers[1], UINT64_C(0x9e7c220976a9e4a0)), "register 1");
     check(begins(answer.registers[2], UINT64_C(0x21b9efbc18480766)), "register 2");
 
-    eif_registers_answer refused = eif_registers(image, 547);
-    check(refused.number == EIF_IMAGE_TOO_SHORT && refused.index == 0, "registers, 547 bytes");
+    eif_registers_answer cut = eif_registers(image, 547);
+    check(cut.number == EIF_IMAGE_TOO_SHORT && cut.index == 0, "registers, 547 bytes");
     for (unsigned i = 0; i < EIF_REGISTERS; i++) {
-        check(memcmp(&refused.registers[i], &zeros, sizeof zeros) == 0, "registers beside a refusal");
+        check(memcmp(&cut.registers[i], &zeros, sizeof zeros) == 0, "registers beside a refusal");
     }
 }
 
@@ -320,9 +450,10 @@ static void try_sha384(void) {
     eif_sha384 full = first.state;
     full.total = EIF_MAX_MESSAGE_LENGTH - 2;
     check(eif_sha384_update(full, abc, 2).number == EIF_ACCEPTED, "a piece up to the limit");
-    eif_sha384_fed refused = eif_sha384_update(full, abc, 3);
-    check(refused.number == EIF_MESSAGE_TOO_LONG && refused.index == 0, "a piece past the limit");
-    check(memcmp(&refused.state, &full, sizeof full) == 0, "state beside a refusal");
+    eif_sha384_fed past = eif_sha384_update(full, abc, 3);
+    check(past.number == EIF_MESSAGE_TOO_LONG && past.index == 0 && past.position == 0,
+          "a piece past the limit");
+    check(memcmp(&past.state, &full, sizeof full) == 0, "state beside a refusal");
 }
 
 int main(void) {
@@ -330,7 +461,10 @@ int main(void) {
     expect_image(image);
     try_write(image);
     try_read(image);
+    try_positions(image);
     try_padded(image);
+    try_json();
+    try_strict(image);
     try_arriving(image);
     try_arriving_end(image);
     try_streams(image);
@@ -339,6 +473,7 @@ int main(void) {
     try_registers(image);
     try_sha384();
     try_roll(image);
+    try_flags();
     if (failures != 0) {
         return 1;
     }

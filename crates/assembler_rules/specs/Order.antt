@@ -8,9 +8,9 @@ use Rattle.assembler_rules.specs.Records.{formed}
 use Rattle.assembler_rules.specs.Rules.{outOfTurn, misplaced, tooLong, tooShort, differs, lacksPiece}
 use Rattle.assembler_rules.specs.declared.State.{State}
 
--- a rule on a record: its index is 0
+-- a rule on a record: its index and its position are 0
 abbrev recordRule : Bool → ℕ → Rule
-recordRule applies number = rule applies number 0
+recordRule applies number = rule applies number 0 0
 
 unfoldable pub stepRules : State → List ℕ → List ℕ → List ℕ → List Rule
 stepRules st r x y =

@@ -1,7 +1,7 @@
 -- The flat answer of the assembler.
 -- Assumes nothing.
 use lib.ListN.{replicate}
-use Rattle.eif.specs.Answers.{numberOf, indexOf}
+use Rattle.eif.specs.Answers.{numberOf, indexOf, positionOf}
 use Rattle.assembler_rules.specs.declared.Stepped.{Stepped}
 use Rattle.eif_c.specs.declared.assembly.EifStepped.{EifStepped}
 
@@ -11,6 +11,7 @@ flatStepped s =
       number = numberOf (s .verdict);
       reserved = replicate 7 0;
       index = indexOf (s .verdict);
+      position = positionOf (s .verdict);
       state = s .state;
       length = s .length;
     }

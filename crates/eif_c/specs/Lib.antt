@@ -2,4 +2,6 @@ pub mod Flat
 pub mod Measure
 pub mod Listed
 pub mod Arrival
+pub mod Strict
+pub mod Signature
 pub mod Assembly

@@ -11,6 +11,7 @@ pub struct EifStepped {
     pub number: u8,
     pub reserved: [u8; 7],
     pub index: u64,
+    pub position: u64,
     pub state: State,
     pub length: u64,
 }
@@ -41,6 +42,7 @@ pub extern "C" fn eif_assembler_step(
         number: crate::number_of(verdict),
         reserved: [0u8; 7],
         index: crate::index_of(verdict),
+        position: crate::position_of(verdict),
         state: next,
         length: done.length,
     }

@@ -1,22 +1,25 @@
--- The roll of a list of sections: one section's record, the list one section further, and that it is the roll of the image.
+-- The roll of a list of sections: one section's record, the list one section further, and that behind the flags record it is the
+-- roll of the image.
 -- Assumes nothing.
 use Prim.Native.Nat.{ℕ, suc, _+_, _*_, _<_, _≤_}
 use mathlib.Core.Path.{_≡_, refl, sym, ap, ap₂, _∙_}
 use mathlib.Core.List.{List, [], _∷_, _++_, append-assoc}
 use mathlib.Core.Bool.{Bool, true, false}
 use native.Mathlib.Omega.{arith}
+use native.Mathlib.Nat.{zero-add}
 use lib.ListN.{length, drop, getD, length-append, drop-of-length-le}
 use lib.Seq.{drop-cons}
 use Rattle.octets.specs.Over.{over}
 use Rattle.octets.proofs.Over.{over-append}
 use Rattle.eif.specs.Numbers.{sizeLimit, placeCount}
 use Rattle.eif.specs.Logic.{choose}
-use Rattle.eif.specs.Layout.{countOf}
+use Rattle.eif.specs.Layout.{headerFlagsOf, countOf}
 use Rattle.eif.specs.Reading.{verdictOf, blankSection, sectionAt, sectionsOf, dataOf}
-use Rattle.eif.specs.Roll.{recordHeadSize, headOf, endType, inRoll, rollOf, recordFor, recordsIn, rollBytes}
+use Rattle.eif.specs.Roll.{recordHeadSize, flagsRecordSize, headOf, flagsRecord, endType, inRoll, rollOf, recordFor, recordsIn, recordsOf, rollBytes}
 use Rattle.eif.specs.declared.Section.{Section}
 use Rattle.eif.specs.declared.Verdict.the-variants.{Accepted}
 use Rattle.eif_rules.proofs.Table.{All, all-at, length-filled}
+use Rattle.eif_rules.proofs.Flags.{length-flags}
 use Rattle.eif_rules.proofs.Accept.{Inside, length-data, passes, sections-inside}
 use Rattle.roll_writer.specs.Write.{partOf, partSize, rollFor, sizeFor, sizeBound}
 
@@ -134,12 +137,21 @@ module _ (s : List ℕ) where
 
   -- of an accepted image it is the roll, and far from wrapping
   module _ (e : verdictOf s ≡ Accepted) where
-    pub roll-is : rollFor s (sectionsOf s) ≡ rollBytes s
+    -- the flags record and then the roll
+    pub roll-is : (d : List ℕ) → over (over d 0 (flagsRecord (headerFlagsOf s))) flagsRecordSize (rollFor s (sectionsOf s)) ≡ over d 0 (rollBytes s)
     unfolding rollBytes
-    roll-is = roll-records (sectionsOf s) (sections-inside s e)
+    roll-is d =
+        let f = flagsRecord (headerFlagsOf s) in
+        ap₂ (λ (n : ℕ) (r : List ℕ). over (over d 0 f) n r) (sym (length-flags (headerFlagsOf s))) (roll-records (sectionsOf s) (sections-inside s e))
+        ∙ ap (λ (n : ℕ). over (over d 0 f) n (rollOf (recordsOf s))) (sym (zero-add (length f))) ∙ sym (over-append d 0 f (rollOf (recordsOf s)))
 
-    pub size-is : sizeFor (sectionsOf s) ≡ length (rollBytes s)
-    size-is = sym (length-roll (sectionsOf s) (sections-inside s e)) ∙ ap length roll-is
+    pub size-is : flagsRecordSize + sizeFor (sectionsOf s) ≡ length (rollBytes s)
+    unfolding rollBytes
+    size-is =
+        let n = length-append (flagsRecord (headerFlagsOf s)) (rollOf (recordsOf s)) in
+        let m = length-flags (headerFlagsOf s) in
+        let k = sym (length-roll (sectionsOf s) (sections-inside s e)) ∙ ap length (roll-records (sectionsOf s) (sections-inside s e)) in
+        omega arith
 
     pub size-bounded : sizeFor (sectionsOf s) ≤ sizeBound
     size-bounded =

@@ -1,4 +1,4 @@
-// Writing the boot roll of an image: a record for each kernel, command line and ramdisk in file order, and the end record.
+// Writing the boot roll of an image: the header's flags, a record for each kernel, command line and ramdisk in file order, and the end record.
 //
 // The image is read first, and a refusal of it is handed on. Then the roll is measured before a byte of it is written, so that a
 // buffer that is too short stays as it was.
@@ -6,10 +6,11 @@ ghost use mathlib.Core.Path.{_≡_};
 ghost use Prim.Native.Nat.{_+_, _≤_};
 ghost use lib.ListN.{length};
 ghost use Rattle.octets.specs.Over.{over};
-ghost use Rattle.eif.specs.Roll.{recordHeadSize, headOf, inRoll, rollAnswer, rollOutput, rollLength};
+ghost use Rattle.eif.specs.Roll.{recordHeadSize, flagsRecordSize, headOf, flagsRecord, inRoll, rollAnswer, rollOutput, rollLength};
 ghost use Rattle.eif_rules.proofs.Table.{All};
 ghost use Rattle.eif_rules.proofs.Accept.{Inside};
 ghost use Rattle.roll_writer.specs.Write.{partOf, partSize, rollFor, sizeFor, sizeBound};
+use eif::FlagsRecord;
 use eif::PLACES;
 use eif::RecordHead;
 use eif::Refusal;
@@ -41,7 +42,7 @@ fn record_size(x: Section) -> usize
     }
 }
 
-// How long the roll of sections is.
+// How long the roll of sections is, behind the flags record.
 fn roll_size(sections: [Section; PLACES]) -> usize
     requires { ⌜ sizeFor sections ≤ sizeBound ⌝ }
     ensures { λ r. ⌜ r ≡ sizeFor sections ⌝ }
@@ -64,6 +65,15 @@ fn put_head(out: &mut [u8], at: usize, size: u64, kind: u16)
     octets::put_le16(out, at + RecordHead::TYPE_AT, kind);
 }
 
+// The flags record, over the output's start.
+fn put_flags(out: &mut [u8], flags: u16)
+    requires { ⌜ recordHeadSize ≤ length (now out) ⌝ }
+    ensures { λ _. ⌜ now (out .exit) ≡ over (now (out .entry)) 0 (flagsRecord flags) ⌝ }
+{
+    put_head(out, 0, FlagsRecord::LENGTH, FlagsRecord::TYPE);
+    octets::put_le16(out, RecordHead::SIZE, flags);
+}
+
 // The record of a section of an image, or nothing where a roll leaves it out. Where it ends is handed back.
 fn put_record(out: &mut [u8], at: usize, image: &[u8], x: Section) -> usize
     requires { ⌜ (at + partSize x ≤ length (now out)) × Inside (now image) x ⌝ }
@@ -81,13 +91,13 @@ fn put_record(out: &mut [u8], at: usize, image: &[u8], x: Section) -> usize
     }
 }
 
-// The roll of sections of an image, over the output's start.
+// The roll of sections of an image, over what follows the flags record.
 fn put_roll(out: &mut [u8], image: &[u8], sections: [Section; PLACES])
     requires { ⌜ All (Inside (now image)) sections ⌝ }
-    requires { ⌜ sizeFor sections ≤ length (now out) ⌝ }
-    ensures { λ _. ⌜ now (out .exit) ≡ over (now (out .entry)) 0 (rollFor (now (image .entry)) sections) ⌝ }
+    requires { ⌜ flagsRecordSize + sizeFor sections ≤ length (now out) ⌝ }
+    ensures { λ _. ⌜ now (out .exit) ≡ over (now (out .entry)) flagsRecordSize (rollFor (now (image .entry)) sections) ⌝ }
 {
-    let mut at: usize = 0;
+    let mut at: usize = FlagsRecord::SIZE;
     let mut i: usize = 0;
     while i < PLACES {
         at = put_record(out, at, image, sections[i]);
@@ -108,13 +118,14 @@ pub fn write(image: &[u8], out: &mut [u8]) -> Written
     let Verdict::Accepted = verdict else {
         return Written { verdict, length: 0 };
     };
-    let size = roll_size(sections);
+    let size = FlagsRecord::SIZE + roll_size(sections);
     if out.len() < size {
         return Written {
             verdict: Verdict::refuse(Refusal::OUTPUT_TOO_SHORT, 0),
             length: 0,
         };
     }
+    put_flags(out, reading.flags);
     put_roll(out, image, sections);
     Written {
         verdict,
@@ -132,8 +143,9 @@ pub fn length(image: &[u8]) -> Written
     let Verdict::Accepted = verdict else {
         return Written { verdict, length: 0 };
     };
+    let whole = FlagsRecord::SIZE + roll_size(sections);
     Written {
         verdict,
-        length: roll_size(sections) as u64,
+        length: whole as u64,
     }
 }

@@ -1,6 +1,7 @@
 //! SHA-384 and registers, beside the twin and OpenSSL.
 
 use crate::sample::{bytes, Sample};
+use crate::scratch::Scratch;
 use crate::table::row;
 use crate::timing::{compare, medians};
 use eif::{Digest, Sha384, Stream};
@@ -8,9 +9,8 @@ use eif_twin as twin;
 use std::fs::File;
 use std::hint::black_box;
 use std::io::{self, Read};
-use std::path::{Path, PathBuf};
+use std::path::Path;
 use std::process::Command;
-use std::{env, fs, process};
 
 /// A number that stands for a digest.
 fn first_word(digest: &[u8]) -> usize {
@@ -68,22 +68,6 @@ pub fn registers_beside_parts(length: usize) {
     row("registers", length, (registers, read + hashed));
 }
 
-/// A file for the time of a measurement.
-struct Scratch(PathBuf);
-
-impl Scratch {
-    fn new(name: &str, bytes: &[u8]) -> io::Result<Scratch> {
-        let file = env::temp_dir().join(format!("eif-bench-{}-{name}", process::id()));
-        fs::write(&file, bytes).map(|()| Scratch(file))
-    }
-}
-
-impl Drop for Scratch {
-    fn drop(&mut self) {
-        let _ = fs::remove_file(&self.0);
-    }
-}
-
 fn file_digest(file: &Path) -> io::Result<Digest> {
     let mut file = File::open(file)?;
     let mut hash = Sha384::new();
@@ -114,16 +98,16 @@ fn openssl(file: &Path) -> io::Result<String> {
 pub fn file(length: usize) -> io::Result<()> {
     let empty = Scratch::new("empty", &[])?;
     let full = Scratch::new("full", &bytes(length))?;
-    let said = openssl(&full.0)?;
-    let digest = file_digest(&full.0)?.to_string();
+    let said = openssl(full.path())?;
+    let digest = file_digest(full.path())?.to_string();
     assert!(
         said.ends_with(&digest),
         "OpenSSL says {said}, the library {digest}"
     );
     let [library, start, whole] = medians([
-        &mut || file_digest(&full.0).map_or(0, |digest| first_word(&digest.0)),
-        &mut || openssl(&empty.0).map_or(0, |said| said.len()),
-        &mut || openssl(&full.0).map_or(0, |said| said.len()),
+        &mut || file_digest(full.path()).map_or(0, |digest| first_word(&digest.0)),
+        &mut || openssl(empty.path()).map_or(0, |said| said.len()),
+        &mut || openssl(full.path()).map_or(0, |said| said.len()),
     ]);
     row("SHA-384 of a file", length, (library, whole - start));
     Ok(())

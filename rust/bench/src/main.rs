@@ -1,13 +1,17 @@
-//! The speed of the proved library beside the twin's and, for SHA-384, OpenSSL's, as tables in Markdown.
+//! The speed of the proved library beside the twin's and, for SHA-384, OpenSSL's, and for JSON texts that of
+//! common programs, as tables in Markdown.
 //!
 //! All are called on the same inputs in one run, in turn, and the one that goes first changes from
-//! round to round. A time is the median over the rounds.
+//! round to round. A time is the median over the rounds. The word `json` on the command line measures JSON
+//! texts alone.
 
 mod arriving;
 mod hashing;
 mod images;
+mod json;
 mod pieces;
 mod sample;
+mod scratch;
 mod table;
 mod timing;
 
@@ -50,6 +54,11 @@ fn lengths() -> Vec<usize> {
 
 fn main() {
     println!("Machine: {}.", machine());
+    if env::args().any(|word| word == "json") {
+        texts_beside_twin();
+        texts_beside_programs();
+        return;
+    }
     println!();
     println!(
         "Library and twin in one run, in turn, {} rounds, {} where a call takes longer than half a \
@@ -73,6 +82,35 @@ fn main() {
     pieces_beside_rereading();
     registers_beside_parts();
     files_beside_openssl();
+    texts_beside_twin();
+    texts_beside_programs();
+}
+
+fn texts_beside_twin() {
+    println!();
+    println!("JSON texts of four kinds. The twin's checker is a recursive descent.");
+    table::head("twin");
+    for length in [MIB, 16 * MIB] {
+        json::beside_twin(length);
+    }
+}
+
+fn texts_beside_programs() {
+    for (program, words) in json::PROGRAMS {
+        println!();
+        println!(
+            "A file of JSON records, read and checked, beside `{program} {}`, which also keeps the values, \
+             less that command's time on a file of two bytes.",
+            words.join(" ")
+        );
+        table::head(program);
+        for length in [MIB, 16 * MIB] {
+            if let Err(error) = json::beside_program(program, words, length) {
+                println!("It is not compared: {error}.");
+                break;
+            }
+        }
+    }
 }
 
 fn arriving_beside_whole() {

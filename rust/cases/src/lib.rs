@@ -1,4 +1,5 @@
-//! The examples of docs/FORMAT.md and of FIPS 180-4 as data, for the tests of the library and of the twin.
+//! The examples of docs/FORMAT.md, of FIPS 180-4 and of RFC 8259's rules as data, for the tests of the library
+//! and of the twin.
 //!
 //! What builds the examples judges nothing and has a checksum of its own, bit by bit, so a test
 //! never trusts what it tests.
@@ -12,18 +13,30 @@
 #![forbid(unsafe_code)]
 #![deny(missing_docs)]
 
+pub mod cbor;
 mod digests;
 mod images;
 mod layout;
+mod positions;
 mod rolls;
+mod sign1;
+mod strict;
+mod texts;
 
 pub use digests::{digest_cases, hex, register_cases, DigestCase};
 pub use images::{
     command_line_first, image_cases, image_of_length, stream_cases, two_sections, worked_image,
-    zero_image, zero_image_start, ImageCase, StreamCase,
+    zero_image, zero_image_start, Answer, ImageCase, StreamCase, ACCEPTED,
 };
 pub use layout::{
     crc32, crc32_then_zeros, put, put_number, seal, section_end, Layout, Section, CHECKSUM_AT,
     COUNT_AT, HEADER, MAX_SECTIONS, OFFSETS_AT, SECTION_HEADER, SIZES_AT, VERSION_AT,
 };
-pub use rolls::{record, roll_cases, roll_of, RollCase, Row, RECORD_HEADER, WORKED_ROLL};
+pub use positions::{located_images, located_plans, located_rolls, PlanCase};
+pub use rolls::{
+    flags_record, record, roll_cases, roll_of, RollCase, Row, FLAGS_RECORD, RECORD_HEADER,
+    WORKED_ROLL,
+};
+pub use sign1::{sign1_cases, sign1_example, Sign1Case, Sign1Parts, SIGN1_ALGORITHMS};
+pub use strict::strict_cases;
+pub use texts::{nested, text_cases, TextCase};

@@ -1,5 +1,6 @@
 //! The library's answers held to the twin's: every field and every byte of the output.
 
+use crate::strict::compare_strict;
 use crate::{Call, Message, Output, PlanInput, ReadingInput, Rng, Tally};
 use eif::raw::{self, Answer, Reading, RegistersAnswer, RollReading, StreamSections};
 use eif::{
@@ -41,24 +42,27 @@ pub(crate) fn same<T: PartialEq + Debug>(input: &Input, what: &str, library: T, 
     );
 }
 
-/// A refusal as number and index.
-pub(crate) fn pair(refusal: Refusal) -> (u8, u64) {
-    (refusal.number(), refusal.index())
+/// A refusal's number, index and position.
+pub(crate) type Parts = (u8, u64, u64);
+
+pub(crate) fn parts(refusal: Refusal) -> Parts {
+    (refusal.number(), refusal.index(), refusal.position())
 }
 
-fn twin_pair(refusal: twin::Refusal) -> (u8, u64) {
-    (refusal.number, refusal.index)
+pub(crate) fn twin_parts(refusal: twin::Refusal) -> Parts {
+    (refusal.number, refusal.index, refusal.position)
 }
 
 fn twin_answer(answer: Result<u64, twin::Refusal>) -> Answer {
-    match answer.map_err(twin_pair) {
+    match answer.map_err(twin_parts) {
         Ok(length) => Answer {
             length,
             ..Answer::default()
         },
-        Err((number, index)) => Answer {
+        Err((number, index, position)) => Answer {
             number,
             index,
+            position,
             ..Answer::default()
         },
     }
@@ -103,6 +107,7 @@ pub(crate) fn twin_reading(answer: &Result<twin::Reading, twin::Refusal>) -> Rea
             return Reading {
                 number: refusal.number,
                 index: refusal.index,
+                position: refusal.position,
                 first_ramdisk: 32,
                 ..Reading::default()
             }
@@ -117,24 +122,26 @@ pub(crate) fn twin_reading(answer: &Result<twin::Reading, twin::Refusal>) -> Rea
         ramdisk_mark: reading.ramdisk_mark(),
         ramdisk_count: reading.ramdisk_count() as u32,
         first_ramdisk: reading.first_ramdisk().unwrap_or(32) as u32,
+        architecture: reading.architecture(),
         sections: in_places(&reading.sections),
         ..Reading::default()
     }
 }
 
-fn twin_roll_reading(answer: &Result<Vec<twin::Record>, twin::Refusal>) -> RollReading {
-    let list = match answer {
-        Ok(list) => list,
+fn twin_roll_reading(answer: &Result<twin::Roll, twin::Refusal>) -> RollReading {
+    let roll = match answer {
+        Ok(roll) => roll,
         Err(refusal) => {
             return RollReading {
                 number: refusal.number,
                 index: refusal.index,
+                position: refusal.position,
                 ..RollReading::default()
             }
         }
     };
     let mut records = [raw::RollRecord::default(); 32];
-    for (to, from) in records.iter_mut().zip(list) {
+    for (to, from) in records.iter_mut().zip(&roll.records) {
         *to = raw::RollRecord {
             section_type: SectionType(from.kind),
             position: RollPosition(from.position as u64),
@@ -143,21 +150,23 @@ fn twin_roll_reading(answer: &Result<Vec<twin::Record>, twin::Refusal>) -> RollR
         };
     }
     RollReading {
-        count: list.len() as u64,
+        flags: roll.flags,
+        count: roll.records.len() as u64,
         records,
         ..RollReading::default()
     }
 }
 
 fn twin_registers(answer: Result<[[u8; 48]; 3], twin::Refusal>) -> RegistersAnswer {
-    match answer.map_err(twin_pair) {
+    match answer.map_err(twin_parts) {
         Ok(registers) => RegistersAnswer {
             registers: registers.map(Digest),
             ..RegistersAnswer::default()
         },
-        Err((number, index)) => RegistersAnswer {
+        Err((number, index, position)) => RegistersAnswer {
             number,
             index,
+            position,
             ..RegistersAnswer::default()
         },
     }
@@ -178,7 +187,7 @@ fn twin_state(state: raw::Sha384) -> twin::Sha384 {
 
 /// Runs a call with an output three times, by the C interface, the Rust interface and the twin.
 /// Answers the answer number.
-fn compare_output(
+pub(crate) fn compare_output(
     input: &Input,
     what: &str,
     (length, salt): (usize, u8),
@@ -193,14 +202,14 @@ fn compare_output(
     assert!(same_bytes, "{what}: other output bytes, for {input}");
     let expected = match answer.number {
         0 => Ok(answer.length as usize),
-        number => Err((number, answer.index)),
+        number => Err((number, answer.index, answer.position)),
     };
-    same(input, what, rust_answer.map_err(pair), expected);
+    same(input, what, rust_answer.map_err(parts), expected);
     answer.number
 }
 
 /// The same by the C interface and the twin alone. Answers the answer and the output.
-fn compare_c_output(
+pub(crate) fn compare_c_output(
     input: &Input,
     what: &str,
     (length, salt): (usize, u8),
@@ -236,7 +245,7 @@ fn compare_length(
         c,
         twin_answer(twin.map(|length| length as u64)),
     );
-    same(input, what, rust.map_err(pair), twin.map_err(twin_pair));
+    same(input, what, rust.map_err(parts), twin.map_err(twin_parts));
     c.number
 }
 
@@ -254,6 +263,7 @@ pub fn compare_image(rng: &mut Rng, ordinal: u64, image: &[u8], tally: &mut Tall
     same(input, "read", reading, twin_reading(&twin_answer));
     tally.add(Call::Read, reading.number);
     compare_image_view(input, &twin_answer);
+    compare_strict(input, tally);
 
     for stream in Stream::ALL {
         compare_stream(rng, input, stream, tally);
@@ -293,10 +303,10 @@ fn compare_registers(input: &Input, tally: &mut Tally) {
     same(input, "registers", answer, twin_answer);
     let expected = match answer.number {
         0 => Ok(answer.registers),
-        number => Err((number, answer.index)),
+        number => Err((number, answer.index, answer.position)),
     };
     let rust = eif::registers(input.bytes).map(|registers| registers.0);
-    same(input, "registers", rust.map_err(pair), expected);
+    same(input, "registers", rust.map_err(parts), expected);
     tally.add(Call::Registers, answer.number);
 }
 
@@ -314,12 +324,14 @@ fn compare_image_view(input: &Input, twin: &Result<twin::Reading, twin::Refusal>
             let twin_header = (reading.version, reading.flags, reading.default_mem);
             same(input, "header", header, twin_header);
             same(input, "cpus", image.default_cpus(), reading.default_cpus);
+            let architecture = image.architecture().flags();
+            same(input, "architecture", architecture, reading.architecture());
             same(input, "mark", image.ramdisk_mark(), reading.ramdisk_mark());
             let ramdisks = (image.ramdisk_count(), image.first_ramdisk());
             let twin_ramdisks = (reading.ramdisk_count(), reading.first_ramdisk());
             same(input, "ramdisks", ramdisks, twin_ramdisks);
         }
-        (Err(refusal), Err(twin)) => same(input, "refusal", pair(refusal), twin_pair(*twin)),
+        (Err(refusal), Err(twin)) => same(input, "refusal", parts(refusal), twin_parts(*twin)),
         (view, _) => panic!("the Rust interface has {view:?}, the twin {twin:?}, for {input}"),
     }
 }
@@ -537,16 +549,17 @@ pub fn compare_message(ordinal: u64, message: &Message, tally: &mut Tally) {
     same(input, "begun", twin_state(state), twin);
     for piece in &message.pieces {
         let fed = raw::sha384_update(state, piece);
-        let twin_answer = twin.update(piece).map_err(twin_pair);
+        let twin_answer = twin.update(piece).map_err(twin_parts);
         let expected = twin_answer.err().unwrap_or_default();
-        same(input, "update", (fed.number, fed.index), expected);
+        let answer = (fed.number, fed.index, fed.position);
+        same(input, "update", answer, expected);
         same(input, "reserved", fed.reserved, [0; 7]);
         same(input, "state", twin_state(fed.state), twin);
         if fed.number != 0 {
             same(input, "state beside a refusal", fed.state, state);
         }
         state = fed.state;
-        let rust_answer = rust.update(piece).map_err(pair);
+        let rust_answer = rust.update(piece).map_err(parts);
         same(input, "update", rust_answer, twin_answer);
         same(input, "state", rust.clone().into(), state);
         tally.add(Call::Update, fed.number);
@@ -571,16 +584,18 @@ pub fn compare_roll(ordinal: u64, roll: &[u8], tally: &mut Tally) {
     tally.add(Call::RollRead, reading.number);
 
     match (eif::read_roll(roll), twin_answer) {
-        (Ok(view), Ok(list)) => {
-            let data = list
-                .iter()
-                .map(|r| &roll[r.position..r.position + r.length]);
+        (Ok(view), Ok(twin)) => {
+            let list = twin.records.iter();
+            let data = list.map(|r| &roll[r.position..r.position + r.length]);
             let data: Vec<&[u8]> = data.collect();
+            same(input, "flags", view.flags(), twin.flags);
+            let architecture = view.architecture().flags();
+            same(input, "architecture", architecture, twin.flags & 1);
             let count = view.records().len();
             let view: Vec<&[u8]> = (0..count).map(|i| view.record_data(i)).collect();
             same(input, "record data", view, data);
         }
-        (Err(refusal), Err(twin)) => same(input, "refusal", pair(refusal), twin_pair(twin)),
+        (Err(refusal), Err(twin)) => same(input, "refusal", parts(refusal), twin_parts(twin)),
         (view, twin) => panic!("the Rust interface has {view:?}, the twin {twin:?}, for {input}"),
     }
 }

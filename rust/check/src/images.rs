@@ -1,6 +1,6 @@
 //! Images: valid, damaged and hostile.
 
-use crate::Rng;
+use crate::{any_text, Rng};
 use eif_cases::*;
 
 /// A layout that meets every rule.
@@ -52,10 +52,15 @@ fn any_section(rng: &mut Rng, kind: u16) -> Section {
         12..=14 => rng.below(40),
         _ => rng.below(300),
     };
+    // Metadata are mostly JSON, or almost.
+    let data = match kind {
+        5 if !rng.once_in(4) => any_text(rng),
+        _ => rng.bytes(length),
+    };
     Section {
         kind,
         flags: any_or_zero(rng) as u16,
-        data: rng.bytes(length),
+        data,
         gap: 0,
     }
 }

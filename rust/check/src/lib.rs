@@ -1,7 +1,8 @@
 //! Inputs for the tests of the proved library, and what holds its answers to the twin's.
 //!
-//! `tests/differential.rs` compares the two on generated inputs, `tests/demands.rs` tries the demands
-//! themselves, and `tests/format.rs` runs the examples of docs/FORMAT.md.
+//! `tests/differential.rs` compares the two on generated inputs, `tests/json.rs` on JSON texts,
+//! `tests/demands.rs` tries the demands themselves, and `tests/format.rs` runs the examples of
+//! docs/FORMAT.md.
 #![forbid(unsafe_code)]
 #![deny(missing_docs)]
 
@@ -14,7 +15,11 @@ mod plans;
 mod readings;
 mod rng;
 mod rolls;
+mod run;
+mod sign1;
+mod strict;
 mod tally;
+mod texts;
 
 pub use arriving::{compare_arriving, compare_arriving_state, state_of, LENGTHS};
 pub use compare::{compare_image, compare_message, compare_plan, compare_reading, compare_roll};
@@ -25,4 +30,8 @@ pub use plans::{accepted_plan, any_plan, PlanInput};
 pub use readings::{any_reading_input, ReadingInput};
 pub use rng::Rng;
 pub use rolls::any_roll;
+pub use run::{in_threads, share, variable};
+pub use sign1::{any_claim, any_sign1, compare_claim, compare_sign1, ClaimInput};
+pub use strict::compare_text;
 pub use tally::{Call, Tally};
+pub use texts::{any_text, json_text};

@@ -4,7 +4,7 @@ use std::fmt;
 use std::ops::AddAssign;
 
 /// How many kinds of call there are.
-const CALLS: usize = 12;
+const CALLS: usize = 15;
 
 /// Answer numbers are below this.
 const NUMBERS: usize = 30;
@@ -14,6 +14,8 @@ const NUMBERS: usize = 30;
 pub enum Call {
     /// Reading an image.
     Read,
+    /// Reading an image strictly.
+    ReadStrict,
     /// Reading an image that arrives in pieces.
     Arrive,
     /// The length of a plan's image.
@@ -36,12 +38,17 @@ pub enum Call {
     Registers,
     /// A piece for a digest in progress.
     Update,
+    /// Reading a COSE_Sign1.
+    Sign1Read,
+    /// Writing a COSE_Sign1.
+    Sign1Write,
 }
 
 impl Call {
     /// All of them.
     pub const ALL: [Call; CALLS] = [
         Call::Read,
+        Call::ReadStrict,
         Call::Arrive,
         Call::PlanLength,
         Call::Write,
@@ -53,6 +60,8 @@ impl Call {
         Call::RollRead,
         Call::Registers,
         Call::Update,
+        Call::Sign1Read,
+        Call::Sign1Write,
     ];
 
     /// The numbers that FORMAT.md lets this call answer.
@@ -62,6 +71,7 @@ impl Call {
             Call::Read | Call::Arrive | Call::Length | Call::RollLength | Call::Registers => {
                 image.collect()
             }
+            Call::ReadStrict => image.chain([21]).collect(),
             Call::PlanLength => vec![0, 1, 4, 5, 9, 10, 11, 12],
             Call::Write => vec![0, 1, 4, 5, 9, 10, 11, 12, 14, 15],
             Call::Copy => image.chain([19]).collect(),
@@ -69,6 +79,8 @@ impl Call {
             Call::RollWrite => image.chain([14]).collect(),
             Call::RollRead => vec![0, 1, 5, 10, 11, 12, 16, 17, 18],
             Call::Update => vec![0, 29],
+            Call::Sign1Read => vec![0, 28],
+            Call::Sign1Write => vec![0, 14, 28],
         };
         numbers.sort();
         numbers

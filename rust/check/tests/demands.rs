@@ -1,7 +1,9 @@
 //! The demands, tried on generated images: round trips, and what a roll tells of its image.
 
-use eif::{Image, RollRecord, SectionType, Stream, StreamPosition};
-use eif_cases::{record, seal, Layout, Section};
+use eif::{
+    Arriving, Image, Reading, Refusal, Roll, RollRecord, SectionType, Stream, StreamPosition,
+};
+use eif_cases::{flags_record, record, seal, Layout, Section, RECORD_HEADER};
 use eif_check::{accepted_layout, accepted_plan, any_image, any_image_of, any_roll, Rng};
 use std::io::Read;
 
@@ -116,15 +118,16 @@ fn a_byte_outside_the_sections_is_refused() {
         let mut rng = Rng::of_input(13, ordinal);
         let mut layout = accepted_layout(&mut rng);
         let index = rng.below(layout.sections.len() + 1);
-        let (mut image, place) = match layout.sections.get_mut(index) {
+        let (mut image, place, position) = match layout.sections.get_mut(index) {
             Some(section) => {
                 section.gap = 1;
-                (any_image_of(&mut rng, &layout), index)
+                (any_image_of(&mut rng, &layout), index, 28 + 8 * index)
             }
             None => {
                 let mut image = any_image_of(&mut rng, &layout);
+                let end = image.len();
                 image.push(rng.next() as u8);
-                (image, 0)
+                (image, 0, end)
             }
         };
         if rng.once_in(2) {
@@ -132,7 +135,17 @@ fn a_byte_outside_the_sections_is_refused() {
         }
         let refusal = eif::read(&image).unwrap_err();
         assert_eq!((refusal.number(), refusal.index()), (20, place as u64));
+        assert_eq!(refusal.position(), position as u64);
     }
+}
+
+/// Where each record of an accepted roll starts, flags record and end record too.
+fn record_starts(roll: &Roll) -> Vec<u64> {
+    let head = RECORD_HEADER as u64;
+    let records = roll.records().iter();
+    let starts = records.map(|record| record.position.0 - head);
+    let starts = [0].into_iter().chain(starts);
+    starts.chain([roll.bytes().len() as u64 - head]).collect()
 }
 
 #[test]
@@ -147,11 +160,21 @@ fn a_roll_lists_its_image() {
             .map(|(i, r)| (r.section_type.0, view.record_data(i)))
             .collect();
         assert_eq!(list, listed(&image));
+        assert_eq!(view.flags(), image.flags());
+        let starts = record_starts(&view);
         for cut in 0..roll.len() {
-            assert_eq!(eif::read_roll(&roll[..cut]).unwrap_err().number(), 16);
+            let refusal = eif::read_roll(&roll[..cut]).unwrap_err();
+            assert_eq!(refusal.number(), 16);
+            // The last record that starts where the roll was cut or before it.
+            let index = starts.iter().rposition(|&start| start <= cut as u64);
+            let index = index.expect("the first starts at 0");
+            assert_eq!(refusal.index(), index as u64);
+            assert_eq!(refusal.position(), starts[index]);
         }
         let longer = [&roll[..], &[0]].concat();
-        assert_eq!(eif::read_roll(&longer).unwrap_err().number(), 18);
+        let refusal = eif::read_roll(&longer).unwrap_err();
+        assert_eq!((refusal.number(), refusal.index()), (18, 0));
+        assert_eq!(refusal.position(), roll.len() as u64);
     }
 }
 
@@ -159,10 +182,9 @@ fn a_roll_lists_its_image() {
 fn neighbour(rng: &mut Rng, layout: &Layout) -> Layout {
     let mut other = layout.clone();
     let count = other.sections.len();
-    match rng.below(5) {
+    match rng.below(6) {
         0 => {
             // What does not enter the roll.
-            other.flags ^= 1;
             other.default_mem = rng.next();
             for section in &mut other.sections {
                 section.flags = rng.next() as u16;
@@ -174,7 +196,8 @@ fn neighbour(rng: &mut Rng, layout: &Layout) -> Layout {
             other.sections.retain(|s| s.kind <= 3);
         }
         2 => other.sections.swap(rng.below(count), rng.below(count)),
-        3 => {
+        3 => other.flags ^= 1 << rng.below(16),
+        4 => {
             // A byte moved from one section's end to the next one's start.
             let place = rng.below(count - 1);
             if let Some(byte) = other.sections[place].data.pop() {
@@ -188,7 +211,7 @@ fn neighbour(rng: &mut Rng, layout: &Layout) -> Layout {
 }
 
 #[test]
-fn rolls_are_equal_exactly_when_the_listed_sections_are() {
+fn rolls_are_equal_exactly_when_flags_and_listed_sections_are() {
     let (mut equal, mut different) = (0, 0);
     for ordinal in 0..TIMES {
         let mut rng = Rng::of_input(4, ordinal);
@@ -198,7 +221,8 @@ fn rolls_are_equal_exactly_when_the_listed_sections_are() {
         let Ok(view) = eif::read(&other) else {
             continue;
         };
-        let same = listed(&eif::read(&one).unwrap()) == listed(&view);
+        let first = eif::read(&one).unwrap();
+        let same = first.flags() == view.flags() && listed(&first) == listed(&view);
         let (one, other) = (roll_of(&one), roll_of(&other));
         assert_eq!(one == other, same);
         assert_eq!(one.starts_with(&other) || other.starts_with(&one), same);
@@ -217,8 +241,11 @@ fn an_accepted_roll_is_the_roll_of_an_image() {
         };
         let records = roll.records().iter().enumerate();
         let sections = records.map(|(i, r)| Section::new(r.section_type.0, roll.record_data(i)));
-        let image = Layout::new(2, sections.collect()).image();
-        assert_eq!(roll_of(&image), bytes);
+        let layout = Layout {
+            flags: roll.flags(),
+            ..Layout::new(2, sections.collect())
+        };
+        assert_eq!(roll_of(&layout.image()), bytes);
         accepted += 1;
     }
     assert!(accepted > 100, "{accepted}");
@@ -301,6 +328,13 @@ fn a_stream_copied_in_pieces_is_the_stream() {
     }
 }
 
+fn arrived(image: &[u8]) -> Result<Reading, Refusal> {
+    let mut arriving = Arriving::new();
+    arriving.feed(image);
+    arriving.finish()
+}
+
+/// Number, index and position.
 #[test]
 fn a_refused_image_gives_one_refusal_everywhere() {
     for ordinal in 0..TIMES {
@@ -309,6 +343,9 @@ fn a_refused_image_gives_one_refusal_everywhere() {
             continue;
         };
         let mut out = [0xaa; 64];
+        assert_eq!(arrived(&image), Err(refusal));
+        assert_eq!(eif::registers(&image), Err(refusal));
+        assert_eq!(eif::roll_length(&image), Err(refusal));
         assert_eq!(eif::write_roll(&image, &mut out), Err(refusal));
         for stream in Stream::ALL {
             assert_eq!(eif::stream_length(&image, stream), Err(refusal));
@@ -322,7 +359,7 @@ fn a_refused_image_gives_one_refusal_everywhere() {
 
 #[test]
 fn a_roll_has_at_most_32_records() {
-    let mut records = [record(0, 1, &[]), record(0, 2, &[])].concat();
+    let mut records = [flags_record(0), record(0, 1, &[]), record(0, 2, &[])].concat();
     for _ in 0..30 {
         records.extend(record(0, 3, &[]));
     }
@@ -332,11 +369,13 @@ fn a_roll_has_at_most_32_records() {
     for (last, number, index) in [
         (record(0, 3, &[]), 5, 0),
         (record(u64::MAX, 1, &[]), 5, 0),
-        (record(u64::MAX, 4, &[]), 17, 32),
-        (record(1, 0, &[]), 17, 32),
-        (vec![0; 9], 16, 32),
+        (record(u64::MAX, 4, &[]), 17, 33),
+        (flags_record(0), 17, 33),
+        (record(1, 0, &[]), 17, 33),
+        (vec![0; 9], 16, 33),
     ] {
         let refusal = eif::read_roll(&[&records[..], &last].concat()).unwrap_err();
         assert_eq!((refusal.number(), refusal.index()), (number, index));
+        assert_eq!(refusal.position(), records.len() as u64);
     }
 }

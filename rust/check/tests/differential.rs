@@ -3,9 +3,8 @@
 //! The environment variable EIF_SEED gives another seed, and EIF_TIMES that many times the inputs.
 
 use eif::MAX_IMAGE_LENGTH;
-use eif_cases::{put, record, zero_image, RECORD_HEADER};
+use eif_cases::{flags_record, put, record, zero_image, FLAGS_RECORD, RECORD_HEADER};
 use eif_check::*;
-use std::env;
 use std::io::{self, Write};
 use std::ops::Range;
 use std::thread;
@@ -18,17 +17,8 @@ const MESSAGES: u64 = 40_000;
 const READINGS: u64 = 40_000;
 const ARRIVALS: u64 = 40_000;
 const STATES: u64 = 40_000;
-
-fn variable(name: &str, default: u64) -> u64 {
-    let Ok(text) = env::var(name) else {
-        return default;
-    };
-    let number = match text.strip_prefix("0x") {
-        Some(digits) => u64::from_str_radix(digits, 16),
-        None => text.parse(),
-    };
-    number.unwrap_or_else(|_| panic!("{name} is no number: {text}"))
-}
+const SIGN1S: u64 = 100_000;
+const CLAIMS: u64 = 40_000;
 
 /// Writes a line that is seen also where the test passes.
 fn say(line: &str) {
@@ -88,6 +78,21 @@ fn states(seed: u64, ordinals: Range<u64>, tally: &mut Tally) {
     }
 }
 
+fn sign1s(seed: u64, ordinals: Range<u64>, tally: &mut Tally) {
+    for ordinal in ordinals {
+        let mut rng = Rng::of_input(seed.rotate_left(8), ordinal);
+        compare_sign1(ordinal, &any_sign1(&mut rng), tally);
+    }
+}
+
+fn claims(seed: u64, ordinals: Range<u64>, tally: &mut Tally) {
+    for ordinal in ordinals {
+        let mut rng = Rng::of_input(!seed.rotate_left(8), ordinal);
+        let given = any_claim(&mut rng);
+        compare_claim(&mut rng, ordinal, &given, tally);
+    }
+}
+
 /// Images longer than they may be. No call looks at their bytes.
 fn long_images(seed: u64, tally: &mut Tally) {
     let mut rng = Rng::of_input(seed, u64::MAX);
@@ -101,7 +106,7 @@ fn long_images(seed: u64, tally: &mut Tally) {
 fn long_rolls(tally: &mut Tally) {
     let most = MAX_IMAGE_LENGTH - 548 - 24;
     for length in most - 3..most + 4 {
-        let kernel = RECORD_HEADER + length;
+        let kernel = FLAGS_RECORD + RECORD_HEADER + length;
         for rest in [
             &[record(0, 2, &[]), record(0, 0, &[])][..],
             &[record(1, 2, &[7]), record(0, 0, &[])],
@@ -112,16 +117,12 @@ fn long_rolls(tally: &mut Tally) {
         ] {
             let rest = rest.concat();
             let mut roll = vec![0; kernel + rest.len()];
-            put(&mut roll, 0, &record(length as u64, 1, &[]));
+            put(&mut roll, 0, &flags_record(1));
+            put(&mut roll, FLAGS_RECORD, &record(length as u64, 1, &[]));
             put(&mut roll, kernel, &rest);
             compare_roll(length as u64, &roll, tally);
         }
     }
-}
-
-/// The share `part` of `parts` of a number of inputs.
-fn share(total: u64, part: u64, parts: u64) -> Range<u64> {
-    total * part / parts..total * (part + 1) / parts
 }
 
 #[test]
@@ -141,6 +142,8 @@ fn library_and_twin_agree() {
             readings(seed, share(READINGS * times, part, parts), &mut tally);
             arrivals(seed, share(ARRIVALS * times, part, parts), &mut tally);
             states(seed, share(STATES * times, part, parts), &mut tally);
+            sign1s(seed, share(SIGN1S * times, part, parts), &mut tally);
+            claims(seed, share(CLAIMS * times, part, parts), &mut tally);
             if part == 0 {
                 long_images(seed, &mut tally);
             }

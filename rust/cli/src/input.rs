@@ -13,7 +13,7 @@ pub struct Input {
     pub bytes: Vec<u8>,
 }
 
-/// What the library's reader said of an input while it arrived.
+/// What the library's reader said of an input, while it arrived or when it had.
 pub struct Arrived {
     pub name: OsString,
     pub answer: Result<Reading, Refusal>,
@@ -72,9 +72,20 @@ pub fn arrive(name: &OsStr, keep: Keep) -> Result<Arrived, Trouble> {
     })
 }
 
+/// Has an input read strictly. Its metadata is looked at, so its bytes are kept.
+pub fn read_strictly(name: &OsStr) -> Result<Arrived, Trouble> {
+    let Input { name, bytes } = read(name)?;
+    let answer = eif::read_strict(&bytes).map(|image| (*image).clone());
+    Ok(Arrived {
+        name,
+        answer,
+        bytes,
+    })
+}
+
 /// Whether bytes that the image's reader answers so, or bytes that begin with them, may be a roll. Those
-/// that have a whole header with the right magic are none: as a roll's first length, the magic is that of a
-/// section longer than any image.
+/// that have a whole header with the right magic are none, since a roll begins with the length of its flags
+/// record, 2.
 pub fn may_be_roll(answer: &Result<Reading, Refusal>) -> bool {
     let unlike_image = [Reason::WrongMagic, Reason::ImageTooShort];
     answer

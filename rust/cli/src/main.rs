@@ -1,7 +1,7 @@
 //! The command `eif`: it opens files, calls the proved library and prints what the library answers.
 //!
-//! It judges nothing itself. Each subcommand is a file in `commands`; what they share stands in the
-//! other modules.
+//! It judges nothing itself, but for the structure around the signatures of a signature section. Each
+//! subcommand is a file in `commands`; what they share stands in the other modules.
 #![forbid(unsafe_code)]
 
 mod args;

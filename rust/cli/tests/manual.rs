@@ -63,7 +63,7 @@ fn run_shown(name: &str) -> usize {
 
 #[test]
 fn the_manual_shows_what_is_printed() {
-    assert_eq!(run_shown("docs/MANUAL.md"), 9);
+    assert_eq!(run_shown("docs/MANUAL.md"), 21);
 }
 
 #[test]
@@ -88,18 +88,22 @@ fn citations_of_the_format_name_its_sections() {
         "docs/MANUAL.md",
         "rust/eif/src/arriving.rs",
         "rust/eif/src/image.rs",
+        "rust/eif/src/json.rs",
         "rust/eif/src/numbers.rs",
+        "rust/eif/src/place.rs",
         "rust/eif/src/plan.rs",
         "rust/eif/src/refusal.rs",
         "rust/eif/src/registers.rs",
         "rust/eif/src/roll.rs",
         "rust/eif/src/sha384.rs",
+        "rust/eif/src/sign1.rs",
         "rust/eif/src/stream.rs",
         "rust/cases/src/images.rs",
     ];
     for name in files {
         let text = repository_text(name)
             .replace("\n///", "")
+            .replace("\n//!", "")
             .replace("\n *", "");
         for citation in text.split("FORMAT.md, ").skip(1) {
             let citation = citation.trim_start_matches('"');

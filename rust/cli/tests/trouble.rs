@@ -12,15 +12,20 @@ use std::os::unix::net::UnixStream;
 use std::process::Stdio;
 
 /// Every subcommand with files in the places of its inputs.
-const READERS: [&str; 8] = [
+const READERS: [&str; 13] = [
     "show FILE",
+    "show --strict FILE",
     "check FILE",
+    "check --strict FILE",
+    "json FILE",
     "compare FILE good",
     "registers FILE",
+    "signature FILE",
     "roll FILE",
     "extract FILE 0",
     "stream FILE whole",
     "pack --kernel FILE --cmdline x --ramdisk good --output out",
+    "pack --kernel good --cmdline x --metadata FILE --ramdisk good --output out",
 ];
 
 fn with_good() -> Folder {
@@ -86,7 +91,7 @@ fn a_file_that_cannot_be_read() {
 fn an_empty_file() {
     let folder = with_good();
     folder.put("empty", b"");
-    let refused = "empty: refused 2 at 0: image shorter than 548 bytes\n";
+    let refused = "empty: refused 2 at 0 byte 0: image shorter than 548 bytes\n";
     folder.eif("check empty").says(1, refused);
     folder
         .eif("check /dev/null")
@@ -151,9 +156,13 @@ fn a_full_disk() {
         "show good",
         "show --json good",
         "check good",
+        "check --strict good",
+        "json metadata",
         "compare good good",
         "registers good",
         "registers --json good",
+        "signature good",
+        "signature --json good",
         "roll good",
         "extract good 0",
         "stream good whole",
@@ -218,6 +227,7 @@ fn a_closed_pipe_ends_it_quietly() {
     for words in [
         "show good good",
         "check good",
+        "json metadata",
         "roll good",
         "compare good good",
         "--help",
@@ -251,11 +261,17 @@ const WRONG: &[(&str, &str)] = &[
     ("show --json=yes good", "--json takes no value"),
     ("check -q good", "no option -q here"),
     ("check - -", "- is named twice"),
+    ("check --strict=yes good", "--strict takes no value"),
+    ("json", "FILE is missing"),
+    ("json - -", "- is named twice"),
+    ("json --strict metadata", "no option --strict here"),
     ("compare good", "B is missing"),
     ("compare good good good", "good is one too many"),
     ("compare - -", "- is named twice"),
     ("registers", "FILE is missing"),
     ("registers - -", "- is named twice"),
+    ("signature", "FILE is missing"),
+    ("signature - -", "- is named twice"),
     ("roll", "IMAGE is missing"),
     ("roll good --output", "--output needs a value"),
     ("roll good --output a --output b", "--output is given twice"),
@@ -327,5 +343,8 @@ fn standard_input_that_is_closed() {
     command.args(["-c", script, env!("CARGO_BIN_EXE_eif")]);
     command.stdin(Stdio::null()).current_dir(folder.path(""));
     let ended: Ended = command.output().unwrap().into();
-    ended.says(1, "-: refused 2 at 0: image shorter than 548 bytes\n");
+    ended.says(
+        1,
+        "-: refused 2 at 0 byte 0: image shorter than 548 bytes\n",
+    );
 }

@@ -4,7 +4,9 @@
 mod common;
 
 use common::{repository_text, Folder};
-use eif::{Reason, SectionType};
+use eif::sign1::Algorithm;
+use eif::{Architecture, Reason, Refusal, SectionType};
+use eif_cases::{located_images, located_rolls};
 use std::process::Command;
 
 /// `(NAME, VALUE)` of each `#define` of the header with a value.
@@ -98,6 +100,19 @@ fn the_header_has_the_same_section_types() {
 }
 
 #[test]
+fn the_header_has_the_same_architectures() {
+    let header = repository_text("include/eif.h");
+    let numbers = enumerators(&header, "eif_architecture");
+    let words = cases(&header, "eif_architecture_name");
+    let names = Architecture::ALL.map(|a| format!("EIF_{}", a.name().to_uppercase()));
+    let all = || names.iter().map(|name| &name[..]).zip(Architecture::ALL);
+    let expected: Vec<_> = all().map(|(name, a)| (name, a.flags())).collect();
+    assert_eq!(numbers, expected);
+    let expected: Vec<_> = all().map(|(name, a)| (name, a.name())).collect();
+    assert_eq!(words, expected);
+}
+
+#[test]
 fn the_header_has_the_same_limits() {
     let header = repository_text("include/eif.h");
     for (name, value) in [
@@ -105,15 +120,28 @@ fn the_header_has_the_same_limits() {
         ("EIF_HEADER_LENGTH", eif::HEADER_LENGTH),
         ("EIF_SECTION_HEADER_LENGTH", eif::SECTION_HEADER_LENGTH),
         ("EIF_RECORD_HEAD_LENGTH", eif::RECORD_HEAD_LENGTH),
+        ("EIF_FLAGS_RECORD_LENGTH", eif::FLAGS_RECORD_LENGTH),
         ("EIF_MAX_SECTIONS", eif::MAX_SECTIONS),
         ("EIF_NO_RAMDISK", eif::raw::NO_RAMDISK as usize),
         ("EIF_REGISTERS", eif::REGISTERS),
+        ("EIF_MAX_JSON_DEPTH", eif::json::MAX_DEPTH),
         ("EIF_DIGEST_LENGTH", eif::DIGEST_LENGTH),
+        ("EIF_MAX_SIGN1_LENGTH", eif::sign1::MAX_LENGTH),
     ] {
         assert_eq!(macro_value(&header, name), value.to_string(), "{name}");
     }
     let most = format!("UINT64_C({})", eif::MAX_MESSAGE_LENGTH);
     assert_eq!(macro_value(&header, "EIF_MAX_MESSAGE_LENGTH"), most);
+}
+
+#[test]
+fn the_header_has_the_same_algorithms() {
+    let header = repository_text("include/eif.h");
+    let numbers = enumerators(&header, "eif_sign1_algorithm");
+    let names = Algorithm::ALL.map(|algorithm| format!("EIF_{algorithm}"));
+    let expected = names.iter().zip(Algorithm::ALL);
+    let expected = expected.map(|(name, algorithm)| (&name[..], algorithm as u16));
+    assert_eq!(numbers, expected.collect::<Vec<_>>());
 }
 
 /// The digits in groups of three, as the words have them.
@@ -158,10 +186,10 @@ fn one_version() {
     assert!(page.contains(&format!("\"eif {version}\"")), "docs/eif.1");
 }
 
-/// The rows of the manual's table of answer numbers, cell by cell.
-fn manual_rows() -> Vec<Vec<String>> {
+/// The rows of one of the manual's tables, cell by cell, by how its heading begins.
+fn manual_rows(heading: &str) -> Vec<Vec<String>> {
     let manual = repository_text("docs/MANUAL.md");
-    let (_, rest) = manual.split_once("| no. | meaning |").expect("the table");
+    let (_, rest) = manual.split_once(heading).expect("the table");
     let rows = rest
         .lines()
         .skip(2)
@@ -175,7 +203,7 @@ fn manual_rows() -> Vec<Vec<String>> {
 
 #[test]
 fn the_manual_has_the_same_words() {
-    let rows = manual_rows();
+    let rows = manual_rows("| no. | meaning |");
     assert_eq!(rows.len(), Reason::ALL.len());
     for (row, reason) in rows.iter().zip(Reason::ALL) {
         let [number, meaning, _, advice] = &row[..] else {
@@ -185,6 +213,46 @@ fn the_manual_has_the_same_words() {
         assert_eq!(meaning, reason.meaning());
         assert_eq!(advice, reason.advice());
     }
+}
+
+/// Which of the manual's rows has the words on what stands at a refusal's position.
+fn row_with(rows: &[Vec<String>], refusal: &Refusal, place: Option<String>) -> usize {
+    let index = match (refusal.number(), refusal.position()) {
+        // A roll's 33rd record after its flags record.
+        (5, 332..) => 33,
+        _ => refusal.index(),
+    };
+    let place = place.expect("a place");
+    let number = refusal.number().to_string();
+    let same = |row: &Vec<String>| {
+        let mut numbers = row[0].split(", ");
+        let words = row[1].replace("section N", &format!("section {index}"));
+        let words = words.replace("record N", &format!("record {index}"));
+        numbers.any(|known| known == number) && words == place
+    };
+    let found = rows.iter().position(same);
+    found.unwrap_or_else(|| panic!("{refusal}: {place}: not in docs/MANUAL.md"))
+}
+
+/// Every row is met but for those of numbers that no small file gets.
+#[test]
+fn the_manual_has_the_same_places() {
+    let images = manual_rows("| an image refused by |");
+    let mut met = vec![false; images.len()];
+    for case in located_images() {
+        let refusal = eif::read(&case.image).expect_err("refused");
+        met[row_with(&images, &refusal, refusal.place_in_image())] = true;
+    }
+    let unmet = images.iter().zip(met).filter(|(_, met)| !met);
+    assert!(unmet.map(|(row, _)| &row[0]).eq(["21"]));
+
+    let rolls = manual_rows("| a roll refused by |");
+    let mut met = vec![false; rolls.len()];
+    for case in located_rolls() {
+        let refusal = eif::read_roll(&case.roll).expect_err("refused");
+        met[row_with(&rolls, &refusal, refusal.place_in_roll(&case.roll))] = true;
+    }
+    assert!(met.into_iter().all(|met| met));
 }
 
 /// The options in a text, each once, in order.
@@ -217,7 +285,7 @@ fn help_manual_and_man_page_have_the_same_subcommands_and_options() {
     let names = subcommands(&folder);
     assert_eq!(
         names.join(" "),
-        "show check compare registers roll pack extract stream"
+        "show check compare registers signature roll pack extract stream json"
     );
     for name in names {
         let help = folder.run([&name[..], "--help"]);

@@ -61,11 +61,40 @@ impl Deref for Image<'_> {
 ///
 /// The first of 1 to 13 and 20 that applies, in the order of reading.
 pub fn read(image: &[u8]) -> Result<Image<'_>, Refusal> {
-    let reading = Reading::accepted(raw::read(image))?;
-    Ok(Image {
-        bytes: image,
-        reading,
-    })
+    Image::accepted(image, raw::read(image))
+}
+
+/// Reads an image as [`read`] does, and then refuses metadata that is not one JSON text, as
+/// [`json::check`](crate::json::check) judges it (FORMAT.md, Stricter reading).
+///
+/// ```
+/// use eif::{DataLength, Place, Plan, SectionType};
+///
+/// let packed = |metadata: &str| {
+///     let places = vec![
+///         Place::new(SectionType::KERNEL, DataLength(1)),
+///         Place::new(SectionType::COMMAND_LINE, DataLength(1)),
+///         Place::new(SectionType::METADATA, DataLength(metadata.len() as u64)),
+///     ];
+///     let plan = Plan { version: 4, places, ..Plan::default() };
+///     eif::write_to_vec(&plan, format!("Ka{metadata}").as_bytes())
+/// };
+///
+/// assert!(eif::read_strict(&packed(r#"{"name": "river"}"#)?).is_ok());
+///
+/// // Cut off in the middle, and packed like that: the file itself is whole.
+/// let cut = packed(r#"{"name": "ri"#)?;
+/// assert!(eif::read(&cut).is_ok());
+/// let refusal = eif::read_strict(&cut).unwrap_err();
+/// assert_eq!((refusal.number(), refusal.index()), (21, 2));
+/// # Ok::<(), eif::Refusal>(())
+/// ```
+///
+/// # Errors
+///
+/// The image's own refusal, and then 21 with the index of the metadata section.
+pub fn read_strict(image: &[u8]) -> Result<Image<'_>, Refusal> {
+    Image::accepted(image, raw::read_strict(image))
 }
 
 /// The data that stand at a position of an accepted image.
@@ -76,7 +105,7 @@ pub(crate) fn data_at(image: &[u8], position: FilePosition, length: DataLength) 
 impl Reading {
     /// The reading that a reader answered, or its refusal.
     pub(crate) fn accepted(answer: raw::Reading) -> Result<Reading, Refusal> {
-        Refusal::check(answer.number, answer.index)?;
+        Refusal::check(answer.number, answer.index, answer.position)?;
         let used = answer.sections.into_iter();
         let used = used.take(usize::from(answer.count));
         Ok(Reading {
@@ -102,7 +131,8 @@ impl Reading {
 
     /// The processor that the flags tell.
     pub fn architecture(&self) -> Architecture {
-        Architecture::of_flags(self.flags())
+        // The answer has their lowest bit alone.
+        Architecture::of_flags(self.answer.architecture)
     }
 
     /// The header's default_mem, carried and not judged.
@@ -156,6 +186,12 @@ impl Reading {
 }
 
 impl<'a> Image<'a> {
+    /// The image that a reader answered of `bytes`, or its refusal.
+    fn accepted(bytes: &'a [u8], answer: raw::Reading) -> Result<Image<'a>, Refusal> {
+        let reading = Reading::accepted(answer)?;
+        Ok(Image { bytes, reading })
+    }
+
     /// The image's bytes, those that were read.
     pub fn bytes(&self) -> &'a [u8] {
         self.bytes
@@ -196,6 +232,11 @@ impl<'a> Image<'a> {
     /// The command line's data. Every accepted image has one command line.
     pub fn command_line(&self) -> &'a [u8] {
         self.only(SectionType::COMMAND_LINE)
+    }
+
+    /// The metadata, which every accepted image of version 4 has, and no other.
+    pub fn metadata(&self) -> Option<&'a [u8]> {
+        self.data_of_type(SectionType::METADATA).next()
     }
 
     /// The data of the ramdisks, in file order.

@@ -7,6 +7,7 @@
 //! | call | what it does |
 //! |---|---|
 //! | [`read`] | accepts or refuses an image and lists its sections |
+//! | [`read_strict`], [`json::check`] | the same, and then its metadata must be JSON; whether bytes are one JSON text |
 //! | [`Arriving`] | the same of an image that arrives in pieces, with no memory for its bytes |
 //! | [`write()`], [`plan_length`], [`write_to_vec`] | the plain image of a [`Plan`] |
 //! | [`copy_stream`], [`stream_length`], [`stream_to_vec`] | the three measured streams |
@@ -14,10 +15,11 @@
 //! | [`registers()`] | registers 0, 1 and 2, as the platform measures the image |
 //! | [`Sha384`] | SHA-384, fed in pieces |
 //! | [`write_roll`], [`roll_length`], [`roll_to_vec`], [`read_roll`] | the boot roll |
+//! | [`sign1::read`], [`sign1::write`], [`sign1::to_vec`] | what a signature claims, not verified |
 //!
 //! Every call takes any bytes and any numbers. A [`Refusal`] has the first answer number that applies,
-//! in the order that FORMAT.md gives for the call, and then no byte of an output buffer has changed. An
-//! accepted call changes only the bytes that it reports.
+//! in the order that FORMAT.md gives for the call, and says where; then no byte of an output buffer has
+//! changed. An accepted call changes only the bytes that it reports.
 //!
 //! # Example
 //!
@@ -48,9 +50,10 @@
 //!     assert_eq!(section.length.0, data.len() as u64);
 //! }
 //!
-//! let mut roll = [0; 42];
-//! assert_eq!(eif::write_roll(&bytes, &mut roll)?, 42);
+//! let mut roll = [0; 54];
+//! assert_eq!(eif::write_roll(&bytes, &mut roll)?, 54);
 //! let roll = eif::read_roll(&roll)?;
+//! assert_eq!(roll.flags(), image.flags());
 //! assert_eq!(roll.records().len(), 3);
 //! assert_eq!(roll.record_data(0), [0x4b]);
 //!
@@ -69,8 +72,8 @@
 //! // A damaged image is refused.
 //! bytes[560] ^= 1;
 //! let refusal = eif::read(&bytes).unwrap_err();
-//! assert_eq!(refusal.number(), 13);
-//! assert_eq!(refusal.to_string(), "refused 13 at 0: checksum differs");
+//! assert_eq!((refusal.number(), refusal.position()), (13, 544));
+//! assert_eq!(refusal.to_string(), "refused 13 at 0 byte 544: checksum differs");
 //! # Ok::<(), Box<dyn std::error::Error>>(())
 //! ```
 //!
@@ -83,17 +86,20 @@
 
 mod arriving;
 mod image;
+pub mod json;
 mod numbers;
+mod place;
 mod plan;
 pub mod raw;
 mod refusal;
 mod registers;
 mod roll;
 mod sha384;
+pub mod sign1;
 mod stream;
 
 pub use arriving::Arriving;
-pub use image::{read, Image, Reading, Section};
+pub use image::{read, read_strict, Image, Reading, Section};
 pub use numbers::{
     Architecture, DataLength, FilePosition, RollPosition, SectionType, StreamPosition, UnknownName,
 };
@@ -107,8 +113,8 @@ pub use stream::{copy_stream, stream_length, stream_to_vec, Stream, StreamReader
 /// The longest image, in bytes. A buffer of this length takes any image, roll or stream.
 pub const MAX_IMAGE_LENGTH: usize = 1_073_741_824;
 
-/// The most sections that an image can have, and the most records that a roll can have beside its
-/// end record.
+/// The most sections that an image can have, and the most records that a roll can have beside its flags
+/// record and its end record.
 pub const MAX_SECTIONS: usize = 32;
 
 /// The length of an image's header.
@@ -119,6 +125,9 @@ pub const SECTION_HEADER_LENGTH: usize = 12;
 
 /// The length of a roll record's head, which stands before its data.
 pub const RECORD_HEAD_LENGTH: usize = 10;
+
+/// The length of a roll's flags record, which is its first: a head and two bytes of data.
+pub const FLAGS_RECORD_LENGTH: usize = RECORD_HEAD_LENGTH + 2;
 
 /// The length of a SHA-384 digest, and of a register.
 pub const DIGEST_LENGTH: usize = 48;

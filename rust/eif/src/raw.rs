@@ -10,6 +10,8 @@ use crate::{
 };
 use std::mem::{align_of, offset_of, size_of};
 
+pub mod sign1;
+
 /// What [`Reading::first_ramdisk`] is where there is no ramdisk, and beside a refusal.
 pub const NO_RAMDISK: u32 = 32;
 
@@ -29,7 +31,7 @@ pub struct Section {
     pub length: DataLength,
 }
 
-/// What [`read`] answers.
+/// What [`read`] and [`read_strict`] answer.
 #[repr(C)]
 #[derive(Clone, Copy, Debug, Default, PartialEq, Eq)]
 pub struct Reading {
@@ -45,6 +47,8 @@ pub struct Reading {
     pub count: u16,
     /// The index beside a refusal.
     pub index: u64,
+    /// Where what is at fault stands, beside a refusal.
+    pub position: u64,
     /// The header's default_mem.
     pub default_mem: u64,
     /// The header's default_cpus.
@@ -55,10 +59,25 @@ pub struct Reading {
     pub ramdisk_count: u32,
     /// The index of the first ramdisk, [`NO_RAMDISK`] where there is none, so also beside a refusal.
     pub first_ramdisk: u32,
+    /// The lowest bit of the header's flags, 0 beside a refusal.
+    pub architecture: u16,
     /// Always 0.
-    pub reserved_after: u32,
+    pub reserved_after: u16,
     /// The sections in file order, then zeros.
     pub sections: [Section; MAX_SECTIONS],
+}
+
+/// What [`json_check`] answers.
+#[repr(C)]
+#[derive(Clone, Copy, Debug, Default, PartialEq, Eq)]
+pub struct JsonAnswer {
+    /// 1 where the bytes are one JSON text, and otherwise 0.
+    pub is_text: u8,
+    /// Always 0.
+    pub reserved: [u8; 7],
+    /// The place of the first byte that no JSON text can have after the bytes before it or, where there
+    /// is none, the number of bytes. 0 where they are a text.
+    pub place: u64,
 }
 
 /// What [`write()`] takes.
@@ -89,6 +108,8 @@ pub struct Answer {
     pub reserved: [u8; 7],
     /// The index beside a refusal.
     pub index: u64,
+    /// Where what is at fault stands, beside a refusal.
+    pub position: u64,
     /// The length, 0 beside a refusal.
     pub length: u64,
 }
@@ -116,10 +137,16 @@ pub struct RollReading {
     /// The answer number, 0 where the roll is accepted.
     pub number: u8,
     /// Always 0.
-    pub reserved: [u8; 7],
+    pub reserved: u8,
+    /// The flags of the image's header, 0 beside a refusal.
+    pub flags: u16,
+    /// Always 0.
+    pub reserved_after: u32,
     /// The index beside a refusal.
     pub index: u64,
-    /// How many records there are, the end record not counted.
+    /// Where what is at fault stands, beside a refusal.
+    pub position: u64,
+    /// How many records there are, flags record and end record not counted.
     pub count: u64,
     /// The records in order, then zeros.
     pub records: [RollRecord; MAX_SECTIONS],
@@ -158,6 +185,8 @@ pub struct Sha384Fed {
     pub reserved: [u8; 7],
     /// Always 0.
     pub index: u64,
+    /// Always 0.
+    pub position: u64,
     /// The state after the piece; beside a refusal the state as it was.
     pub state: Sha384,
 }
@@ -172,6 +201,8 @@ pub struct RegistersAnswer {
     pub reserved: [u8; 7],
     /// The index beside a refusal.
     pub index: u64,
+    /// Where what is at fault stands, beside a refusal.
+    pub position: u64,
     /// Registers 0, 1 and 2, all zero beside a refusal.
     pub registers: [Digest; REGISTERS],
 }
@@ -221,21 +252,24 @@ const _: () = {
     assert!(size_of::<SectionType>() == 2);
     assert!(size_of::<FilePosition>() == 8 && size_of::<RollPosition>() == 8);
     assert!(size_of::<DataLength>() == 8 && size_of::<StreamPosition>() == 8);
+    assert!(size_of::<JsonAnswer>() == 1 + 7 + 8 && offset_of!(JsonAnswer, place) == 8);
     assert!(size_of::<Section>() == 2 + 2 + 4 + 8 + 8);
     assert!(size_of::<RollRecord>() == 2 + 2 + 4 + 8 + 8);
-    assert!(size_of::<Answer>() == 1 + 7 + 8 + 8);
-    assert!(size_of::<Reading>() == 1 + 1 + 3 * 2 + 3 * 8 + 4 * 4 + MAX_SECTIONS * 24);
-    assert!(offset_of!(Reading, sections) == 48);
-    assert!(size_of::<RollReading>() == 1 + 7 + 8 + 8 + MAX_SECTIONS * 24);
+    assert!(size_of::<Answer>() == 1 + 7 + 8 + 8 + 8);
+    assert!(size_of::<Reading>() == 1 + 1 + 3 * 2 + 4 * 8 + 3 * 4 + 2 * 2 + MAX_SECTIONS * 24);
+    assert!(offset_of!(Reading, position) == 16 && offset_of!(Reading, sections) == 56);
+    assert!(offset_of!(Reading, architecture) == 52);
+    assert!(size_of::<RollReading>() == 1 + 1 + 2 + 4 + 8 + 8 + 8 + MAX_SECTIONS * 24);
+    assert!(offset_of!(RollReading, flags) == 2 && offset_of!(RollReading, records) == 32);
     assert!(size_of::<StreamSections>() == 8 + MAX_SECTIONS * 24);
     assert!(align_of::<StreamSections>() == 8 && offset_of!(StreamSections, sections) == 8);
     assert!(size_of::<Sha384>() == 8 * 8 + 128 + 8);
     assert!(offset_of!(Sha384, block) == 64 && offset_of!(Sha384, total) == 192);
-    assert!(size_of::<Sha384Fed>() == 1 + 7 + 8 + size_of::<Sha384>());
-    assert!(offset_of!(Sha384Fed, state) == 16);
+    assert!(size_of::<Sha384Fed>() == 1 + 7 + 8 + 8 + size_of::<Sha384>());
+    assert!(offset_of!(Sha384Fed, state) == 24);
     assert!(size_of::<Digest>() == DIGEST_LENGTH && align_of::<Digest>() == 1);
-    assert!(size_of::<RegistersAnswer>() == 1 + 7 + 8 + REGISTERS * DIGEST_LENGTH);
-    assert!(offset_of!(RegistersAnswer, registers) == 16);
+    assert!(size_of::<RegistersAnswer>() == 1 + 7 + 8 + 8 + REGISTERS * DIGEST_LENGTH);
+    assert!(offset_of!(RegistersAnswer, registers) == 24);
     assert!(size_of::<Arriving>() == 8 + HEADER_LENGTH + SECTION_HEADERS_LENGTH + 4 + 8);
     assert!(offset_of!(Arriving, header) == 8 && offset_of!(Arriving, section_headers) == 556);
     assert!(offset_of!(Arriving, checksum) == 940 && offset_of!(Arriving, ended) == 944);
@@ -270,12 +304,14 @@ impl From<RollRecord> for crate::RollRecord {
 
 mod c {
     use super::{
-        Answer, Arriving, ArrivingFed, ArrivingFinished, Digest, Plan, Reading, RegistersAnswer,
-        RollReading, Sha384, Sha384Fed, StreamPosition, StreamSections,
+        Answer, Arriving, ArrivingFed, ArrivingFinished, Digest, JsonAnswer, Plan, Reading,
+        RegistersAnswer, RollReading, Sha384, Sha384Fed, StreamPosition, StreamSections,
     };
 
     extern "C" {
         pub fn eif_read(image: *const u8, image_length: usize) -> Reading;
+        pub fn eif_read_strict(image: *const u8, image_length: usize) -> Reading;
+        pub fn eif_json_check(text: *const u8, text_length: usize) -> JsonAnswer;
         pub fn eif_arriving_begin() -> Arriving;
         pub fn eif_arriving_feed(
             state: Arriving,
@@ -347,6 +383,18 @@ mod c {
 pub fn read(image: &[u8]) -> Reading {
     // SAFETY: pointer and length are those of a slice, here and below.
     unsafe { c::eif_read(image.as_ptr(), image.len()) }
+}
+
+/// `eif_read_strict`.
+pub fn read_strict(image: &[u8]) -> Reading {
+    // SAFETY: as for `read`.
+    unsafe { c::eif_read_strict(image.as_ptr(), image.len()) }
+}
+
+/// `eif_json_check`.
+pub fn json_check(text: &[u8]) -> JsonAnswer {
+    // SAFETY: as for `read`.
+    unsafe { c::eif_json_check(text.as_ptr(), text.len()) }
 }
 
 /// `eif_arriving_begin`.
@@ -522,7 +570,7 @@ pub fn sha384_finish(state: Sha384) -> Digest {
 impl Answer {
     /// The length, or the refusal.
     pub(crate) fn accepted(self) -> Result<u64, crate::Refusal> {
-        crate::Refusal::check(self.number, self.index).map(|()| self.length)
+        crate::Refusal::check(self.number, self.index, self.position).map(|()| self.length)
     }
 
     /// The length of a part of a slice, or the refusal.
@@ -562,6 +610,8 @@ mod tests {
         // SAFETY: every length is 0.
         unsafe {
             assert_eq!(c::eif_read(null(), 0), read(&[]));
+            assert_eq!(c::eif_read_strict(null(), 0), read(&[]));
+            assert_eq!(c::eif_json_check(null(), 0), JsonAnswer::default());
             let write = c::eif_write(smallest(), null(), 0, null_mut(), 0);
             assert_eq!(write.number, 14);
             for length in [
@@ -615,12 +665,17 @@ mod tests {
         let image = &image[..written.length as usize];
         let copy = image.to_vec();
         assert_eq!(bytes_of(&read(image)), bytes_of(&read(&copy)));
+        assert_eq!(bytes_of(&read(image)), bytes_of(&read_strict(&copy)));
+        for text in [&b"{}"[..], b"{]"] {
+            let copy = text.to_vec();
+            assert_eq!(bytes_of(&json_check(text)), bytes_of(&json_check(&copy)));
+        }
         for sections in [whole_sections, boot_sections, app_sections] {
             let lists = [image, &copy].map(|image| sections(read(image)));
             assert_eq!(bytes_of(&lists[0]), bytes_of(&lists[1]));
         }
-        let mut roll = [0; 30];
-        assert_eq!(roll_write(image, &mut roll).length, 30);
+        let mut roll = [0; 42];
+        assert_eq!(roll_write(image, &mut roll).length, 42);
         let copy = roll.to_vec();
         assert_eq!(bytes_of(&roll_read(&roll)), bytes_of(&roll_read(&copy)));
         let copy = image.to_vec();
@@ -640,7 +695,10 @@ mod tests {
         let written = write(smallest(), &[], &mut image);
         let refused = write(smallest(), &[], &mut []);
         assert_eq!([written.reserved, refused.reserved], [[0; 7]; 2]);
-        for reading in [read(&image), read(&[])] {
+        for text in [&b"{}"[..], b"{]", b""] {
+            assert_eq!(json_check(text).reserved, [0; 7]);
+        }
+        for reading in [read(&image), read(&[]), read_strict(&image)] {
             assert_eq!((reading.reserved, reading.reserved_after), (0, 0));
             assert!(reading.sections.iter().all(|s| s.reserved == 0));
             for sections in [whole_sections, boot_sections, app_sections] {
@@ -648,10 +706,10 @@ mod tests {
                 assert!(list.iter().all(|s| s.reserved == 0));
             }
         }
-        let mut roll = [0; 30];
+        let mut roll = [0; 42];
         assert_eq!(roll_write(&image, &mut roll).reserved, [0; 7]);
         for reading in [roll_read(&roll), roll_read(&[])] {
-            assert_eq!(reading.reserved, [0; 7]);
+            assert_eq!((reading.reserved, reading.reserved_after), (0, 0));
             let reserved = |r: &RollRecord| (r.reserved, r.reserved_after);
             assert!(reading.records.iter().all(|r| reserved(r) == (0, 0)));
         }

@@ -86,14 +86,18 @@ reasons! {
         "mend the plan";
     16 RecordCut: "roll ends inside a record, or before its end record",
         "fetch the roll again";
-    17 RecordTypeWrong: "roll record of type above 3, or type 0 with a length not 0",
-        "fetch the roll again";
+    17 RecordTypeWrong: "roll does not begin with its flags, or record of type above 3, or type 0 with a length not 0",
+        "fetch the roll again; one that an older eif has written must be written again from its image";
     18 BytesAfterEnd: "bytes after the end record",
         "fetch the roll again";
     19 PastStreamEnd: "stream position past the stream's end",
         "nothing is wrong with the file; mend the calling program";
     20 NotPacked: "section not packed, or bytes after the last section",
         "do not use it; fetch it again, and if the answer stays, tell the builder";
+    21 MetadataNotJson: "metadata is not one JSON text",
+        "do not use it; tell the builder";
+    28 NotSign1: "not one COSE_Sign1 of the accepted form",
+        "do not rely on the signature; tell the builder";
     29 MessageTooLong: "message longer than 2,305,843,009,213,693,951 bytes",
         "nothing is wrong with the file; mend the calling program";
 }
@@ -107,16 +111,20 @@ impl fmt::Display for Reason {
 /// A refusal: the first answer number that applies, and where.
 ///
 /// ```
-/// let refusal = eif::read(&[0; 547]).unwrap_err();
-/// assert_eq!(refusal.reason(), eif::Reason::ImageTooShort);
-/// assert_eq!((refusal.number(), refusal.index()), (2, 0));
-/// assert_eq!(refusal.to_string(), "refused 2 at 0: image shorter than 548 bytes");
-/// assert_eq!(refusal.reason().advice(), "fetch it again");
+/// // The right magic, and version 0.
+/// let mut image = [0; 548];
+/// image[..4].copy_from_slice(b".eif");
+/// let refusal = eif::read(&image).unwrap_err();
+/// assert_eq!(refusal.reason(), eif::Reason::WrongVersion);
+/// assert_eq!((refusal.number(), refusal.index(), refusal.position()), (4, 0, 4));
+/// assert_eq!(refusal.to_string(), "refused 4 at 0 byte 4: version not 2, 3 or 4");
+/// assert_eq!(refusal.place_in_image().as_deref(), Some("the version"));
 /// ```
 #[derive(Clone, Copy, Debug, PartialEq, Eq, Hash)]
 pub struct Refusal {
     reason: Reason,
     index: u64,
+    position: u64,
 }
 
 impl Refusal {
@@ -125,12 +133,17 @@ impl Refusal {
     /// # Panics
     ///
     /// Where the table above has no such number, which the library does not answer.
-    pub(crate) fn check(number: u8, index: u64) -> Result<(), Refusal> {
-        match (number, Reason::from_number(number)) {
-            (0, _) => Ok(()),
-            (_, Some(reason)) => Err(Refusal { reason, index }),
+    pub(crate) fn check(number: u8, index: u64, position: u64) -> Result<(), Refusal> {
+        let reason = match (number, Reason::from_number(number)) {
+            (0, _) => return Ok(()),
+            (_, Some(reason)) => reason,
             (_, None) => panic!("the archive answers {number}, which this crate does not know"),
-        }
+        };
+        Err(Refusal {
+            reason,
+            index,
+            position,
+        })
     }
 
     /// Why.
@@ -143,17 +156,26 @@ impl Refusal {
         self.reason as u8
     }
 
-    /// The index of the section or record for 6 to 11, 16, 17 and, where a section is not packed, 20; and 0
-    /// for the others.
+    /// The index of the section or record for 6 to 11, 16, 17, 21 and, where a section is not packed, 20;
+    /// and 0 for the others.
     pub fn index(&self) -> u64 {
         self.index
+    }
+
+    /// Where what is at fault stands (FORMAT.md, Positions): a position in the image, or in the roll where a
+    /// roll was read, from its start; 0 where the number has no place there.
+    /// [`place_in_image`](Refusal::place_in_image) and [`place_in_roll`](Refusal::place_in_roll) say in words
+    /// what that is.
+    pub fn position(&self) -> u64 {
+        self.position
     }
 }
 
 impl fmt::Display for Refusal {
     fn fmt(&self, f: &mut fmt::Formatter<'_>) -> fmt::Result {
-        let (number, index) = (self.number(), self.index);
-        write!(f, "refused {number} at {index}: {}", self.reason)
+        let (number, index, position) = (self.number(), self.index, self.position);
+        let meaning = self.reason;
+        write!(f, "refused {number} at {index} byte {position}: {meaning}")
     }
 }
 
@@ -165,13 +187,13 @@ mod tests {
 
     #[test]
     fn numbers_and_reasons_agree() {
-        assert_eq!(Refusal::check(0, 0), Ok(()));
+        assert_eq!(Refusal::check(0, 0, 0), Ok(()));
         assert!(Reason::ALL.windows(2).all(|pair| pair[0] < pair[1]));
         for &reason in Reason::ALL {
-            let refusal = Refusal::check(reason as u8, 7).unwrap_err();
+            let refusal = Refusal::check(reason as u8, 7, 84).unwrap_err();
             assert_eq!(refusal.reason(), reason);
             assert_eq!(refusal.number(), reason as u8);
-            assert_eq!(refusal.index(), 7);
+            assert_eq!((refusal.index(), refusal.position()), (7, 84));
         }
     }
 }

@@ -1,12 +1,22 @@
 //! The examples of docs/FORMAT.md through the twin.
 
 use eif_cases::{
-    image_cases, roll_cases, stream_cases, two_sections, worked_image, zero_image, WORKED_ROLL,
+    image_cases, located_images, located_plans, located_rolls, roll_cases, stream_cases,
+    two_sections, worked_image, zero_image, Answer, ACCEPTED, WORKED_ROLL,
 };
 use eif_twin::*;
 
+/// A refusal that has no place in a file.
 fn refused(number: u8, index: u64) -> Refusal {
-    Refusal { number, index }
+    Refusal {
+        number,
+        index,
+        position: 0,
+    }
+}
+
+fn parts(refusal: Refusal) -> Answer {
+    (refusal.number, refusal.index, refusal.position)
 }
 
 fn worked_plan() -> Plan {
@@ -38,6 +48,7 @@ fn the_worked_image_is_read() {
         .collect();
     assert_eq!(rows, [(1, 548, 1), (2, 561, 1), (3, 574, 0)]);
     assert_eq!((reading.version, reading.flags), (2, 0));
+    assert_eq!(reading.architecture(), 0);
     assert_eq!((reading.default_mem, reading.default_cpus), (0, 0));
     assert_eq!(reading.ramdisk_mark(), 4);
     assert_eq!(reading.ramdisk_count(), 1);
@@ -74,46 +85,70 @@ fn sums_of_a_plan_do_not_wrap() {
 
 #[test]
 fn the_worked_roll_is_written() {
-    let mut out = [0xaa; 50];
-    assert_eq!(write_roll(&worked_image(), &mut out), Ok(42));
-    assert_eq!(out[..42], WORKED_ROLL);
-    assert_eq!(out[42..], [0xaa; 8]);
+    let mut out = [0xaa; 62];
+    assert_eq!(write_roll(&worked_image(), &mut out), Ok(54));
+    assert_eq!(out[..54], WORKED_ROLL);
+    assert_eq!(out[54..], [0xaa; 8]);
 }
 
 #[test]
 fn lengths() {
     assert_eq!(plan_length(&worked_plan()), Ok(586));
-    assert_eq!(roll_length(&worked_image()), Ok(42));
+    assert_eq!(roll_length(&worked_image()), Ok(54));
 }
 
 #[test]
-fn a_roll_does_not_fit_41_bytes() {
-    let mut out = [0xaa; 41];
+fn a_roll_does_not_fit_53_bytes() {
+    let mut out = [0xaa; 53];
     assert_eq!(write_roll(&worked_image(), &mut out), Err(refused(14, 0)));
-    assert_eq!(out, [0xaa; 41]);
+    assert_eq!(out, [0xaa; 53]);
 }
 
 #[test]
 fn rolls() {
-    for case in roll_cases() {
+    for case in roll_cases().into_iter().chain(located_rolls()) {
         let answer = read_roll(&case.roll)
-            .map(|records| {
+            .map(|roll| {
                 let row = |r: &Record| (r.kind, r.position as u64, r.length as u64);
-                records.iter().map(row).collect::<Vec<_>>()
+                (roll.flags, roll.records.iter().map(row).collect::<Vec<_>>())
             })
-            .map_err(|refusal| (refusal.number, refusal.index));
+            .map_err(parts);
         assert_eq!(answer, case.answer, "{}", case.name);
     }
 }
 
 #[test]
 fn images() {
-    for case in image_cases() {
-        let answer = match read(&case.image) {
-            Ok(_) => (0, 0),
-            Err(refusal) => (refusal.number, refusal.index),
+    for case in image_cases().into_iter().chain(located_images()) {
+        let answer = read(&case.image).map_or_else(parts, |_| ACCEPTED);
+        assert_eq!(answer, case.answer, "{}", case.name);
+    }
+}
+
+/// Every place past the sections is that of another kernel, and the count is theirs.
+#[test]
+fn plans() {
+    for case in located_plans() {
+        let other = Place {
+            kind: 1,
+            ..Place::default()
         };
-        assert_eq!(answer, (case.number, case.index), "{}", case.name);
+        let mut places = [other; 32];
+        for (place, &(kind, length)) in places.iter_mut().zip(&case.sections) {
+            *place = Place {
+                kind,
+                flags: 0,
+                length,
+            };
+        }
+        let plan = Plan {
+            version: case.version,
+            count: case.sections.len() as u16,
+            places,
+            ..worked_plan()
+        };
+        let answer = write(&plan, &vec![7; case.data], &mut vec![7; case.room]);
+        assert_eq!(answer.map_err(parts), Err(case.answer), "{}", case.name);
     }
 }
 

@@ -22,7 +22,7 @@ use Rattle.eif_registers.proofs.step.Statement.{statement}
 use Rattle.eif_registers.proofs.step.Tie as tie
 
 sized : (c : tie.Start) → length (c .args .reading .sections) ≡ placeCount
-sized c = simp length-map at (c .good .1 .0 .1 .1 .1 .1 .1 .1 .1 .1 .0 .1 .0 .1)
+sized c = simp length-map at (c .good .1 .0 .1 .1 .1 .1 .1 .1 .1 .1 .1 .0 .1 .0 .1)
 
 -- a list that is a stream's has no more places than the table, and its state is the stream's
 module _ (s : List ℕ) (l : List Section) (size : length l ≡ placeCount) (stream : Stream) (list : StreamSections) (is : list ≡ sectionsAnswer stream l) where

@@ -62,8 +62,8 @@ loop-again c =
     let m : length (keptOf stream all (l .i) ++ (x ∷ [])) ≡ length (keptOf stream all (l .i)) + 1 = length-append (keptOf stream all (l .i)) (x ∷ []) in
     let f = kept-few stream all (l .i) (omega arith) in (
       omega arith,
-      w .2 ∙ ap (λ (n : ℕ). n + 1) (l .inv .1) ∙ sym m ∙ ap length (sym e),
-      w .1 ∙ ap (λ (t : List Section). set t (l .count) x) (l .inv .2) ∙ table-next (keptOf stream all (l .i)) x (l .count) (l .inv .1) (omega arith) ∙ ap inTable (sym e),
+      w .3 ∙ ap (λ (n : ℕ). n + 1) (l .inv .1) ∙ sym m ∙ ap length (sym e),
+      w .2 ∙ ap₂ (λ (t : List Section) (n : ℕ). set t n x) (l .inv .2) (w .1 .ensures) ∙ table-next (keptOf stream all (l .i)) x (l .count) (l .inv .1) (omega arith) ∙ ap inTable (sym e),
       r,
       omega arith,
     ))
@@ -100,9 +100,10 @@ sections-spec =
     (λ c. omega arith)
     (λ c. omega arith)
     (λ c κs. search needs)
-    (λ c. omega (arith, room c))
-    (λ c. room c)
-    (λ c. omega (arith, room c))
+    (λ c κs. search needs)
+    (λ c. omega (arith, room (c .before)))
+    (λ c. omega (arith, room (c .before)))
+    (λ c. omega (arith, room (c .before)))
     (λ c κs. search needs)
     add-before
     (λ c. omega arith)

@@ -11,18 +11,21 @@ pub const COMMAND: Command = Command {
     name: "check",
     summary: "say of each image whether it is accepted",
     help: "\
-usage: eif check [--quiet] FILE..
+usage: eif check [--strict] [--quiet] FILE..
 
-Reads each image and prints one line for it, as
+Reads each image as it comes, keeps none of it, and prints one line for it, as
     FILE: accepted
-    FILE: refused 13 at 0: checksum differs
+    FILE: refused 13 at 0 byte 544: checksum differs
+eif show says of such a file what stands at that byte and what to do.
 
+  --strict  refuse metadata that is not one JSON text too, by 21; this needs memory
+            for the image
   --quiet   print nothing; the exit status tells
 
 Exit status: 0 all are accepted, 1 one is refused, 2 one cannot be read.
 ",
     options: Options {
-        flags: &["--quiet"],
+        flags: &["--strict", "--quiet"],
         values: &[],
     },
     run,
@@ -30,7 +33,11 @@ Exit status: 0 all are accepted, 1 one is refused, 2 one cannot be read.
 
 fn run(args: Args) -> Result<Status, Trouble> {
     let names = args.some_operands("FILE")?;
-    let read = |name: &OsStr| input::arrive(name, Keep::Nothing);
+    let strict = args.has("--strict");
+    let read = |name: &OsStr| match strict {
+        true => input::read_strictly(name),
+        false => input::arrive(name, Keep::Nothing),
+    };
     input::each(names, read, |input| {
         let (status, verdict) = match &input.answer {
             Ok(_) => (Status::Fine, "accepted".to_string()),

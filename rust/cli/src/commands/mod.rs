@@ -1,7 +1,6 @@
 //! The subcommands, each in a file of its own.
 //!
-//! A new one (signature, assemble, stage) is a file here and a row in the table. A stricter
-//! reading is a flag `--strict` of `show` and `check`.
+//! A new one (assemble, stage) is a file here and a row in the table.
 
 use crate::args::{Args, Options};
 use crate::status::{Status, Trouble};
@@ -9,10 +8,12 @@ use crate::status::{Status, Trouble};
 mod check;
 mod compare;
 mod extract;
+mod json;
 mod pack;
 mod registers;
 mod roll;
 mod show;
+mod signature;
 mod stream;
 
 /// A subcommand.
@@ -27,13 +28,15 @@ pub struct Command {
 }
 
 /// All of them, in the order of the overview.
-pub const COMMANDS: [Command; 8] = [
+pub const COMMANDS: [Command; 10] = [
     show::COMMAND,
     check::COMMAND,
     compare::COMMAND,
     registers::COMMAND,
+    signature::COMMAND,
     roll::COMMAND,
     pack::COMMAND,
     extract::COMMAND,
     stream::COMMAND,
+    json::COMMAND,
 ];

@@ -14,7 +14,7 @@ pub const COMMAND: Command = Command {
     summary: "pack an image from its parts, in the order given",
     help: "\
 usage: eif pack --kernel FILE --cmdline TEXT --ramdisk FILE [--ramdisk FILE ..]
-                --output FILE [--force] [--metadata FILE]
+                --output FILE [--force] [--metadata FILE] [--no-check]
                 [--arch x86_64|aarch64] [--format 2|3|4]
 
 Packs an image: kernel, command line, metadata if given, then the ramdisks in the
@@ -23,7 +23,8 @@ order in which they are named, never sorted.
   --kernel FILE     the kernel
   --cmdline TEXT    the kernel's command line, as it is
   --ramdisk FILE    a ramdisk; give it once for each
-  --metadata FILE   the metadata, which format 4 must have
+  --metadata FILE   the metadata, which format 4 must have: one JSON text
+  --no-check        take the metadata as it is, JSON or not
   --arch NAME       x86_64, unless this says aarch64
   --format NUMBER   the format's version: 4 with --metadata and otherwise 3,
                     unless this says another
@@ -33,7 +34,7 @@ order in which they are named, never sorted.
 Exit status: 0 written, 1 refused, 2 wrong usage, input or output trouble.
 ",
     options: Options {
-        flags: &[output::FLAG],
+        flags: &[output::FLAG, NO_CHECK],
         values: &[
             "--kernel",
             "--cmdline",
@@ -46,6 +47,8 @@ Exit status: 0 written, 1 refused, 2 wrong usage, input or output trouble.
     },
     run,
 };
+
+const NO_CHECK: &str = "--no-check";
 
 /// The parts as the command line names them.
 struct Parts {
@@ -64,16 +67,37 @@ fn run(args: Args) -> Result<Status, Trouble> {
     let output = Output::of(&args)?;
     let sections = read_sections(&parts)?;
     let plan = plan(&parts, &sections);
-    let data: Vec<&[u8]> = sections.iter().map(|(_, data)| &data[..]).collect();
+    let refused = |lines: &[u8]| {
+        complain(lines);
+        Ok(Status::Refused)
+    };
     // The length is asked first, so that no parts are joined that are too long.
-    let image = eif::plan_length(&plan).and_then(|_| eif::write_to_vec(&plan, &data.concat()));
-    match image {
-        Ok(image) => output.write(&[&image]).map(|()| Status::Fine),
-        Err(refusal) => {
-            complain(&words::about(&output_name, &format!("{refusal}\n")));
-            Ok(Status::Refused)
+    if let Err(refusal) = eif::plan_length(&plan) {
+        return refused(&words::about(&output_name, &format!("{refusal}\n")));
+    }
+    if !args.has(NO_CHECK) {
+        if let Some(lines) = metadata_fault(&parts, &sections) {
+            return refused(&lines);
         }
     }
+    let data: Vec<&[u8]> = sections.iter().map(|(_, data)| &data[..]).collect();
+    match eif::write_to_vec(&plan, &data.concat()) {
+        Ok(image) => output.write(&[&image]).map(|()| Status::Fine),
+        Err(refusal) => refused(&words::about(&output_name, &format!("{refusal}\n"))),
+    }
+}
+
+/// What is wrong with metadata that is no JSON text.
+fn metadata_fault(parts: &Parts, sections: &[(SectionType, Vec<u8>)]) -> Option<Vec<u8>> {
+    let name = parts.metadata.as_ref()?;
+    let (_, metadata) = sections
+        .iter()
+        .find(|(kind, _)| *kind == SectionType::METADATA)?;
+    let fault = eif::json::check(metadata).err()?;
+    let lines = format!(
+        "not one JSON text: {fault}\n  what to do: mend it; {NO_CHECK} packs it as it is\n"
+    );
+    Some(words::about(name, &lines))
 }
 
 fn named_parts(args: &Args) -> Result<Parts, Trouble> {

@@ -7,26 +7,32 @@ use crate::input::{self, Arrived, Keep};
 use crate::json::{self, Object};
 use crate::status::{Status, Trouble};
 use crate::{objects, output, words};
-use eif::{Reading, RollRecord, Section, SectionType};
+use eif::json::Fault;
+use eif::{Reading, Reason, Roll, RollRecord, Section, SectionType};
 use std::ffi::OsStr;
 
 pub const COMMAND: Command = Command {
     name: "show",
     summary: "show what an image or a roll holds",
     help: "\
-usage: eif show [--json] FILE..
+usage: eif show [--strict] [--json] FILE..
 
 Shows each file: of an image its header fields and a row for each section in file
 order (index, type, offset of the section in the file, size of its data); of a
-boot roll a row for each record (index, type, position of its data, size). Of a
-file that is refused: the answer number, where, what it means and what to do.
+boot roll its flags, which are record 0, and a row for each record after it
+(index, type, position of its data, size). Of a
+file that is refused: the answer number, the index of the section or record, the
+byte at which the fault is, what the number means, what stands at that byte, and
+what to do.
 
+  --strict  refuse an image whose metadata is not one JSON text too, by 21, and say
+            where in the metadata; this needs memory for the image
   --json    one object for each file, one a line; the manual lists the keys
 
 Exit status: 0 all are accepted, 1 one is refused, 2 one cannot be read.
 ",
     options: Options {
-        flags: &["--json"],
+        flags: &["--strict", "--json"],
         values: &[],
     },
     run,
@@ -42,7 +48,11 @@ fn run(args: Args) -> Result<Status, Trouble> {
     } else {
         (text, Keep::Rolls)
     };
-    let read = |name: &OsStr| input::arrive(name, keep);
+    let strict = args.has("--strict");
+    let read = |name: &OsStr| match strict {
+        true => input::read_strictly(name),
+        false => input::arrive(name, keep),
+    };
     input::each(names, read, |arrived| {
         let answer = content::of(arrived);
         output::print(&form(arrived, &answer))?;
@@ -54,17 +64,31 @@ fn text(arrived: &Arrived, answer: &Answer) -> Vec<u8> {
     let name = &arrived.name;
     match answer {
         Ok(Content::Image(image)) => words::about(name, &image_text(image)),
-        Ok(Content::Roll(roll)) => words::about(name, &roll_text(roll.records())),
-        Err(neither) => neither.lines(name),
+        Ok(Content::Roll(roll)) => words::about(name, &roll_text(roll)),
+        Err(neither) => {
+            let mut lines = neither.lines(name);
+            if let Some(fault) = metadata_fault(arrived, neither) {
+                lines.extend(format!("  in the metadata: {fault}\n").into_bytes());
+            }
+            lines
+        }
     }
+}
+
+/// Where the metadata stops being JSON, of an image that is refused for that.
+fn metadata_fault(arrived: &Arrived, neither: &Neither) -> Option<Fault> {
+    if neither.image.reason() != Reason::MetadataNotJson {
+        return None;
+    }
+    let image = eif::read(&arrived.bytes).ok()?;
+    eif::json::check(image.metadata()?).err()
 }
 
 fn image_text(image: &Reading) -> String {
     let mut text = format!(
-        "image\n  version       {}\n  flags         {:#06x} ({})\n  default_mem   {}\n  default_cpus  {}\n",
+        "image\n  version       {}\n  flags         {}\n  default_mem   {}\n  default_cpus  {}\n",
         image.version(),
-        image.flags(),
-        image.architecture(),
+        words::flags(image.flags(), image.architecture()),
         image.default_mem(),
         image.default_cpus(),
     );
@@ -80,9 +104,16 @@ fn image_text(image: &Reading) -> String {
     text
 }
 
-fn roll_text(records: &[RollRecord]) -> String {
-    let mut text = "boot roll\n".to_string() + &row("index", "type", "position", "size");
-    for (index, record) in records.iter().enumerate() {
+/// The records of a roll, each with its index. The flags record is record 0.
+fn numbered<'a>(roll: &'a Roll) -> impl Iterator<Item = (usize, &'a RollRecord)> + 'a {
+    (1..).zip(roll.records())
+}
+
+fn roll_text(roll: &Roll) -> String {
+    let flags = words::flags(roll.flags(), roll.architecture());
+    let mut text = format!("boot roll\n  flags         {flags}\n");
+    text += &row("index", "type", "position", "size");
+    for (index, record) in numbered(roll) {
         text += &row(
             index,
             record.section_type,
@@ -107,11 +138,19 @@ fn object(arrived: &Arrived, answer: &Answer) -> Vec<u8> {
     let object = match answer {
         Ok(Content::Image(image)) => image_object(arrived, image),
         Ok(Content::Roll(roll)) => {
-            let records = roll.records().iter().enumerate();
-            let records = records.map(|(index, record)| record_object(index, record));
-            objects::on_file(name, true).put("records", json::list(records))
+            let records = numbered(roll).map(|(index, record)| record_object(index, record));
+            objects::on_file(name, true)
+                .put("flags", roll.flags())
+                .put("architecture", json::string(roll.architecture().name()))
+                .put("records", json::list(records))
         }
-        Err(neither) => objects::refused(name, &neither.image),
+        Err(neither) => {
+            let refused = objects::refused(name, &neither.image);
+            match metadata_fault(arrived, neither) {
+                Some(fault) => refused.put("place", fault.place()),
+                None => refused,
+            }
+        }
     };
     (object.text() + "\n").into_bytes()
 }

@@ -2,6 +2,7 @@
 #![allow(dead_code)]
 
 pub mod json;
+pub mod signing;
 
 use std::ffi::OsStr;
 use std::fs;

@@ -1,0 +1,49 @@
+-- The parts of CBOR (RFC 8949) that a COSE_Sign1 needs: heads in their shortest form, strings of a definite length, and numbers.
+-- Assumes nothing.
+use Prim.Native.Nat.{ℕ, _+_, _*_}
+use mathlib.Core.List.{List, [], _∷_, _++_}
+use lib.Dec.{ltb}
+use lib.ListN.{length}
+use Rattle.octets.specs.Bytes.{beBytes}
+use Rattle.eif.specs.Logic.{choose}
+
+-- ---- major types (RFC 8949, 3.1)
+
+abbrev pub unsigned : ℕ
+unsigned = 0
+
+-- the number in the head is n where the value is -1 - n
+abbrev pub negative : ℕ
+negative = 1
+
+abbrev pub byteString : ℕ
+byteString = 2
+
+abbrev pub textString : ℕ
+textString = 3
+
+abbrev pub array : ℕ
+array = 4
+
+-- a map: the number in the head counts its pairs
+abbrev pub pairs : ℕ
+pairs = 5
+
+-- ---- the head of a major type with a number below 2 to the 64, in its shortest form (RFC 8949, 3 and 4.2.1): the first byte is 32
+-- times the major type, plus the number itself, or plus 24, 25, 26 or 27 where the number follows in 1, 2, 4 or 8 bytes
+unfoldable pub headBytes : ℕ → ℕ → List ℕ
+headBytes major n =
+    choose (ltb n 24) ((32 * major + n) ∷ [])
+    (choose (ltb n 256) ((32 * major + 24) ∷ n ∷ [])
+    (choose (ltb n 65536) ((32 * major + 25) ∷ beBytes 2 n)
+    (choose (ltb n 4294967296) ((32 * major + 26) ∷ beBytes 4 n)
+    ((32 * major + 27) ∷ beBytes 8 n))))
+
+-- a byte string or a text string
+unfoldable pub stringBytes : ℕ → List ℕ → List ℕ
+stringBytes major s = headBytes major (length s) ++ s
+
+-- unsigned numbers, one after the other
+unfoldable pub numbersBytes : List ℕ → List ℕ
+numbersBytes [] = []
+numbersBytes (x ∷ xs) = headBytes unsigned x ++ numbersBytes xs

@@ -1,0 +1,22 @@
+-- The order of the refusals of writing and of reading one COSE_Sign1, as lists of rules, like those of an image.
+-- That each verdict is that of the first rule that applies is a law of its own. Assumes nothing.
+use Prim.Native.Nat.{ℕ}
+use mathlib.Core.Bool.{not}
+use mathlib.Core.List.{List, [], _∷_}
+use lib.Dec.{ltb}
+use lib.ListN.{length}
+use Rattle.eif.specs.Numbers.{notSign1, outputTooShort}
+use Rattle.eif.specs.Order.{Rule, rule}
+use Rattle.cose.specs.Sign1.{signatureFits, sign1Bytes}
+use Rattle.cose.specs.Read.{accepted}
+use Rattle.cose.specs.declared.Claim.{Claim}
+
+-- for so many bytes of room
+unfoldable pub sign1WriteRules : Claim → List ℕ → ℕ → List Rule
+sign1WriteRules c signature room =
+    rule (not (signatureFits (c .algorithm) (length signature))) notSign1 0 0
+    ∷ rule (ltb room (length (sign1Bytes c signature))) outputTooShort 0 0
+    ∷ []
+
+unfoldable pub sign1ReadRules : List ℕ → List Rule
+sign1ReadRules s = rule (not (accepted s)) notSign1 0 0 ∷ []

@@ -1,0 +1,5 @@
+pub mod Numbers
+pub mod Places
+pub mod RoundTrip
+pub mod Accepted
+pub mod FirstApplies

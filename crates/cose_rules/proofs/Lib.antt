@@ -1,0 +1,5 @@
+pub mod Head
+pub mod Parts
+pub mod Answers
+pub mod Numbers
+pub mod Same

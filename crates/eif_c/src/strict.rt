@@ -1,0 +1,46 @@
+// The stricter reading of an image, and the check of JSON that it makes, for programs in C and Rust (FORMAT.md, Stricter reading).
+ghost use mathlib.Core.Path.{_≡_};
+ghost use Rattle.json_machine.specs.Machine.{jsonVerdict};
+ghost use Rattle.eif_strict.specs.Strict.{readStrict};
+ghost use Rattle.eif_c.specs.Flat.{flatReading};
+ghost use Rattle.eif_c.specs.Strict.{flatJson};
+use json::JsonVerdict;
+
+// `is_text` is 1 where the bytes are one JSON text, and `place` then 0; else it is 0 and `place` that of the fault.
+#[repr(C)]
+pub struct EifJson {
+    pub is_text: u8,
+    pub reserved: [u8; 7],
+    pub place: u64,
+}
+
+fn flat_json(verdict: JsonVerdict) -> EifJson
+    ensures { λ r. ⌜ r ≡ flatJson verdict ⌝ }
+{
+    match verdict {
+        JsonVerdict::Text => EifJson {
+            is_text: 1,
+            reserved: [0u8; 7],
+            place: 0,
+        },
+        JsonVerdict::Fault(place) => EifJson {
+            is_text: 0,
+            reserved: [0u8; 7],
+            place: place as u64,
+        },
+    }
+}
+
+#[no_mangle]
+pub extern "C" fn eif_read_strict(image: &[u8]) -> crate::EifReading
+    ensures { λ r. ⌜ r ≡ flatReading (readStrict (now (image .entry))) ⌝ }
+{
+    crate::flat_reading(eif_strict::read_strict(image))
+}
+
+#[no_mangle]
+pub extern "C" fn eif_json_check(text: &[u8]) -> EifJson
+    ensures { λ r. ⌜ r ≡ flatJson (jsonVerdict (now (text .entry))) ⌝ }
+{
+    flat_json(json_check::check(text))
+}

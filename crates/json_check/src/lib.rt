@@ -1,0 +1,159 @@
+// The checker of JSON: whether bytes are one RFC 8259 text in UTF-8 with at most 32 arrays or objects open at once, or where they stop
+// being one. What it answers is said of the grammar, in the crate json.
+//
+// One table lookup a byte, and a second where a number has ended. What is open is a stack of bits in one number, so there is no
+// recursion, and the time is linear.
+mod tables;
+
+ghost use mathlib.Core.Path.{_≡_};
+ghost use Prim.Native.Nat.{_<_, _≤_};
+ghost use Rattle.json.specs.Verdict.{IsVerdict};
+ghost use Rattle.json_machine.specs.Table.{classes, rows, joined};
+ghost use Rattle.json_machine.specs.Machine.{afterOf, actOf, kindOf, turnMode, turnStack, endsOf, jsonVerdict};
+use json::JsonVerdict;
+
+// With a stack below this, one more array or object may be opened: a bit for each of those open, and one in front.
+const STACK_LIMIT: u64 = 1 << json::DEPTH_LIMIT;
+
+// The stack with nothing open.
+const NOTHING_OPEN: u64 = 1;
+
+// Where the machine stands: a mode (tables.rt), and what is open.
+struct State {
+    mode: u8,
+    stack: u64,
+}
+
+// The mode that is none: no text goes on like this.
+const FAULT: u8 = 51;
+
+fn wide(x: u8) -> usize
+    ensures { λ r. ⌜ r ≡ x ⌝ }
+{
+    x as usize
+}
+
+// The mode after a value: with nothing open, in an array, in an object.
+fn after(stack: u64) -> u8
+    ensures { λ r. ⌜ (r ≡ afterOf stack) × (r < 51) ⌝ }
+{
+    if stack == NOTHING_OPEN {
+        return 5;
+    }
+    if stack % 2 == 0 {
+        return 6;
+    }
+    7
+}
+
+// What the tables say at a byte: where a number ended before it, what they say after a value.
+fn act<'a>(class: &'a [u8; 256], next: &'a [u8; 2040], mode: u8, stack: u64, b: u8) -> u8
+    requires { ⌜ (now class ≡ classes) × (now next ≡ joined rows) × (mode < 51) ⌝ }
+    ensures { λ r. ⌜ r ≡ actOf mode stack b ⌝ }
+{
+    let c = wide(class[wide(b)]);
+    let first = next[wide(mode) * 40 + c];
+    if first == 53 {
+        let m = wide(after(stack));
+        return next[m * 40 + c];
+    }
+    first
+}
+
+// Where an entry of the tables leads: to a mode below 51; 52 ends a value, 54 and 55 open an array or an object, 56 closes the innermost,
+// and any other is a fault.
+fn turn(act: u8, stack: u64) -> State
+    ensures { λ r. ⌜ (r .mode ≡ turnMode (kindOf act) act stack) × (r .stack ≡ turnStack (kindOf act) stack) × (r .mode ≤ 51) ⌝ }
+{
+    if act < FAULT {
+        return State { mode: act, stack };
+    }
+    if act == 52 {
+        return State {
+            mode: after(stack),
+            stack,
+        };
+    }
+    if act == 54 {
+        if stack < STACK_LIMIT {
+            return State {
+                mode: 1,
+                stack: stack * 2,
+            };
+        }
+        return State { mode: FAULT, stack };
+    }
+    if act == 55 {
+        if stack < STACK_LIMIT {
+            return State {
+                mode: 2,
+                stack: stack * 2 + 1,
+            };
+        }
+        return State { mode: FAULT, stack };
+    }
+    if act == 56 {
+        let outer = stack / 2;
+        return State {
+            mode: after(outer),
+            stack: outer,
+        };
+    }
+    State { mode: FAULT, stack }
+}
+
+// Whether a text may end here: nothing is open, and a value has ended, or is a number that may end.
+fn ends(mode: u8, stack: u64) -> bool
+    ensures { λ r. ⌜ r ≡ endsOf mode stack ⌝ }
+{
+    if stack == NOTHING_OPEN {
+        if mode == 5 {
+            return true;
+        }
+        if mode == 9 {
+            return true;
+        }
+        if mode == 10 {
+            return true;
+        }
+        if mode == 12 {
+            return true;
+        }
+        return mode == 15;
+    }
+    false
+}
+
+// The walk over the bytes.
+fn walk<'a>(class: &'a [u8; 256], next: &'a [u8; 2040], text: &'a [u8]) -> JsonVerdict
+    requires { ⌜ (now class ≡ classes) × (now next ≡ joined rows) ⌝ }
+    ensures { λ r. ⌜ r ≡ jsonVerdict (now (text .entry)) ⌝ }
+{
+    let mut mode: u8 = 0;
+    let mut stack: u64 = NOTHING_OPEN;
+    let mut i = 0;
+    while i < text.len() {
+        let state = turn(act(class, next, mode, stack, text[i]), stack);
+        if state.mode == FAULT {
+            return JsonVerdict::Fault(i);
+        }
+        mode = state.mode;
+        stack = state.stack;
+        i += 1;
+    }
+    if ends(mode, stack) {
+        return JsonVerdict::Text;
+    }
+    JsonVerdict::Fault(i)
+}
+
+// Whether bytes are one JSON text within the depth limit, or the place of the first fault: what the grammar says is the right verdict.
+// The tables are locals, as a constant would be built anew at each use.
+pub fn check(text: &[u8]) -> JsonVerdict
+    ensures { λ r. ⌜ r ≡ jsonVerdict (now (text .entry)) ⌝ }
+    ensures { λ r. ⌜ IsVerdict (now (text .entry)) r ⌝ }
+{
+    let class = tables::CLASSES;
+    let next = tables::ROWS;
+    walk(&class, &next, text)
+}

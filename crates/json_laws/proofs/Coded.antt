@@ -1,0 +1,310 @@
+-- The machine in numbers does what the machine of modes and lists does.
+-- Assumes nothing.
+use Prim.Native.Nat.{ℕ, zero, suc, _+_, _*_, _/_, _%_, _^_, _<_, _≤_}
+use mathlib.Core.Path.{_≡_, refl, ap, ap₂, sym, _∙_, subst}
+use mathlib.Core.Bool.{Bool, true, false}
+use mathlib.Core.List.{List, [], _∷_, _++_, tail}
+use mathlib.Core.Logic.{⊎-elim}
+use native.Mathlib.Omega.{arith}
+use native.Mathlib.Nat.{not-suc-le-zero, le-of-suc-le-suc, eq-or-lt-of-le, add-zero, zero-add, suc-add, add-suc}
+use lib.Dec.{eqb, ltb}
+use lib.ListN.{length, getD, List·getD-append}
+use lib.Seq.{getD-append-add}
+use borrow.Author.Tests.{lt-ltb, le-ltb, eq-eqb, ne-eqb, ltb-true, eqb-true}
+use Rattle.json.specs.Verdict.{depthLimit}
+use Rattle.json_machine.specs.Table.{classes, rows, joined}
+use Rattle.json_machine.specs.Machine.{choose, stackLimit, afterOf, entryOf, Kind, goes, stops, closes, faults, opens, kindOf, bit}
+use Rattle.json_machine.proofs.Derive.{end, and, and-true}
+use Rattle.json_machine.proofs.Modes.{Token, Str, Mode, m-value, m-after, m-firstItem, m-firstMember, m-key, m-colon, m-token, m-string, m-name, tokenNumber, stringNumber, nameNumber}
+use Rattle.json_machine.proofs.Modes as T
+use Rattle.json_machine.proofs.Classes.{class-below}
+use Rattle.json_machine.proofs.Step.{row, Next, refused, at, step, still, number, frames, afterNumber}
+
+-- ---- a stack of bits
+
+unfoldable pub stackOf : List Bool → ℕ
+stackOf [] = 1
+stackOf (f ∷ fs) = stackOf fs * 2 + bit f
+
+bit-small : (f : Bool) → bit f < 2
+bit-small false = omega arith
+bit-small true = omega arith
+
+pub stack-pos : (fs : List Bool) → 0 < stackOf fs
+unfolding stackOf
+stack-pos [] = omega arith
+stack-pos (f ∷ fs) = omega (arith, stack-pos fs)
+
+pub stack-after : (fs : List Bool) → afterOf (stackOf fs) ≡ afterNumber fs
+unfolding stackOf afterOf
+stack-after [] = refl
+stack-after (false ∷ fs) =
+    let p = stack-pos fs in
+    let n : stackOf fs * 2 + 0 ≡ 1 → ⊥ = λ e. omega arith in
+    let z : (stackOf fs * 2 + 0) % 2 ≡ 0 = omega arith in
+    simp (ne-eqb _ _ n, eq-eqb _ _ z)
+stack-after (true ∷ fs) =
+    let p = stack-pos fs in
+    let n : stackOf fs * 2 + 1 ≡ 1 → ⊥ = λ e. omega arith in
+    let z : (stackOf fs * 2 + 1) % 2 ≡ 0 → ⊥ = λ e. omega arith in
+    simp (ne-eqb _ _ n, ne-eqb _ _ z)
+
+pub stack-up : (f : Bool) (fs : List Bool) → stackOf (f ∷ fs) / 2 ≡ stackOf fs
+unfolding stackOf
+stack-up f fs = omega (arith, bit-small f)
+
+-- so many open: from 2 ^ n up to its double
+power : ℕ → ℕ
+power zero = 1
+power (suc n) = power n * 2
+
+stack-size : (fs : List Bool) → (power (length fs) ≤ stackOf fs) × (stackOf fs < power (length fs) * 2)
+unfolding stackOf power
+stack-size [] = omega arith
+stack-size (f ∷ fs) = let h = stack-size fs in let b = bit-small f in omega arith
+
+power-le : (d n : ℕ) → power n ≤ power (d + n)
+unfolding power
+power-le zero n = rw zero-add (omega arith)
+power-le (suc d) n = rw suc-add (omega (arith, power-le d n))
+
+power-limit : power depthLimit ≡ stackLimit
+unfolding power
+power-limit = refl
+
+pub stack-full : (fs : List Bool) → zero + length fs ≡ depthLimit → stackLimit ≤ stackOf fs
+stack-full fs e =
+    let l : length fs ≡ depthLimit = omega arith in
+    let q : power (length fs) ≡ stackLimit = ap power l ∙ power-limit in
+    let h = stack-size fs in
+    omega arith
+
+pub stack-room : (d : ℕ) (fs : List Bool) → suc d + length fs ≡ depthLimit → stackOf fs < stackLimit
+stack-room d fs e =
+    let q : power (d + suc (length fs)) ≡ stackLimit = ap power (rw (add-suc, ← suc-add) e) ∙ power-limit in
+    let p = power-le d (suc (length fs)) in
+    let h = stack-size fs in
+    let s : power (suc (length fs)) ≡ power (length fs) * 2 = unfold power in refl in
+    omega arith
+
+-- ---- the table, row by row
+
+abbrev sized : List (List ℕ) → Bool
+sized [] = true
+sized (r ∷ rs) = and (eqb (length r) 40) (sized rs)
+
+in-row : (rs : List (List ℕ)) (n c : ℕ) → sized rs ≡ true → n < length rs → c < 40 → getD (joined rs) (n * 40 + c) 0 ≡ getD (getD rs n []) c 0
+in-row [] n c e h l = absurd (not-suc-le-zero h)
+in-row (r ∷ rs) zero c e h l =
+    let p : length r ≡ 40 = eqb-true _ _ (and-true (eqb (length r) 40) (sized rs) e .0) in
+    let q : c < length r = omega arith in
+    let z : zero * 40 + c ≡ c = omega arith in
+    rw z (List·getD-append r (joined rs) 0 c q)
+in-row (r ∷ rs) (suc n) c e h l =
+    let p : length r ≡ 40 = eqb-true _ _ (and-true (eqb (length r) 40) (sized rs) e .0) in
+    let z : suc n * 40 + c ≡ length r + (n * 40 + c) = omega arith in
+    rw z (getD-append-add r (joined rs) (n * 40 + c) 0 ∙ in-row rs n c (and-true (eqb (length r) 40) (sized rs) e .1) (le-of-suc-le-suc h) l)
+
+unfoldable pub cell : ℕ → ℕ → ℕ
+cell n b = getD (getD rows n []) (getD classes b 0) 0
+
+rows-sized : sized rows ≡ true
+unfolding rows
+rows-sized = refl
+
+rows-length : length rows ≡ 51
+unfolding rows
+rows-length = refl
+
+pub entry-cell : (n b : ℕ) → n < 51 → entryOf n b ≡ cell n b
+unfolding entryOf cell
+entry-cell n b h = in-row rows n (getD classes b 0) rows-sized (subst (λ (k : ℕ). n < k) (sym rows-length) h) (class-below b)
+
+pub after-below : (fs : List Bool) → afterNumber fs < 51
+after-below [] = omega arith
+after-below (false ∷ fs) = omega arith
+after-below (true ∷ fs) = omega arith
+
+token-below : (t : Token) → ltb (tokenNumber t) 51 ≡ true
+token-below T.t-minus = refl
+token-below T.t-zero = refl
+token-below T.t-whole = refl
+token-below T.t-point = refl
+token-below T.t-frac = refl
+token-below T.t-exp = refl
+token-below T.t-sign = refl
+token-below T.t-power = refl
+token-below T.t-alse = refl
+token-below T.t-lse = refl
+token-below T.t-se = refl
+token-below T.t-e = refl
+token-below T.t-ull = refl
+token-below T.t-ll = refl
+token-below T.t-l = refl
+token-below T.t-rue = refl
+token-below T.t-ue = refl
+
+string-below : (s : Str) → ltb (stringNumber s) 51 ≡ true
+string-below T.s-char = refl
+string-below T.s-escape = refl
+string-below T.s-hex4 = refl
+string-below T.s-hex3 = refl
+string-below T.s-hex2 = refl
+string-below T.s-hex1 = refl
+string-below T.s-tail1 = refl
+string-below T.s-tail2 = refl
+string-below T.s-tail3 = refl
+string-below T.s-afterE0 = refl
+string-below T.s-afterED = refl
+string-below T.s-afterF0 = refl
+string-below T.s-afterF4 = refl
+
+name-below : (s : Str) → ltb (nameNumber s) 51 ≡ true
+name-below T.s-char = refl
+name-below T.s-escape = refl
+name-below T.s-hex4 = refl
+name-below T.s-hex3 = refl
+name-below T.s-hex2 = refl
+name-below T.s-hex1 = refl
+name-below T.s-tail1 = refl
+name-below T.s-tail2 = refl
+name-below T.s-tail3 = refl
+name-below T.s-afterE0 = refl
+name-below T.s-afterED = refl
+name-below T.s-afterF0 = refl
+name-below T.s-afterF4 = refl
+
+pub number-below : (m : Mode) (fs : List Bool) → number m fs < 51
+number-below m-value fs = omega arith
+number-below m-after fs = after-below fs
+number-below m-firstItem fs = omega arith
+number-below m-firstMember fs = omega arith
+number-below m-key fs = omega arith
+number-below m-colon fs = omega arith
+number-below (m-token t) fs = ltb-true _ _ (token-below t)
+number-below (m-string s) fs = ltb-true _ _ (string-below s)
+number-below (m-name s) fs = ltb-true _ _ (name-below s)
+
+-- ---- a turn, with the open ones as a list
+
+pub data Spot : Type 0 where
+  stopped impossible : Spot
+  spot : ℕ → ℕ → List Bool → Spot
+
+abbrev pub spotOf : Next → Spot
+spotOf refused = stopped
+spotOf (at m d fs) = spot (number m fs) d (frames m fs)
+
+first : Bool → ℕ
+first false = 1
+first true = 2
+
+abbrev pub turn : Kind → ℕ → ℕ → List Bool → Spot
+turn goes a d fs = spot a d fs
+turn stops a d fs = spot (afterNumber fs) d fs
+turn closes a d [] = impossible
+turn closes a d (f ∷ fs) = spot (afterNumber fs) (suc d) fs
+turn faults a d fs = stopped
+turn (opens f) a zero fs = stopped
+turn (opens f) a (suc d) fs = spot (1 + bit f) d (f ∷ fs)
+
+abbrev pub does : ℕ → List Bool → ℕ → ℕ
+does n fs b = choose (eqb (cell n b) 53) (cell (afterNumber fs) b) (cell n b)
+
+abbrev pub all : ℕ → (ℕ → Spot) → List Spot
+all zero f = []
+all (suc n) f = f n ∷ all n f
+
+abbrev pub headOf : List Spot → Spot
+headOf [] = impossible
+headOf (x ∷ l) = x
+
+pub each : (f g : ℕ → Spot) (n : ℕ) → all n f ≡ all n g → (b : ℕ) → b < n → f b ≡ g b
+each f g zero e b h = absurd (not-suc-le-zero h)
+each f g (suc n) e b h =
+    ⊎-elim
+    (λ (q : b ≡ n). subst (λ (m : ℕ). f m ≡ g m) (sym q) (ap headOf e))
+    (λ (q : b < n). each f g n (ap tail e) b q)
+    (eq-or-lt-of-le (le-of-suc-le-suc h))
+
+abbrev pub turnAt : Mode → ℕ → List Bool → ℕ → Spot
+turnAt m d fs b = turn (kindOf (does (number m fs) (frames m fs) b)) (does (number m fs) (frames m fs) b) d (frames m fs)
+
+abbrev pub Same : Mode → ℕ → List Bool → Type 0
+Same m d fs = all 256 (λ b. spotOf (step m d fs b)) ≡ all 256 (λ b. turnAt m d fs b)
+
+same-token : (t : Token) (d : ℕ) (fs : List Bool) → Same (m-token t) d fs
+unfolding row cell kindOf
+same-token T.t-minus d fs = refl
+same-token T.t-zero d [] = refl
+same-token T.t-zero d (false ∷ fs) = refl
+same-token T.t-zero d (true ∷ fs) = refl
+same-token T.t-whole d [] = refl
+same-token T.t-whole d (false ∷ fs) = refl
+same-token T.t-whole d (true ∷ fs) = refl
+same-token T.t-point d fs = refl
+same-token T.t-frac d [] = refl
+same-token T.t-frac d (false ∷ fs) = refl
+same-token T.t-frac d (true ∷ fs) = refl
+same-token T.t-exp d fs = refl
+same-token T.t-sign d fs = refl
+same-token T.t-power d [] = refl
+same-token T.t-power d (false ∷ fs) = refl
+same-token T.t-power d (true ∷ fs) = refl
+same-token T.t-alse d fs = refl
+same-token T.t-lse d fs = refl
+same-token T.t-se d fs = refl
+same-token T.t-e d fs = refl
+same-token T.t-ull d fs = refl
+same-token T.t-ll d fs = refl
+same-token T.t-l d fs = refl
+same-token T.t-rue d fs = refl
+same-token T.t-ue d fs = refl
+
+same-string : (s : Str) (d : ℕ) (fs : List Bool) → Same (m-string s) d fs
+unfolding row cell kindOf
+same-string T.s-char d fs = refl
+same-string T.s-escape d fs = refl
+same-string T.s-hex4 d fs = refl
+same-string T.s-hex3 d fs = refl
+same-string T.s-hex2 d fs = refl
+same-string T.s-hex1 d fs = refl
+same-string T.s-tail1 d fs = refl
+same-string T.s-tail2 d fs = refl
+same-string T.s-tail3 d fs = refl
+same-string T.s-afterE0 d fs = refl
+same-string T.s-afterED d fs = refl
+same-string T.s-afterF0 d fs = refl
+same-string T.s-afterF4 d fs = refl
+
+same-name : (s : Str) (d : ℕ) (fs : List Bool) → Same (m-name s) d fs
+unfolding row cell kindOf
+same-name T.s-char d fs = refl
+same-name T.s-escape d fs = refl
+same-name T.s-hex4 d fs = refl
+same-name T.s-hex3 d fs = refl
+same-name T.s-hex2 d fs = refl
+same-name T.s-hex1 d fs = refl
+same-name T.s-tail1 d fs = refl
+same-name T.s-tail2 d fs = refl
+same-name T.s-tail3 d fs = refl
+same-name T.s-afterE0 d fs = refl
+same-name T.s-afterED d fs = refl
+same-name T.s-afterF0 d fs = refl
+same-name T.s-afterF4 d fs = refl
+
+pub same : (m : Mode) (d : ℕ) (fs : List Bool) → Same m d fs
+unfolding row cell kindOf
+same m-value zero fs = refl
+same m-value (suc d) fs = refl
+same m-after d [] = refl
+same m-after d (false ∷ fs) = refl
+same m-after d (true ∷ fs) = refl
+same m-firstItem zero fs = refl
+same m-firstItem (suc d) fs = refl
+same m-firstMember d fs = refl
+same m-key d fs = refl
+same m-colon d fs = refl
+same (m-token t) d fs = same-token t d fs
+same (m-string s) d fs = same-string s d fs
+same (m-name s) d fs = same-name s d fs

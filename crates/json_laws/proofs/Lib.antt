@@ -1,0 +1,4 @@
+pub mod Coded
+pub mod Onward
+pub mod Walk
+pub mod Laws

@@ -1,0 +1,169 @@
+-- A turn of the machine in numbers.
+-- Assumes nothing.
+use Prim.Native.Nat.{ℕ, zero, suc, _+_, _*_, _/_, _%_, _<_, _≤_}
+use mathlib.Core.Path.{_≡_, refl, ap, ap₂, sym, _∙_, subst}
+use mathlib.Core.Bool.{Bool, true, false}
+use mathlib.Core.List.{List, [], _∷_}
+use mathlib.Core.Logic.{⊎-elim}
+use native.Mathlib.Omega.{arith}
+use lib.Dec.{eqb, ltb}
+use lib.ListN.{length, getD}
+use borrow.Author.Tests.{lt-ltb, le-ltb, eq-eqb, ne-eqb}
+use Rattle.json.specs.Verdict.{depthLimit}
+use Rattle.json_machine.specs.Machine.{stackLimit, both, afterOf, entryOf, actOf, Kind, goes, stops, closes, faults, opens, kindOf, bit, turnMode, turnStack, endsOf}
+use Rattle.octets.proofs.Over.{le-or-lt}
+use Rattle.json_machine.proofs.Derive.{end}
+use Rattle.json_machine.proofs.Modes.{Token, Str, Mode, m-value, m-after, m-firstItem, m-firstMember, m-key, m-colon, m-token, m-string, m-name}
+use Rattle.json_machine.proofs.Modes as T
+use Rattle.json_machine.proofs.Step.{Next, refused, at, step, still, number, frames, afterNumber}
+use Rattle.json_machine.proofs.Within.{class-past, step-past}
+use Rattle.json_laws.proofs.Coded.{stackOf, stack-pos, stack-after, stack-up, stack-full, stack-room, cell, entry-cell, after-below, number-below, Spot, stopped, impossible, spot, spotOf, turn, does, turnAt, each, same}
+
+abbrev pub CodedSpot : Spot → ℕ → ℕ → Type 0
+CodedSpot stopped mo st = mo ≡ 51
+CodedSpot impossible mo st = ⊥
+CodedSpot (spot n d fs) mo st = (mo ≡ n) × (st ≡ stackOf fs) × (d + length fs ≡ depthLimit)
+
+-- the mode and the stack of a state; the mode 51 where there is none
+abbrev pub Coded : Next → ℕ → ℕ → Type 0
+Coded n mo st = CodedSpot (spotOf n) mo st
+
+never-impossible : (n : Next) → spotOf n ≡ impossible → ⊥
+never-impossible refused e = let z : _≡_ {A = ℕ} 0 1 = cc in omega arith
+never-impossible (at m d fs) e = let z : _≡_ {A = ℕ} 0 1 = cc in omega arith
+
+module _ (n : Next) (a : ℕ) where
+  abbrev Turned : Kind → ℕ → List Bool → Type 0
+  Turned k d fs = CodedSpot (turn k a d fs) (turnMode k a (stackOf fs)) (turnStack k (stackOf fs))
+
+  turned : (k : Kind) (d : ℕ) (fs : List Bool) → d + length fs ≡ depthLimit → spotOf n ≡ turn k a d fs → Turned k d fs
+  turned goes d fs h e = (refl, refl, h)
+  turned stops d fs h e = (stack-after fs, refl, h)
+  turned closes d [] h e = absurd (never-impossible n e)
+  turned closes d (f ∷ fs) h e = (ap afterOf (stack-up f fs) ∙ stack-after fs, stack-up f fs, omega arith)
+  turned faults d fs h e = refl
+  turned (opens f) zero fs h e = let l = stack-full fs h in simp (le-ltb _ _ l)
+  turned (opens f) (suc d) fs h e =
+      let l = stack-room d fs h in
+      simp (lt-ltb _ _ l) (refl, unfold stackOf in refl, omega arith)
+
+act-does : (m : Mode) (fs : List Bool) (b : ℕ) → actOf (number m fs) (stackOf (frames m fs)) b ≡ does (number m fs) (frames m fs) b
+unfolding actOf
+act-does m fs b =
+    rw (stack-after (frames m fs), entry-cell (number m fs) b (number-below m fs), entry-cell (afterNumber (frames m fs)) b (after-below (frames m fs)))
+
+abbrev pub Onward : Next → ℕ → ℕ → Type 0
+Onward n a st = Coded n (turnMode (kindOf a) a st) (turnStack (kindOf a) st)
+
+onward-below : (m : Mode) (d : ℕ) (fs : List Bool) (b : ℕ) → b < 256 → (mo st : ℕ) → Coded (at m d fs) mo st → Onward (step m d fs b) (actOf mo st b) st
+onward-below m d fs b l mo st (p, q, h) =
+    let e = each (λ b. spotOf (step m d fs b)) (λ b. turnAt m d fs b) 256 (same m d fs) b l in
+    let a = does (number m fs) (frames m fs) b in
+    let t = turned (step m d fs b) a (kindOf a) d (frames m fs) h e in
+    let S = stackOf (frames m fs) in
+    let u = subst (λ (x : Spot). CodedSpot x (turnMode (kindOf a) a S) (turnStack (kindOf a) S)) (sym e) t in
+    let i : actOf mo st b ≡ a = ap₂ (λ (x y : ℕ). actOf x y b) p q ∙ act-does m fs b in
+    let v = subst (λ (x : ℕ). Onward (step m d fs b) x S) (sym i) u in
+    subst (λ (x : ℕ). Onward (step m d fs b) (actOf mo st b) x) (sym q) v
+
+act-past : (mo st b : ℕ) → 256 ≤ b → actOf mo st b ≡ actOf mo st 0
+unfolding actOf entryOf
+act-past mo st b h = rw (class-past b h) refl
+
+pub onward : (m : Mode) (d : ℕ) (fs : List Bool) (b mo st : ℕ) → Coded (at m d fs) mo st → Onward (step m d fs b) (actOf mo st b) st
+onward m d fs b mo st c = ⊎-elim past (λ (l : b < 256). onward-below m d fs b l mo st c) (le-or-lt 256 b)
+  where
+    past : 256 ≤ b → Onward (step m d fs b) (actOf mo st b) st
+    past h =
+        let z = onward-below m d fs 0 (omega arith) mo st c in
+        let y = subst (λ (x : ℕ). Onward (step m d fs 0) x st) (sym (act-past mo st b h)) z in
+        subst (λ (n : Next). Onward n (actOf mo st b) st) (sym (step-past m d fs b h)) y
+
+-- ---- the end
+
+not-final : (x : Bool) → both x false ≡ false
+not-final true = refl
+not-final false = refl
+
+ends-open : (n : ℕ) (f : Bool) (fs : List Bool) → endsOf n (stackOf (f ∷ fs)) ≡ false
+unfolding endsOf stackOf
+ends-open n f fs =
+    let p = stack-pos fs in
+    let z : stackOf fs * 2 + bit f ≡ 1 → ⊥ = λ e. omega arith in
+    rw (ne-eqb _ _ z) refl
+
+ends-token : (t : Token) (d : ℕ) (fs : List Bool) → endsOf (number (m-token t) fs) (stackOf fs) ≡ end (still (m-token t) d fs)
+unfolding endsOf stackOf
+ends-token T.t-minus d fs = not-final (eqb (stackOf fs) 1)
+ends-token T.t-zero d [] = refl
+ends-token T.t-zero d (false ∷ fs) = ends-open 9 false fs
+ends-token T.t-zero d (true ∷ fs) = ends-open 9 true fs
+ends-token T.t-whole d [] = refl
+ends-token T.t-whole d (false ∷ fs) = ends-open 10 false fs
+ends-token T.t-whole d (true ∷ fs) = ends-open 10 true fs
+ends-token T.t-point d fs = not-final (eqb (stackOf fs) 1)
+ends-token T.t-frac d [] = refl
+ends-token T.t-frac d (false ∷ fs) = ends-open 12 false fs
+ends-token T.t-frac d (true ∷ fs) = ends-open 12 true fs
+ends-token T.t-exp d fs = not-final (eqb (stackOf fs) 1)
+ends-token T.t-sign d fs = not-final (eqb (stackOf fs) 1)
+ends-token T.t-power d [] = refl
+ends-token T.t-power d (false ∷ fs) = ends-open 15 false fs
+ends-token T.t-power d (true ∷ fs) = ends-open 15 true fs
+ends-token T.t-alse d fs = not-final (eqb (stackOf fs) 1)
+ends-token T.t-lse d fs = not-final (eqb (stackOf fs) 1)
+ends-token T.t-se d fs = not-final (eqb (stackOf fs) 1)
+ends-token T.t-e d fs = not-final (eqb (stackOf fs) 1)
+ends-token T.t-ull d fs = not-final (eqb (stackOf fs) 1)
+ends-token T.t-ll d fs = not-final (eqb (stackOf fs) 1)
+ends-token T.t-l d fs = not-final (eqb (stackOf fs) 1)
+ends-token T.t-rue d fs = not-final (eqb (stackOf fs) 1)
+ends-token T.t-ue d fs = not-final (eqb (stackOf fs) 1)
+
+ends-string : (s : Str) (d : ℕ) (fs : List Bool) → endsOf (number (m-string s) fs) (stackOf fs) ≡ end (still (m-string s) d fs)
+unfolding endsOf
+ends-string T.s-char d fs = not-final (eqb (stackOf fs) 1)
+ends-string T.s-escape d fs = not-final (eqb (stackOf fs) 1)
+ends-string T.s-hex4 d fs = not-final (eqb (stackOf fs) 1)
+ends-string T.s-hex3 d fs = not-final (eqb (stackOf fs) 1)
+ends-string T.s-hex2 d fs = not-final (eqb (stackOf fs) 1)
+ends-string T.s-hex1 d fs = not-final (eqb (stackOf fs) 1)
+ends-string T.s-tail1 d fs = not-final (eqb (stackOf fs) 1)
+ends-string T.s-tail2 d fs = not-final (eqb (stackOf fs) 1)
+ends-string T.s-tail3 d fs = not-final (eqb (stackOf fs) 1)
+ends-string T.s-afterE0 d fs = not-final (eqb (stackOf fs) 1)
+ends-string T.s-afterED d fs = not-final (eqb (stackOf fs) 1)
+ends-string T.s-afterF0 d fs = not-final (eqb (stackOf fs) 1)
+ends-string T.s-afterF4 d fs = not-final (eqb (stackOf fs) 1)
+
+ends-name : (s : Str) (d : ℕ) (fs : List Bool) → endsOf (number (m-name s) fs) (stackOf (true ∷ fs)) ≡ end (still (m-name s) d fs)
+unfolding endsOf
+ends-name T.s-char d fs = not-final (eqb (stackOf (true ∷ fs)) 1)
+ends-name T.s-escape d fs = not-final (eqb (stackOf (true ∷ fs)) 1)
+ends-name T.s-hex4 d fs = not-final (eqb (stackOf (true ∷ fs)) 1)
+ends-name T.s-hex3 d fs = not-final (eqb (stackOf (true ∷ fs)) 1)
+ends-name T.s-hex2 d fs = not-final (eqb (stackOf (true ∷ fs)) 1)
+ends-name T.s-hex1 d fs = not-final (eqb (stackOf (true ∷ fs)) 1)
+ends-name T.s-tail1 d fs = not-final (eqb (stackOf (true ∷ fs)) 1)
+ends-name T.s-tail2 d fs = not-final (eqb (stackOf (true ∷ fs)) 1)
+ends-name T.s-tail3 d fs = not-final (eqb (stackOf (true ∷ fs)) 1)
+ends-name T.s-afterE0 d fs = not-final (eqb (stackOf (true ∷ fs)) 1)
+ends-name T.s-afterED d fs = not-final (eqb (stackOf (true ∷ fs)) 1)
+ends-name T.s-afterF0 d fs = not-final (eqb (stackOf (true ∷ fs)) 1)
+ends-name T.s-afterF4 d fs = not-final (eqb (stackOf (true ∷ fs)) 1)
+
+pub coded-end : (m : Mode) (d : ℕ) (fs : List Bool) → endsOf (number m fs) (stackOf (frames m fs)) ≡ end (still m d fs)
+unfolding endsOf stackOf
+coded-end m-value zero fs = not-final (eqb (stackOf fs) 1)
+coded-end m-value (suc d) fs = not-final (eqb (stackOf fs) 1)
+coded-end m-after d [] = refl
+coded-end m-after d (false ∷ fs) = ends-open 6 false fs
+coded-end m-after d (true ∷ fs) = ends-open 7 true fs
+coded-end m-firstItem zero fs = ends-open 1 false fs
+coded-end m-firstItem (suc d) fs = ends-open 1 false fs
+coded-end m-firstMember d fs = ends-open 2 true fs
+coded-end m-key d fs = ends-open 3 true fs
+coded-end m-colon d fs = ends-open 4 true fs
+coded-end (m-token t) d fs = ends-token t d fs
+coded-end (m-string s) d fs = ends-string s d fs
+coded-end (m-name s) d fs = ends-name s d fs

@@ -1,0 +1,123 @@
+-- The walk over the bytes gives the right verdict, from wherever the machine stands.
+-- Assumes nothing.
+use Prim.Native.Nat.{ℕ, zero, suc, _+_, _<_, _≤_}
+use mathlib.Core.Path.{_≡_, refl, ap, ap₂, sym, _∙_, subst}
+use mathlib.Core.Bool.{Bool, true, false, false≢true}
+use mathlib.Core.List.{List, [], _∷_, _++_, append-nil, append-assoc}
+use native.Mathlib.Omega.{arith}
+use borrow.Author.Tests.{eqb-true, eqb-false}
+use lib.Dec.{eqb}
+use lib.ListN.{length, take, drop, take-append-drop, length-append}
+use lib.Seq.{take-at}
+use Rattle.json.specs.Verdict.{IsText, CanBegin, FirstFault, IsVerdict}
+use Rattle.json.specs.declared.JsonVerdict.{JsonVerdict}
+use Rattle.json.specs.declared.JsonVerdict.the-variants.{Text, Fault}
+use Rattle.json_machine.specs.Machine.{choose, actOf, kindOf, turnMode, turnStack, endsOf, walkFrom}
+use Rattle.json_machine.proofs.Step.{Next, refused, at, step}
+use Rattle.json_machine.proofs.Law.{run, start, accepts, accepted, accepting, can-begin, cannot-begin}
+use Rattle.json_laws.proofs.Coded.{number-below}
+use Rattle.json_laws.proofs.Onward.{Coded, Onward, onward, coded-end}
+
+-- ---- lists
+
+run-append : (p : List ℕ) (n : Next) (t : List ℕ) → run n (p ++ t) ≡ run (run n p) t
+run-append [] n t = refl
+run-append (b ∷ p) refused [] = refl
+run-append (b ∷ p) refused (c ∷ t) = refl
+run-append (b ∷ p) (at m d fs) t = run-append p (step m d fs b) t
+
+-- a text begins with each of its beginnings
+pub text-begins : (n : ℕ) (s : List ℕ) → IsText s → CanBegin (take n s)
+unfolding CanBegin
+text-begins n s t = (drop n s, subst (λ (l : List ℕ). IsText l) (sym (take-append-drop n s)) t)
+
+-- ---- what the numbers say of where the machine stands
+
+coded-below : (n : Next) (mo st : ℕ) → Coded n mo st → (mo ≡ 51 → ⊥) → mo < 51
+coded-below refused mo st c h = absurd (h c)
+coded-below (at m d fs) mo st c h = let l = number-below m fs in let e = c .0 in omega arith
+
+coded-refused : (n : Next) (mo st : ℕ) → Coded n mo st → mo ≡ 51 → n ≡ refused
+coded-refused refused mo st c h = refl
+coded-refused (at m d fs) mo st c h = let l = number-below m fs in let e = c .0 in absurd (omega arith)
+
+coded-turn : (n : Next) (mo st b : ℕ) → mo < 51 → Coded n mo st → Onward (run n (b ∷ [])) (actOf mo st b) st
+coded-turn refused mo st b h c = absurd (omega arith)
+coded-turn (at m d fs) mo st b h c = onward m d fs b mo st c
+
+coded-begins : (p : List ℕ) (n : Next) → run start p ≡ n → (mo st : ℕ) → mo < 51 → Coded n mo st → CanBegin p
+coded-begins p refused e mo st l c = absurd (omega arith)
+coded-begins p (at m d fs) e mo st l c = can-begin p m d fs e
+
+coded-ends : (n : Next) (mo st : ℕ) → mo < 51 → Coded n mo st → endsOf mo st ≡ accepts n
+coded-ends refused mo st l c = absurd (omega arith)
+coded-ends (at m d fs) mo st l c = ap₂ endsOf (c .0) (c .1) ∙ coded-end m d fs
+
+-- ---- the walk, after the bytes p
+
+module _ (p : List ℕ) (mo st : ℕ) (small : mo < 51) (coded : Coded (run start p) mo st) where
+  begins : CanBegin p
+  begins = coded-begins p (run start p) refl mo st small coded
+
+  -- no byte is left
+  right-end : (e : Bool) → endsOf mo st ≡ e → IsVerdict p (choose e Text (Fault (length p)))
+  right-end true e = accepted p (sym (coded-ends (run start p) mo st small coded) ∙ e)
+  right-end false e =
+      record {
+        no-text = λ t. false≢true (sym e ∙ coded-ends (run start p) mo st small coded ∙ accepting p t);
+        within = omega arith;
+        before = subst (λ (l : List ℕ). CanBegin l) (sym whole) begins;
+        there = λ l. absurd (omega arith);
+      }
+    where
+      whole : take (length p) p ≡ p
+      whole = ap (take (length p)) (sym (append-nil p)) ∙ take-at p [] (length p) refl
+
+  -- at the byte b, which t follows
+  module _ (b : ℕ) (t : List ℕ) where
+    abbrev more : List ℕ
+    more = p ++ (b ∷ [])
+
+    joined : more ++ t ≡ p ++ (b ∷ t)
+    joined = append-assoc p (b ∷ []) t
+
+    one-more : length more ≡ suc (length p)
+    one-more = simp length-append (omega arith)
+
+    coded-more : Onward (run start more) (actOf mo st b) st
+    coded-more =
+        subst (λ (n : Next). Onward n (actOf mo st b) st) (sym (run-append p start (b ∷ []))) (coded-turn (run start p) mo st b small coded)
+
+    right-fault : turnMode (kindOf (actOf mo st b)) (actOf mo st b) st ≡ 51 → FirstFault (p ++ (b ∷ t)) (length p)
+    right-fault e =
+        let no : CanBegin more → ⊥ = cannot-begin more (coded-refused (run start more) _ _ coded-more e) in
+        let cut : take (suc (length p)) (p ++ (b ∷ t)) ≡ more =
+        ap (take (suc (length p))) (sym joined) ∙ take-at more t (suc (length p)) one-more in
+        let not-begin : CanBegin (take (suc (length p)) (p ++ (b ∷ t))) → ⊥ = λ v. no (subst (λ (l : List ℕ). CanBegin l) cut v) in
+        record {
+          no-text = λ i. not-begin (text-begins (suc (length p)) (p ++ (b ∷ t)) i);
+          within = simp length-append (omega arith);
+          before = subst (λ (l : List ℕ). CanBegin l) (sym (take-at p (b ∷ t) (length p) refl)) begins;
+          there = λ l. not-begin;
+        }
+
+by-test : (s : List ℕ) (e : Bool) (v w : JsonVerdict) → (e ≡ true → IsVerdict s v) → (e ≡ false → IsVerdict s w) → IsVerdict s (choose e v w)
+by-test s true v w f g = f refl
+by-test s false v w f g = g refl
+
+pub right-from : (t p : List ℕ) (mo st : ℕ) → mo < 51 → Coded (run start p) mo st → IsVerdict (p ++ t) (walkFrom mo st (length p) t)
+unfolding walkFrom
+right-from [] p mo st small coded =
+    subst (λ (l : List ℕ). IsVerdict l (choose (endsOf mo st) Text (Fault (length p)))) (sym (append-nil p))
+    (right-end p mo st small coded (endsOf mo st) refl)
+right-from (b ∷ t) p mo st small coded =
+    let mo′ : ℕ = turnMode (kindOf (actOf mo st b)) (actOf mo st b) st in
+    let st′ : ℕ = turnStack (kindOf (actOf mo st b)) st in
+    let more : List ℕ = p ++ (b ∷ []) in
+    let c : Coded (run start more) mo′ st′ = coded-more p mo st small coded b t in
+    by-test (p ++ (b ∷ t)) (eqb mo′ 51) (Fault (length p)) (walkFrom mo′ st′ (suc (length p)) t)
+    (λ e. right-fault p mo st small coded b t (eqb-true mo′ 51 e))
+    (λ e.
+    let r = right-from t more mo′ st′ (coded-below (run start more) mo′ st′ c (eqb-false mo′ 51 e)) c in
+    subst (λ (l : List ℕ). IsVerdict l (walkFrom mo′ st′ (suc (length p)) t)) (append-assoc p (b ∷ []) t)
+    (subst (λ (k : ℕ). IsVerdict (more ++ t) (walkFrom mo′ st′ k t)) (one-more p mo st small coded b t) r))

@@ -1,0 +1,154 @@
+-- The machine: where it stands, what may still come there, and where a byte takes it.
+-- Assumes nothing.
+use Prim.Native.Nat.{ℕ, zero, suc}
+use mathlib.Core.Bool.{Bool, true, false}
+use mathlib.Core.List.{List, [], _∷_}
+use lib.ListN.{getD}
+use Rattle.json.specs.Abnf.{Rule, range, _or_, many, byte, opt, some}
+use Rattle.json.specs.Utf8.{utf8-tail}
+use Rattle.json.specs.Grammar.{ws, digit, minus, plus, int, frac, exp, hexdig, escaped, char}
+use Rattle.json_machine.specs.Table.{classes, rows}
+use Rattle.json_machine.proofs.Plain.{items, arrayRest, plainMember, members, objectRest, plainValue}
+use Rattle.json_machine.proofs.Modes.{Token, Str, Mode, m-value, m-after, m-firstItem, m-firstMember, m-key, m-colon, m-token, m-string, m-name, Act, acts, tokenNumber, stringNumber, nameNumber}
+use Rattle.json_machine.proofs.Modes as T
+
+-- what may still come of a number or of false, null or true, and then k
+abbrev pub token : Token → List Rule → List Rule
+token T.t-minus k = int ∷ opt frac ∷ opt exp ∷ k
+token T.t-zero k = opt frac ∷ opt exp ∷ k
+token T.t-whole k = many digit ∷ opt frac ∷ opt exp ∷ k
+token T.t-point k = some digit ∷ opt exp ∷ k
+token T.t-frac k = many digit ∷ opt exp ∷ k
+token T.t-exp k = opt (minus or plus) ∷ some digit ∷ k
+token T.t-sign k = some digit ∷ k
+token T.t-power k = many digit ∷ k
+token T.t-alse k = byte 0x61 ∷ byte 0x6C ∷ byte 0x73 ∷ byte 0x65 ∷ k
+token T.t-lse k = byte 0x6C ∷ byte 0x73 ∷ byte 0x65 ∷ k
+token T.t-se k = byte 0x73 ∷ byte 0x65 ∷ k
+token T.t-e k = byte 0x65 ∷ k
+token T.t-ull k = byte 0x75 ∷ byte 0x6C ∷ byte 0x6C ∷ k
+token T.t-ll k = byte 0x6C ∷ byte 0x6C ∷ k
+token T.t-l k = byte 0x6C ∷ k
+token T.t-rue k = byte 0x72 ∷ byte 0x75 ∷ byte 0x65 ∷ k
+token T.t-ue k = byte 0x75 ∷ byte 0x65 ∷ k
+
+-- the rest of a string, between two characters
+abbrev pub chars : List Rule → List Rule
+chars k = many char ∷ byte 0x22 ∷ k
+
+abbrev pub str : Str → List Rule → List Rule
+str T.s-char k = chars k
+str T.s-escape k = escaped ∷ chars k
+str T.s-hex4 k = hexdig ∷ hexdig ∷ hexdig ∷ hexdig ∷ chars k
+str T.s-hex3 k = hexdig ∷ hexdig ∷ hexdig ∷ chars k
+str T.s-hex2 k = hexdig ∷ hexdig ∷ chars k
+str T.s-hex1 k = hexdig ∷ chars k
+str T.s-tail1 k = utf8-tail ∷ chars k
+str T.s-tail2 k = utf8-tail ∷ utf8-tail ∷ chars k
+str T.s-tail3 k = utf8-tail ∷ utf8-tail ∷ utf8-tail ∷ chars k
+str T.s-afterE0 k = range 0xA0 0xBF ∷ utf8-tail ∷ chars k
+str T.s-afterED k = range 0x80 0x9F ∷ utf8-tail ∷ chars k
+str T.s-afterF0 k = range 0x90 0xBF ∷ utf8-tail ∷ utf8-tail ∷ chars k
+str T.s-afterF4 k = range 0x80 0x8F ∷ utf8-tail ∷ utf8-tail ∷ chars k
+
+-- what may come after a value: d more may be opened, and these are open, an object where true
+abbrev pub after : ℕ → List Bool → List Rule
+after d [] = ws ∷ []
+after d (false ∷ fs) = ws ∷ items (plainValue d) ∷ byte 0x5D ∷ after (suc d) fs
+after d (true ∷ fs) = ws ∷ members (plainValue d) ∷ byte 0x7D ∷ after (suc d) fs
+
+abbrev pub colon : ℕ → List Bool → List Rule
+colon d fs = ws ∷ byte 0x3A ∷ ws ∷ plainValue d ∷ after d (true ∷ fs)
+
+abbrev pub still : Mode → ℕ → List Bool → List Rule
+still m-value d fs = ws ∷ plainValue d ∷ after d fs
+still m-after d fs = after d fs
+still m-firstItem d fs = ws ∷ arrayRest (plainValue d) ∷ after (suc d) fs
+still m-firstMember d fs = ws ∷ objectRest (plainValue d) ∷ after (suc d) fs
+still m-key d fs = ws ∷ plainMember (plainValue d) ∷ members (plainValue d) ∷ byte 0x7D ∷ after (suc d) fs
+still m-colon d fs = colon d fs
+still (m-token t) d fs = token t (after d fs)
+still (m-string s) d fs = str s (after d fs)
+still (m-name s) d fs = str s (colon d fs)
+
+abbrev pub frames : Mode → List Bool → List Bool
+frames m-value fs = fs
+frames m-after fs = fs
+frames m-firstItem fs = false ∷ fs
+frames m-firstMember fs = true ∷ fs
+frames m-key fs = true ∷ fs
+frames m-colon fs = true ∷ fs
+frames (m-token t) fs = fs
+frames (m-string s) fs = fs
+frames (m-name s) fs = true ∷ fs
+
+abbrev pub afterNumber : List Bool → ℕ
+afterNumber [] = 5
+afterNumber (false ∷ fs) = 6
+afterNumber (true ∷ fs) = 7
+
+abbrev pub number : Mode → List Bool → ℕ
+number m-value fs = 0
+number m-after fs = afterNumber fs
+number m-firstItem fs = 1
+number m-firstMember fs = 2
+number m-key fs = 3
+number m-colon fs = 4
+number (m-token t) fs = tokenNumber t
+number (m-string s) fs = stringNumber s
+number (m-name s) fs = nameNumber s
+
+pub data Next : Type 0 where
+  refused : Next
+  at : Mode → ℕ → List Bool → Next
+
+unfoldable pub row : ℕ → ℕ → Act
+unfolding classes rows
+row n b = getD acts (getD (getD rows n []) (getD classes b 0) 0) T.fault
+
+-- in the mode m, with d more to open and these open
+abbrev pub place : Mode → ℕ → List Bool → Next
+place m-value d fs = at m-value d fs
+place m-after d fs = at m-after d fs
+place (m-token t) d fs = at (m-token t) d fs
+place (m-string s) d fs = at (m-string s) d fs
+place m-firstItem d [] = refused
+place m-firstItem d (true ∷ fs) = refused
+place m-firstItem d (false ∷ fs) = at m-firstItem d fs
+place m-firstMember d [] = refused
+place m-firstMember d (false ∷ fs) = refused
+place m-firstMember d (true ∷ fs) = at m-firstMember d fs
+place m-key d [] = refused
+place m-key d (false ∷ fs) = refused
+place m-key d (true ∷ fs) = at m-key d fs
+place m-colon d [] = refused
+place m-colon d (false ∷ fs) = refused
+place m-colon d (true ∷ fs) = at m-colon d fs
+place (m-name s) d [] = refused
+place (m-name s) d (false ∷ fs) = refused
+place (m-name s) d (true ∷ fs) = at (m-name s) d fs
+
+abbrev pub opened : Mode → ℕ → List Bool → Next
+opened m zero fs = refused
+opened m (suc d) fs = at m d fs
+
+abbrev pub closed : ℕ → List Bool → Next
+closed d [] = refused
+closed d (f ∷ fs) = at m-after (suc d) fs
+
+-- these are open; n is where it goes if a value has ended
+abbrev pub act : Act → ℕ → List Bool → Next → Next
+act (T.to m) d fs n = place m d fs
+act T.fault d fs n = refused
+act T.stop d fs n = at m-after d fs
+act T.again d fs n = n
+act T.openArray d fs n = opened m-firstItem d fs
+act T.openObject d fs n = opened m-firstMember d fs
+act T.close d fs n = closed d fs
+
+abbrev pub step : Mode → ℕ → List Bool → ℕ → Next
+step m d fs b = act (row (number m fs) b) d (frames m fs) (act (row (afterNumber (frames m fs)) b) d (frames m fs) refused)
+
+abbrev pub stills : Next → List (List Rule)
+stills refused = []
+stills (at m d fs) = still m d fs ∷ []

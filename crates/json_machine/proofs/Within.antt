@@ -1,0 +1,148 @@
+-- No range of the grammar holds 0 or a number from 256 on, so no text does, and the machine refuses it everywhere. So no law has to ask
+-- that a list is one of bytes.
+-- Assumes nothing.
+use Prim.Native.Nat.{ℕ, zero, suc, _<_, _≤_}
+use mathlib.Core.Path.{_≡_, refl, sym, ap, ap₂, _∙_}
+use mathlib.Core.Bool.{Bool, true, false}
+use mathlib.Core.List.{List, [], _∷_, _++_}
+use mathlib.Core.Logic.{_⊎_, inl, inr, ⊎-elim}
+use native.Mathlib.Omega.{arith}
+use borrow.Author.Tests.{lt-leb, ltb-true}
+use lib.Dec.{ltb, leb}
+use lib.ListN.{getD, length, List·getD-eq-default}
+use Rattle.octets.proofs.Over.{le-or-lt}
+use Rattle.json.specs.Abnf.{Rule, range, _·_, _or_, empty, many}
+use Rattle.json_machine.specs.Table.{classes}
+use Rattle.json_machine.proofs.Derive.{rest, rests, and, and-true}
+use Rattle.json_machine.proofs.Plain.{plainValue}
+use Rattle.json_machine.proofs.Modes.{Token, Str, Mode, m-value, m-after, m-firstItem, m-firstMember, m-key, m-colon, m-token, m-string, m-name, Act}
+use Rattle.json_machine.proofs.Modes as T
+use Rattle.json_machine.proofs.Step.{Next, still, step, stills, act, row, number, frames, afterNumber, after, colon, token, str, refused}
+use Rattle.json_machine.proofs.Right.{each, right}
+
+-- each range is one of 1 to 255
+abbrev within : Rule → Bool
+within (range lo hi) = and (ltb 0 lo) (ltb hi 256)
+within (x · y) = and (within x) (within y)
+within (x or y) = and (within x) (within y)
+within empty = true
+within (many x) = within x
+
+abbrev allWithin : List Rule → Bool
+allWithin [] = true
+allWithin (x ∷ k) = and (within x) (allWithin k)
+
+-- ---- nothing is left after such a number
+
+and-false : (a : Bool) → and a false ≡ false
+and-false true = refl
+and-false false = refl
+
+module _ (b : ℕ) (outside : (b ≡ 0) ⊎ (256 ≤ b)) where
+  not-in : (lo hi : ℕ) → 0 < lo → hi < 256 → and (leb lo b) (leb b hi) ≡ false
+  not-in lo hi l h =
+      ⊎-elim
+      (λ (e : b ≡ 0). let z : b < lo = omega arith in rw (lt-leb lo b z) refl)
+      (λ (e : 256 ≤ b). let z : hi < b = omega arith in rw (lt-leb b hi z) (and-false (leb lo b)))
+      outside
+
+  none : (x : Rule) (k : List Rule) → within x ≡ true → rest b x k [] ≡ []
+  none (range lo hi) k e =
+      let w = and-true (ltb 0 lo) (ltb hi 256) e in
+      rw (not-in lo hi (ltb-true 0 lo (w .0)) (ltb-true hi 256 (w .1))) refl
+  none (x · y) k e = let w = and-true (within x) (within y) e in ap (rest b x (y ∷ k)) (none y k (w .1)) ∙ none x (y ∷ k) (w .0)
+  none (x or y) k e = let w = and-true (within x) (within y) e in ap₂ (λ (l m : List (List Rule)). l ++ m) (none x k (w .0)) (none y k (w .1))
+  none empty k e = refl
+  none (many x) k e = ap (λ (l : List (List Rule)). l ++ []) (none x (many x ∷ k) e)
+
+  rests-none : (k : List Rule) → allWithin k ≡ true → rests b k ≡ []
+  rests-none [] e = refl
+  rests-none (x ∷ k) e = let w = and-true (within x) (allWithin k) e in ap (rest b x k) (rests-none k (w .1)) ∙ none x k (w .0)
+
+-- ---- of whatever may still come
+
+within-value : (d : ℕ) → within (plainValue d) ≡ true
+within-value zero = refl
+within-value (suc d) = rw (within-value d) refl
+
+within-after : (d : ℕ) (fs : List Bool) → allWithin (after d fs) ≡ true
+within-after d [] = refl
+within-after d (false ∷ fs) = rw (within-value d) (within-after (suc d) fs)
+within-after d (true ∷ fs) = rw (within-value d) (within-after (suc d) fs)
+
+within-colon : (d : ℕ) (fs : List Bool) → allWithin (colon d fs) ≡ true
+within-colon d fs = rw (within-value d) (within-after (suc d) fs)
+
+within-token : (t : Token) (k : List Rule) → allWithin k ≡ true → allWithin (token t k) ≡ true
+within-token T.t-minus k e = e
+within-token T.t-zero k e = e
+within-token T.t-whole k e = e
+within-token T.t-point k e = e
+within-token T.t-frac k e = e
+within-token T.t-exp k e = e
+within-token T.t-sign k e = e
+within-token T.t-power k e = e
+within-token T.t-alse k e = e
+within-token T.t-lse k e = e
+within-token T.t-se k e = e
+within-token T.t-e k e = e
+within-token T.t-ull k e = e
+within-token T.t-ll k e = e
+within-token T.t-l k e = e
+within-token T.t-rue k e = e
+within-token T.t-ue k e = e
+
+within-string : (s : Str) (k : List Rule) → allWithin k ≡ true → allWithin (str s k) ≡ true
+within-string T.s-char k e = e
+within-string T.s-escape k e = e
+within-string T.s-hex4 k e = e
+within-string T.s-hex3 k e = e
+within-string T.s-hex2 k e = e
+within-string T.s-hex1 k e = e
+within-string T.s-tail1 k e = e
+within-string T.s-tail2 k e = e
+within-string T.s-tail3 k e = e
+within-string T.s-afterE0 k e = e
+within-string T.s-afterED k e = e
+within-string T.s-afterF0 k e = e
+within-string T.s-afterF4 k e = e
+
+within-still : (m : Mode) (d : ℕ) (fs : List Bool) → allWithin (still m d fs) ≡ true
+within-still m-value d fs = rw (within-value d) (within-after d fs)
+within-still m-after d fs = within-after d fs
+within-still m-firstItem d fs = rw (within-value d) (within-after (suc d) fs)
+within-still m-firstMember d fs = rw (within-value d) (within-after (suc d) fs)
+within-still m-key d fs = rw (within-value d) (within-after (suc d) fs)
+within-still m-colon d fs = within-colon d fs
+within-still (m-token t) d fs = within-token t (after d fs) (within-after d fs)
+within-still (m-string s) d fs = within-string s (after d fs) (within-after d fs)
+within-still (m-name s) d fs = within-string s (colon d fs) (within-colon d fs)
+
+-- ---- the machine takes a number from 256 on for 0
+
+pub class-past : (b : ℕ) → 256 ≤ b → getD classes b 0 ≡ getD classes 0 0
+unfolding classes
+class-past b h = List·getD-eq-default classes 0 h
+
+pub row-past : (n b : ℕ) → 256 ≤ b → row n b ≡ row n 0
+unfolding row
+row-past n b h = rw (class-past b h) refl
+
+module _ (m : Mode) (d : ℕ) (fs : List Bool) where
+  pub step-past : (b : ℕ) → 256 ≤ b → step m d fs b ≡ step m d fs 0
+  step-past b h =
+      ap₂ (λ (x y : Act). act x d (frames m fs) (act y d (frames m fs) refused)) (row-past (number m fs) b h) (row-past (afterNumber (frames m fs)) b h)
+
+  below : (b : ℕ) → b < 256 → rests b (still m d fs) ≡ stills (step m d fs b)
+  below b l = each (λ b. rests b (still m d fs)) (λ b. stills (step m d fs b)) 256 (right m d fs) b l
+
+  past : (b : ℕ) → 256 ≤ b → rests b (still m d fs) ≡ stills (step m d fs b)
+  past b h =
+      rests-none b (inr h) (still m d fs) (within-still m d fs)
+      ∙ sym (rests-none 0 (inl refl) (still m d fs) (within-still m d fs))
+      ∙ below 0 (omega arith)
+      ∙ sym (ap stills (step-past b h))
+
+  -- what may still come after any number is what the tables say
+  pub turned : (b : ℕ) → rests b (still m d fs) ≡ stills (step m d fs b)
+  turned b = ⊎-elim (λ (h : 256 ≤ b). past b h) (λ (l : b < 256). below b l) (le-or-lt 256 b)

@@ -1,0 +1,1 @@
+// What the stricter reading promises (FORMAT.md, Stricter reading): proofs/Strict.antt.
