@@ -7,3 +7,4 @@ pub mod Made
 pub mod Between
 pub mod Repeats
 pub mod Missing
+pub mod Long
