@@ -4,3 +4,4 @@ pub mod Listed
 pub mod Arrival
 pub mod Strict
 pub mod Signature
+pub mod Assembly

@@ -2,8 +2,9 @@
 // position instead of a verdict. A slice is a pointer and a length. include/eif.h declares these functions to C.
 //
 // The digest and the registers stand in measure.rt, the reader of an image that arrives in pieces in arrival.rt, the stricter reading in
-// strict.rt, the COSE_Sign1 of a signature section in signature.rt.
+// strict.rt, the COSE_Sign1 of a signature section in signature.rt, the assembler in assembly.rt.
 mod arrival;
+mod assembly;
 mod measure;
 mod sections;
 mod strict;

@@ -1,0 +1,78 @@
+-- The tests of the assembler, each from plain facts: two byte strings and a row of marks one place at a time, and a piece on
+-- the grid. Assumes nothing.
+use Prim.Native.Nat.{ℕ, suc, _+_, _-_, _%_, _<_, _≤_, min}
+use mathlib.Core.Path.{_≡_, refl, sym, ap, _∙_}
+use mathlib.Core.Bool.{Bool, true, false, not}
+use mathlib.Core.List.{List, [], _∷_}
+use native.Mathlib.Numerals.{add-one}
+use borrow.Author.Tests.{lt-leb, le-leb, eq-eqb, ne-eqb}
+use lib.Dec.{eqb}
+use lib.ListN.{length, drop, getD, drop-of-length-le}
+use lib.Seq.{drop-cons}
+use Rattle.eif.specs.Logic.{both}
+use Rattle.assembler_rules.specs.Records.{pieceSize, offGrid}
+use Rattle.assembler_rules.specs.Rules.{same, allHeld}
+
+-- ---- two byte strings
+
+both-false : (b : Bool) → both b false ≡ false
+both-false true = refl
+both-false false = refl
+
+pub same-lengths : (a b : List ℕ) → (length a ≡ length b → ⊥) → false ≡ same a b
+unfolding same
+same-lengths [] [] h = absurd (h refl)
+same-lengths [] (y ∷ b) h = refl
+same-lengths (x ∷ a) [] h = refl
+same-lengths (x ∷ a) (y ∷ b) h =
+    sym (ap (both (eqb x y)) (sym (same-lengths a b (λ e. h (ap suc e)))) ∙ both-false (eqb x y))
+
+module _ (a b : List ℕ) (k : ℕ) where
+  module _ (ha : k < length a) (hb : k < length b) where
+    same-here : same (drop k a) (drop k b) ≡ both (eqb (getD a k 0) (getD b k 0)) (same (drop (k + 1) a) (drop (k + 1) b))
+    unfolding same
+    same-here = rw (add-one, drop-cons a k 0 ha, drop-cons b k 0 hb) refl
+
+    pub same-step : getD a k 0 ≡ getD b k 0 → same (drop (k + 1) a) (drop (k + 1) b) ≡ same (drop k a) (drop k b)
+    same-step e = sym (same-here ∙ ap (λ (t : Bool). both t (same (drop (k + 1) a) (drop (k + 1) b))) (eq-eqb _ _ e))
+
+    pub same-differs : (getD a k 0 ≡ getD b k 0 → ⊥) → false ≡ same (drop k a) (drop k b)
+    same-differs h = sym (same-here ∙ ap (λ (t : Bool). both t (same (drop (k + 1) a) (drop (k + 1) b))) (ne-eqb _ _ h))
+
+  pub same-end : length a ≤ k → length b ≤ k → true ≡ same (drop k a) (drop k b)
+  unfolding same
+  same-end ha hb = rw (drop-of-length-le a ha, drop-of-length-le b hb) refl
+
+-- ---- marks
+
+module _ (y : List ℕ) (k : ℕ) where
+  module _ (h : k < length y) where
+    held-here : allHeld (drop k y) ≡ both (not (eqb (getD y k 0) 0)) (allHeld (drop (k + 1) y))
+    unfolding allHeld
+    held-here = rw (add-one, drop-cons y k 0 h) refl
+
+    pub held-step : (getD y k 0 ≡ 0 → ⊥) → allHeld (drop (k + 1) y) ≡ allHeld (drop k y)
+    held-step e = sym (held-here ∙ ap (λ (t : Bool). both (not t) (allHeld (drop (k + 1) y))) (ne-eqb _ _ e))
+
+    pub held-gap : getD y k 0 ≡ 0 → false ≡ allHeld (drop k y)
+    held-gap e = sym (held-here ∙ ap (λ (t : Bool). both (not t) (allHeld (drop (k + 1) y))) (eq-eqb _ _ e))
+
+  pub held-end : length y ≤ k → true ≡ allHeld (drop k y)
+  unfolding allHeld
+  held-end h = rw (drop-of-length-le y h) refl
+
+-- ---- the grid
+
+module _ (n start count : ℕ) where
+  pub grid-past : n ≤ start → true ≡ offGrid n start count
+  unfolding offGrid
+  grid-past h = simp (le-leb _ _ h)
+
+  module _ (h : start < n) where
+    pub grid-off : (start % pieceSize ≡ 0 → ⊥) → true ≡ offGrid n start count
+    unfolding offGrid
+    grid-off g = simp (lt-leb _ _ h, ne-eqb _ _ g)
+
+    pub grid-count : start % pieceSize ≡ 0 → (m : ℕ) → m ≡ min pieceSize (n - start) → not (eqb count m) ≡ offGrid n start count
+    unfolding offGrid
+    grid-count g m e = rw e (simp (lt-leb _ _ h, eq-eqb _ _ g))

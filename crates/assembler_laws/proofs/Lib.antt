@@ -1,0 +1,10 @@
+pub mod Lists
+pub mod Accept
+pub mod Calls
+pub mod Transfer
+pub mod Content
+pub mod Made
+pub mod Between
+pub mod Repeats
+pub mod Missing
+pub mod Long

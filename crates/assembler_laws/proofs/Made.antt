@@ -1,0 +1,122 @@
+-- The three records as bytes are an open, a piece and a close, so every image up to the limit has a transfer: the laws are about
+-- something. Assumes nothing.
+use Prim.Native.Nat.{ℕ, zero, suc, _+_, _*_, _-_, _^_, _<_, _≤_}
+use mathlib.Core.Path.{_≡_, refl, sym, ap, _∙_}
+use mathlib.Core.Bool.{true}
+use mathlib.Core.List.{List, [], _++_}
+use mathlib.Core.Logic.{_⊎_, inl, inr, ⊎-elim}
+use native.Mathlib.Omega.{arith}
+use native.Mathlib.Nat.{lt-of-le-of-lt}
+use borrow.Author.Tests.{le-leb}
+use lib.Dec.{lit<}
+use lib.ListN.{length, take, drop, length-take}
+use Rattle.octets.specs.Bytes.{leBytes, leField}
+use Rattle.octets.proofs.Value.{leField-at, length-leBytes}
+use Rattle.octets.proofs.Over.{le-or-lt}
+use Rattle.eif.specs.Numbers.{sizeLimit}
+use Rattle.eif_rules.proofs.Logic.{equal-or-not}
+use Rattle.assembler_rules.specs.Records.{pieceSize, numberSize, openKind, pieceKind, sizeIn, kindIn, numberIn, dataIn, sizeFits, formed, piecesOf, placeIn}
+use Rattle.assembler_rules.specs.Step.{freshState}
+use Rattle.assembler_rules.proofs.Form.{formed-fits}
+use Rattle.assembler_laws.specs.Run.{memory, OpenFor, PieceOf, Close, Every, Sent, Pieces, Transfer}
+use Rattle.assembler_laws.specs.Made.{recordOf, openRecord, closeRecord, pieceOf, piecesFrom, allPieces}
+
+-- ---- what the fields say
+
+module _ (size kind : ℕ) (rest : List ℕ) (a : size < 256 ^ 8) (b : kind < 256 ^ 2) where
+  size-in : sizeIn (recordOf size kind rest) ≡ size
+  size-in = leField-at 8 size 0 [] (leBytes 2 kind ++ rest) refl a
+
+  kind-in : kindIn (recordOf size kind rest) ≡ kind
+  kind-in = leField-at 2 kind 8 (leBytes 8 size) rest (length-leBytes 8 size) b
+
+  length-is : length (recordOf size kind rest) ≡ 10 + length rest
+  length-is = omega arith
+
+  form-is : size ≡ length rest → sizeFits kind size ≡ true → formed (recordOf size kind rest) ≡ true
+  form-is e f =
+      let n = length-is in
+      sym (formed-fits (recordOf size kind rest) (omega arith) size (sym size-in) (omega arith) kind (sym kind-in)) ∙ f
+
+number-in : (size kind n : ℕ) (rest : List ℕ) → n < 256 ^ 8 → numberIn (recordOf size kind (leBytes 8 n ++ rest)) ≡ n
+number-in size kind n rest a = leField-at 8 n 10 (leBytes 8 size ++ leBytes 2 kind) rest refl a
+
+bytes-in : (size kind n : ℕ) (rest : List ℕ) → dataIn (recordOf size kind (leBytes 8 n ++ rest)) ≡ rest
+bytes-in size kind n rest = refl
+
+-- ---- the records
+
+small : (n : ℕ) → n ≤ sizeLimit + pieceSize → n < 256 ^ 8
+small n h = lt-of-le-of-lt h (lit< tt)
+
+pub made-close : Close closeRecord
+unfolding formed leField
+made-close = record { form = refl; kind = refl }
+
+pub made-open : (m : List ℕ) → length m ≤ sizeLimit → OpenFor m (openRecord (length m))
+made-open m h =
+    let rest = leBytes 8 (length m) ++ [] in
+    record {
+      form = form-is numberSize openKind rest (lit< tt) (lit< tt) refl refl;
+      kind = kind-in numberSize openKind rest (lit< tt) (lit< tt);
+      announced = number-in numberSize openKind (length m) [] (small (length m) (omega arith));
+    }
+
+module _ (m : List ℕ) (h : length m ≤ sizeLimit) (k : ℕ) (b : k < piecesOf (length m)) where
+  abbrev part : List ℕ
+  part = take pieceSize (drop (k * pieceSize) m)
+
+  part-size : numberSize + length part ≤ sizeLimit + pieceSize
+  part-size = let t = length-take pieceSize (drop (k * pieceSize) m) in omega arith
+
+  pub made-piece : PieceOf m (pieceOf m k)
+  made-piece =
+      let size = numberSize + length part in
+      let rest = leBytes 8 (k * pieceSize) ++ part in
+      let n = number-in size pieceKind (k * pieceSize) part (small (k * pieceSize) (omega arith)) in
+      let s = small size part-size in
+      record {
+        form = form-is size pieceKind rest s (lit< tt) (rest-size) (le-leb numberSize size (omega arith));
+        kind = kind-in size pieceKind rest s (lit< tt);
+        inside = omega arith;
+        on-grid = omega arith;
+        bytes-are = sym (ap (λ (i : ℕ). take pieceSize (drop i m)) n);
+      }
+    where
+      rest-size : numberSize + length part ≡ length (leBytes 8 (k * pieceSize) ++ part)
+      rest-size = omega arith
+
+  pub made-place : placeIn (pieceOf m k) ≡ k
+  made-place =
+      let n = number-in (numberSize + length part) pieceKind (k * pieceSize) part (small (k * pieceSize) (omega arith)) in
+      omega arith
+
+-- ---- all pieces of m in order
+
+module _ (m : List ℕ) (h : length m ≤ sizeLimit) where
+  every-made : (count k : ℕ) → k + count ≤ piecesOf (length m) → Every (PieceOf m) (piecesFrom m count k)
+  unfolding Every piecesFrom
+  every-made zero k b = tt
+  every-made (suc count) k b = (made-piece m h k (omega arith), every-made count (suc k) (omega arith))
+
+  sent-made : (count k j : ℕ) → k + count ≤ piecesOf (length m) → k ≤ j → j < k + count → Sent j (piecesFrom m count k)
+  unfolding Sent piecesFrom
+  sent-made zero k j b c d = absurd (omega arith)
+  sent-made (suc count) k j b c d =
+      ⊎-elim (λ e. inl (made-place m h k (omega arith) ∙ e)) (λ e. inr (sent-made count (suc k) j (omega arith) (later e) (omega arith))) (equal-or-not k j)
+    where
+      later : (k ≡ j → ⊥) → suc k ≤ j
+      later e = ⊎-elim (λ a. a) (λ a. absurd (e (omega arith))) (le-or-lt (suc k) j)
+
+  pub made-pieces : Pieces m (allPieces m)
+  made-pieces =
+      record {
+        agree = every-made (piecesOf (length m)) 0 (omega arith);
+        cover = λ k b. sent-made (piecesOf (length m)) 0 k (omega arith) (omega arith) (omega arith);
+      }
+
+  -- so every image up to the limit has a transfer, over any buffers with room for it
+  pub made-transfer : (x y : List ℕ) → length m ≤ length x → piecesOf (length m) ≤ length y
+      → Transfer m (memory freshState x y) (openRecord (length m)) (allPieces m) closeRecord
+  made-transfer x y a b =
+      record { closed = refl; small = h; image-room = a; mark-room = b; opens = made-open m h; pieces = made-pieces; closes = made-close }

@@ -1,0 +1,183 @@
+-- A piece that was taken is held with its bytes as long as its transfer is open, whatever records come; so a repeat with equal bytes, however
+-- much later, is taken and changes nothing. Assumes nothing.
+use Prim.Native.Nat.{ℕ, _+_, _/_, _%_, _<_, _≤_}
+use mathlib.Core.Path.{_≡_, refl, sym, ap, ap₂, subst, _∙_}
+use mathlib.Core.Bool.{Bool, true, false, not}
+use mathlib.Core.List.{List, [], _∷_}
+use mathlib.Core.Logic.{_⊎_, inl, inr, ⊎-elim}
+use native.Mathlib.Omega.{arith}
+use borrow.Author.Tests.{eqb-true, eqb-false, ne-eqb, not-true, not-false}
+use lib.Dec.{eqb}
+use lib.ListN.{length, take, drop, getD, length-take, length-drop, length-set}
+use lib.Seq.{getD-take, getD-drop, getD-set-other, ext-getD}
+use Rattle.octets.proofs.Over.{length-over, le-or-lt}
+use Rattle.eif.specs.Logic.{both}
+use Rattle.eif.specs.declared.Verdict.the-variants.{Accepted}
+use Rattle.eif_rules.proofs.Logic.{both-true, not-both, zero-or, equal-or-not}
+use Rattle.assembler_rules.specs.Records.{pieceSize, openKind, pieceKind, closeKind, kindIn, numberIn, dataIn, pieceAt, placeIn}
+use Rattle.assembler_rules.specs.Rules.{isOpened, same, held, standing}
+use Rattle.assembler_rules.specs.Step.{stepped}
+use Rattle.assembler_rules.proofs.Form.{formed-kinds}
+use Rattle.assembler_rules.proofs.Faults.{accepted-form, accepted-open, accepted-piece}
+use Rattle.assembler_laws.specs.Run.{Memory, answer, after, run, StaysOpen, Repeated}
+use Rattle.assembler_laws.proofs.Lists.{over-other, same-of}
+use Rattle.assembler_laws.proofs.Accept.{LongEnough, piece-fine}
+use Rattle.assembler_laws.proofs.Calls.{faultAt, both-none, bool-or, no-fault, refused-keeps, repeat-keeps, put, put-left, put-stands, put-held, close-ends}
+
+-- equal by the test is equal
+same-true : (a b : List ℕ) → same a b ≡ true → a ≡ b
+unfolding same
+same-true [] [] e = refl
+same-true [] (y ∷ b) e = not-both e
+same-true (x ∷ a) [] e = not-both e
+same-true (x ∷ a) (y ∷ b) e =
+    let h = both-true (eqb x y) (same a b) e in
+    ap₂ (λ (n : ℕ) (l : List ℕ). n ∷ l) (eqb-true x y (h .0)) (same-true a b (h .1))
+
+-- ---- a piece that is held with its bytes
+
+-- while a transfer is open, the piece at a start is held with these bytes
+record Stands (start : ℕ) (bytes : List ℕ) (w : Memory) : Type 0 where
+  open-now : isOpened (w .state) ≡ true
+  inside : start < w .state .length
+  on-grid : start % pieceSize ≡ 0
+  sized : length bytes ≡ pieceAt (w .state .length) start
+  enough : LongEnough (w .state) (w .image) (w .marks)
+  held-now : getD (w .marks) (start / pieceSize) 0 ≡ 0 → ⊥
+  stands : take (length bytes) (drop start (w .image)) ≡ bytes
+
+-- after a piece was taken
+module _ (w : Memory) (r : List ℕ) (z : faultAt w r ≡ 0) (k : kindIn r ≡ pieceKind) where
+  from-held : held r (w .marks) ≡ true → Stands (numberIn r) (dataIn r) w
+  from-held h =
+      let t = accepted-piece (w .state) r (w .image) (w .marks) z k in
+      let other : both true (not (same (standing r (w .image)) (dataIn r))) ≡ false =
+      sym (ap (λ (b : Bool). both b (not (same (standing r (w .image)) (dataIn r)))) h) ∙ t .agrees in
+      record {
+        open-now = t .open-now;
+        inside = t .inside;
+        on-grid = t .on-grid;
+        sized = t .sized;
+        enough = record { image-room = t .image-room; mark-room = t .mark-room; image-kept = t .image-kept; marks-kept = t .marks-kept };
+        held-now = eqb-false _ _ (not-true _ h);
+        stands = same-true (standing r (w .image)) (dataIn r) (not-false _ other);
+      }
+
+  from-free : held r (w .marks) ≡ false → Stands (numberIn r) (dataIn r) (put w r z k)
+  from-free h =
+      let t = accepted-piece (w .state) r (w .image) (w .marks) z k in
+      let i = length-over (w .image) (numberIn r) (dataIn r) in
+      let j = length-set (w .marks) (placeIn r) 1 in
+      record {
+        open-now = t .open-now;
+        inside = t .inside;
+        on-grid = t .on-grid;
+        sized = t .sized;
+        enough = record { image-room = rw i (t .image-room); mark-room = rw j (t .mark-room); image-kept = rw i (t .image-kept); marks-kept = rw j (t .marks-kept) };
+        held-now = eqb-false _ _ (not-true _ (put-held w r z k));
+        stands = put-stands w r z k;
+      }
+
+  taken-stands : Stands (numberIn r) (dataIn r) (after w r)
+  taken-stands =
+      ⊎-elim
+      (λ h. subst (Stands (numberIn r) (dataIn r)) (sym (repeat-keeps w r z k h .1)) (from-held h))
+      (λ h. subst (Stands (numberIn r) (dataIn r)) (sym (put-left w r z k h)) (from-free h))
+      (bool-or (held r (w .marks)))
+
+-- ---- and stays so
+
+module _ (start : ℕ) (bytes : List ℕ) (w : Memory) (g : Stands start bytes w) (r : List ℕ) where
+  -- another piece that is not held yet is another piece
+  module _ (z : faultAt w r ≡ 0) (k : kindIn r ≡ pieceKind) (free : held r (w .marks) ≡ false) where
+    other-place : start / pieceSize ≡ placeIn r → ⊥
+    other-place e =
+        g .held-now (ap (λ (n : ℕ). getD (w .marks) n 0) e ∙ eqb-true _ _ (not-false _ free))
+
+    stands-put : take (length bytes) (drop start (put w r z k .image)) ≡ bytes
+    stands-put =
+        let t = accepted-piece (w .state) r (w .image) (w .marks) z k in
+        let a = t .on-grid in
+        let b = t .sized in
+        let c = g .on-grid in
+        let d = g .sized in
+        let room = g .enough .image-room in
+        let n = length-over (w .image) (numberIn r) (dataIn r) in
+        let i = length-drop start (put w r z k .image) in
+        let j = length-take (length bytes) (drop start (put w r z k .image)) in
+        let inside = g .inside in
+        ext-getD 0 (take (length bytes) (drop start (put w r z k .image))) bytes (omega arith)
+        (λ o h.
+        let p : o < length bytes = omega arith in
+        getD-take (length bytes) (drop start (put w r z k .image)) o 0 p ∙ getD-drop start (put w r z k .image) o 0
+        ∙ over-other (w .image) (numberIn r) (dataIn r) (start + o) (apart o p)
+        ∙ sym (getD-take (length bytes) (drop start (w .image)) o 0 p ∙ getD-drop start (w .image) o 0)
+        ∙ ap (λ (l : List ℕ). getD l o 0) (g .stands))
+      where
+        apart : (o : ℕ) → o < length bytes → (start + o < numberIn r) ⊎ (numberIn r + length (dataIn r) ≤ start + o)
+        apart o p =
+            let t = accepted-piece (w .state) r (w .image) (w .marks) z k in
+            let a = t .on-grid in
+            let b = t .sized in
+            let c = g .on-grid in
+            let d = g .sized in
+            ⊎-elim
+            (λ q. inr q)
+            (λ q. inl (⊎-elim (λ v. absurd (other-place (omega arith))) (λ v. v) (le-or-lt (numberIn r) (start + o))))
+            (le-or-lt (numberIn r + length (dataIn r)) (start + o))
+
+    piece-stays : Stands start bytes (put w r z k)
+    piece-stays =
+        let i = length-over (w .image) (numberIn r) (dataIn r) in
+        let j = length-set (w .marks) (placeIn r) 1 in
+        let e = g .enough in
+        record {
+          open-now = g .open-now;
+          inside = g .inside;
+          on-grid = g .on-grid;
+          sized = g .sized;
+          enough = record { image-room = rw i (e .image-room); mark-room = rw j (e .mark-room); image-kept = rw i (e .image-kept); marks-kept = rw j (e .marks-kept) };
+          held-now = λ q. g .held-now (sym (getD-set-other (w .marks) (placeIn r) (start / pieceSize) 1 0 other-place) ∙ q);
+          stands = stands-put;
+        }
+
+  module _ (stays : isOpened (after w r .state) ≡ true) where
+    by-kind : faultAt w r ≡ 0 → Stands start bytes (after w r)
+    by-kind z =
+        ⊎-elim opens (λ h. ⊎-elim piece (λ q. closes (formed-kinds r (accepted-form (w .state) r (w .image) (w .marks) z) h q)) (equal-or-not (kindIn r) pieceKind))
+        (equal-or-not (kindIn r) openKind)
+      where
+        opens : kindIn r ≡ openKind → Stands start bytes (after w r)
+        opens k = not-both (sym (accepted-open (w .state) r (w .image) (w .marks) z k .not-open) ∙ g .open-now)
+
+        closes : kindIn r ≡ closeKind → Stands start bytes (after w r)
+        closes k = not-both (sym (ap (λ (v : Memory). isOpened (v .state)) (close-ends w r z k .1)) ∙ stays)
+
+        piece : kindIn r ≡ pieceKind → Stands start bytes (after w r)
+        piece k =
+            ⊎-elim
+            (λ h. subst (Stands start bytes) (sym (repeat-keeps w r z k h .1)) g)
+            (λ h. subst (Stands start bytes) (sym (put-left w r z k h)) (piece-stays z k h))
+            (bool-or (held r (w .marks)))
+
+    one-more : Stands start bytes (after w r)
+    one-more = ⊎-elim by-kind (λ h. subst (Stands start bytes) (sym (refused-keeps w r h .1)) g) (zero-or (faultAt w r))
+
+all-stand : (start : ℕ) (bytes : List ℕ) (rs : List (List ℕ)) (w : Memory) → Stands start bytes w → StaysOpen w rs → Stands start bytes (run w rs)
+unfolding run StaysOpen
+all-stand start bytes [] w g s = g
+all-stand start bytes (r ∷ rs) w g s = all-stand start bytes rs (after w r) (one-more start bytes w g r (s .0)) (s .1)
+
+-- ---- the repeat
+
+pub repeat-changes-nothing : (w : Memory) (r : List ℕ) (rs : List (List ℕ)) (s : List ℕ) → Repeated w r rs s
+    → (answer (run (after w r) rs) s ≡ stepped Accepted (run (after w r) rs .state) 0) × (after (run (after w r) rs) s ≡ run (after w r) rs)
+repeat-changes-nothing w r rs s h =
+    let v = run (after w r) rs in
+    let first = all-stand (numberIn r) (dataIn r) rs (after w r) (taken-stands w r (no-fault w r (h .taken)) (h .kind)) (h .stays-open) in
+    let bytes = subst (λ (l : List ℕ). Stands (numberIn r) l v) (sym (h .same-bytes)) first in
+    let g = subst (λ (n : ℕ). Stands n (dataIn s) v) (sym (h .same-start)) bytes in
+    let yes : held s (v .marks) ≡ true = ap not (ne-eqb _ _ (g .held-now)) in
+    let agrees = ap (λ (t : Bool). both (held s (v .marks)) (not t)) (same-of (standing s (v .image)) (dataIn s) (g .stands)) ∙ both-none (held s (v .marks)) in
+    let z = piece-fine (v .state) s (v .image) (v .marks) (h .form-again) (g .open-now) (g .enough) (h .kind-again) (g .inside) (g .on-grid) (g .sized) agrees in
+    repeat-keeps v s z (h .kind-again) yes

@@ -1,0 +1,5 @@
+pub mod Records
+pub mod Rules
+pub mod ByKind
+pub mod Order
+pub mod Step

@@ -1,0 +1,234 @@
+// Assembles images from records that come over standard input, one after the other, each with its head, in a buffer of 65,536 bytes. At each
+// close it writes the rows of the image, or its refusal, as eif_show does. A record that is refused is a line too, and the next one is taken.
+//
+// A record may say that it is longer than any piece. Its bytes are left out then, as many as it says, and the assembler is handed its start,
+// with the length that this start has, which is too long too: it refuses that as it would the whole record. Where the input ends inside a
+// record, what came of it is handed over, which its own length makes a refusal.
+ghost use mathlib.Core.Path.{_≡_};
+ghost use Prim.Native.Nat.{_+_, _≤_, min};
+ghost use lib.ListN.{length};
+ghost use Rattle.eif.specs.Roll.{recordHeadSize};
+ghost use Rattle.assembler_rules.specs.Records.{pieceSize, numberSize};
+use assembler_rules::PIECE_SIZE;
+use assembler_rules::Record;
+use assembler_rules::State;
+use assembler_rules::Stepped;
+use eif::Reading;
+use eif::RecordHead;
+use eif::Refusal;
+use eif::Section;
+use eif::SectionHeader;
+use eif::Verdict;
+
+// The longest image, and with it the marks.
+const ROOM: usize = 65536;
+
+const PLACES: usize = ROOM / PIECE_SIZE as usize;
+
+// What is kept of a record: one byte more than the longest piece has.
+const KEPT: usize = Record::DATA_AT + PIECE_SIZE as usize + 1;
+
+// What is kept of it after its head.
+const KEPT_REST: usize = KEPT - RecordHead::SIZE;
+
+// The most records that are taken: more than any input has.
+const RECORDS: u64 = 0xFFFFFFFFFFFFFFFF;
+
+// ---- lines
+
+fn text(bytes: &[u8]) {
+    io::write_all(libc::STDOUT_FILENO, bytes);
+}
+
+fn number(n: u64) {
+    io::print_decimal(libc::STDOUT_FILENO, n);
+}
+
+// Where a section's own header stands, which is what the table says of it.
+fn table_offset(section: Section) -> u64 {
+    let header = SectionHeader::SIZE as u64;
+    if section.position.0 < header {
+        return 0;
+    }
+    section.position.0 - header
+}
+
+fn row(index: u64, section: Section) {
+    number(index);
+    text(b" ");
+    number(section.kind as u64);
+    text(b" ");
+    number(table_offset(section));
+    text(b" ");
+    number(section.length.0);
+    text(b"\n");
+}
+
+fn rows(reading: Reading) {
+    let sections = reading.sections;
+    let count = reading.count as usize;
+    for i in 0..eif::PLACES {
+        if i < count {
+            row(i as u64, sections[i]);
+        }
+    }
+}
+
+fn refusal(r: Refusal) {
+    text(b"refused ");
+    number(r.number as u64);
+    text(b" at ");
+    number(r.index);
+    text(b" byte ");
+    number(r.position);
+    text(b"\n");
+}
+
+fn show(image: &[u8]) {
+    let reading = eif_reader::read(image);
+    let verdict = reading.verdict;
+    match verdict {
+        Verdict::Accepted => {
+            text(b"eif ");
+            number(reading.version as u64);
+            text(b" ");
+            number(reading.count as u64);
+            text(b"\n");
+            rows(reading);
+        }
+        Verdict::Refused(r) => refusal(r),
+    }
+}
+
+// ---- the input
+
+fn lesser(a: u64, b: usize) -> usize
+    ensures { λ r. ⌜ r ≡ min a b ⌝ }
+{
+    if a < b as u64 { a as usize } else { b }
+}
+
+// At most so many bytes of the input, to a place in a buffer; how many came.
+fn read_to(buffer: &mut [u8], at: usize, want: usize) -> usize
+    requires { ⌜ at + want ≤ length (now buffer) ⌝ }
+    ensures { λ r. ⌜ r ≤ want ⌝ }
+{
+    io::read_full(libc::STDIN_FILENO, &mut buffer[at..at + want])
+}
+
+// Leaves so many bytes of the input out, at most as many as are kept of a record; how many came.
+fn skip_block(want: usize) -> usize {
+    let mut block = [0u8; KEPT_REST];
+    let n = lesser(want as u64, KEPT_REST);
+    read_to(&mut block, 0, n)
+}
+
+// Leaves so many bytes of the input out; whether they came.
+fn skip(size: u64) -> bool {
+    let mut left = size;
+    while 0 < left {
+        let want = lesser(left, KEPT_REST);
+        if skip_block(want) != want {
+            return false;
+        }
+        left -= want as u64;
+    }
+    true
+}
+
+// What came of a record: how many bytes of it are kept, 0 at the end of the input; and whether all of it came.
+struct Came {
+    count: usize,
+    whole: bool,
+}
+
+fn read_record(sent: &mut [u8]) -> Came
+    requires { ⌜ length (now sent) ≡ recordHeadSize + numberSize + pieceSize + 1 ⌝ }
+    ensures { λ r. ⌜ r .count ≤ recordHeadSize + numberSize + pieceSize + 1 ⌝ }
+{
+    let head = read_to(sent, 0, RecordHead::SIZE);
+    if head < RecordHead::SIZE {
+        return Came {
+            count: head,
+            whole: false,
+        };
+    }
+    let size = octets::le64(sent, RecordHead::LENGTH_AT);
+    let want = lesser(size, KEPT_REST);
+    let rest = read_to(sent, RecordHead::SIZE, want);
+    let count = RecordHead::SIZE + rest;
+    if rest != want {
+        return Came {
+            count,
+            whole: false,
+        };
+    }
+    let whole = skip(size - want as u64);
+    if whole {
+        octets::put_le64(sent, RecordHead::LENGTH_AT, want as u64);
+    }
+    Came { count, whole }
+}
+
+// ---- one record
+
+// An accepted record after which no transfer is open was a close.
+fn say(answer: Stepped, image: &[u8]) {
+    let verdict = answer.verdict;
+    match verdict {
+        Verdict::Accepted => {
+            if answer.state.opened == 0 {
+                show(&image[..lesser(answer.length, image.len())]);
+            }
+        }
+        Verdict::Refused(r) => refusal(r),
+    }
+}
+
+// The state after a record, and whether there may be another.
+struct Turn {
+    state: State,
+    more: bool,
+}
+
+fn take_record(state: State, image: &mut [u8], marks: &mut [u8]) -> Turn {
+    let mut sent = [0u8; KEPT];
+    let came = read_record(&mut sent);
+    let count = came.count;
+    if count == 0 {
+        return Turn { state, more: false };
+    }
+    let answer = assembler::step(state, &sent[..count], image, marks);
+    let next = answer.state;
+    say(answer, image);
+    Turn {
+        state: next,
+        more: came.whole,
+    }
+}
+
+// The state at the end of the input.
+fn take_records(image: &mut [u8], marks: &mut [u8]) -> State {
+    let mut state = assembler::new();
+    let mut left = RECORDS;
+    while 0 < left {
+        let turn = take_record(state, image, marks);
+        let next = turn.state;
+        state = next;
+        if turn.more {
+            left -= 1;
+        } else {
+            left = 0;
+        }
+    }
+    state
+}
+
+fn main() {
+    let mut image = [0u8; ROOM];
+    let mut marks = [0u8; PLACES];
+    let state = take_records(&mut image, &mut marks);
+    if state.opened != 0 {
+        text(b"transfer not closed\n");
+    }
+}
