@@ -21,8 +21,13 @@
  *   - no byte of the output buffer has changed;
  *   - index is the index of the section or record for 6 to 11, 16, 17 and, where a section is not
  *     packed, 20; and 0 for the others;
+ *   - position is where what is at fault stands (FORMAT.md, Positions), counted from the start of the
+ *     image or, where a roll was read, of the roll: a header field, the table's offset entry of the
+ *     section, its own header, the record's start, or the first byte too many; and 0 for the numbers
+ *     that have no place there, and for every refusal of a plan;
  *   - all else in the answer is 0, but first_ramdisk, which is EIF_NO_RAMDISK, and the states that
  *     eif_sha384_update and eif_arriving_finish answer.
+ * A call that reads an image first hands that refusal on as it is, position too.
  *
  * Answers have no padding, and their reserved fields are 0: equal answers are equal by memcmp.
  *
@@ -222,6 +227,7 @@ typedef struct eif_reading {
     uint16_t flags;
     uint16_t count;
     uint64_t index;
+    uint64_t position; /* in the image, of what is at fault */
     uint64_t default_mem;
     uint64_t default_cpus;
     uint32_t ramdisk_mark;  /* bit i is one exactly when section i is a ramdisk */
@@ -260,7 +266,8 @@ typedef struct eif_answer {
     uint8_t number;
     uint8_t reserved[7];
     uint64_t index;
-    uint64_t length; /* 0 beside a refusal */
+    uint64_t position; /* in the image, of what is at fault */
+    uint64_t length;   /* 0 beside a refusal */
 } eif_answer;
 
 /* The sections of a stream, in its order. */
@@ -279,6 +286,7 @@ typedef struct eif_registers_answer {
     uint8_t number; /* EIF_ACCEPTED, or one of 1 to 13 and 20 */
     uint8_t reserved[7];
     uint64_t index;
+    uint64_t position; /* in the image, of what is at fault */
     eif_digest registers[EIF_REGISTERS]; /* all 0 beside a refusal */
 } eif_registers_answer;
 
@@ -295,7 +303,8 @@ typedef struct eif_sha384_fed {
     uint8_t number; /* EIF_ACCEPTED, or EIF_MESSAGE_TOO_LONG */
     uint8_t reserved[7];
     uint64_t index;
-    eif_sha384 state; /* after the piece; beside a refusal as it was */
+    uint64_t position; /* always 0 */
+    eif_sha384 state;  /* after the piece; beside a refusal as it was */
 } eif_sha384_fed;
 
 /* A record of an accepted roll. */
@@ -312,6 +321,7 @@ typedef struct eif_roll_reading {
     uint8_t number; /* EIF_ACCEPTED, or one of 1, 5, 10 to 12 and 16 to 18 */
     uint8_t reserved[7];
     uint64_t index;
+    uint64_t position; /* in the roll, of what is at fault */
     uint64_t count;
     eif_roll_record records[EIF_MAX_SECTIONS]; /* in order, then zeros */
 } eif_roll_reading;

@@ -60,24 +60,24 @@ expect 'the worked example' "$worked"
 byte_by_byte samples/worked.eif | expect 'a byte at a time, by a pipe' "$worked"
 { head -c 300 samples/worked.eif; sleep 0.1; tail -c +301 samples/worked.eif; } | expect 'in two parts, by a pipe' "$worked"
 : >"$folder/input"
-expect 'no input' 'refused 2 at 0\n'
+expect 'no input' 'refused 2 at 0 byte 0\n'
 { head -c 560 samples/worked.eif; printf x; tail -c +562 samples/worked.eif; } >"$folder/input"
-expect 'a byte of the kernel changed' 'refused 13 at 0\n'
+expect 'a byte of the kernel changed' 'refused 13 at 0 byte 544\n'
 { cat samples/worked.eif; printf x; } >"$folder/input"
-expect 'a byte more, checksum not mended' 'refused 20 at 0\n'
+expect 'a byte more, checksum not mended' 'refused 20 at 0 byte 586\n'
 head -c 585 samples/worked.eif >"$folder/input"
-expect 'a byte less' 'refused 7 at 2\n'
-head -c 547 samples/worked.eif | expect '547 bytes, by a pipe' 'refused 2 at 0\n'
+expect 'a byte less' 'refused 7 at 2 byte 44\n'
+head -c 547 samples/worked.eif | expect '547 bytes, by a pipe' 'refused 2 at 0 byte 0\n'
 for length in 32767 32768 32769 65536 65537 1000000; do
     zeros "$length"
-    expect "$length bytes" 'refused 3 at 0\n'
+    expect "$length bytes" 'refused 3 at 0 byte 0\n'
 done
 most=$(sed -n 's/^#define EIF_MAX_IMAGE_LENGTH //p' include/eif.h)
 longest "$most"
 expect 'the longest image' "eif 2 2\\n0 2 548 0\\n1 1 560 $((most - 572))\\n"
 longest $((most + 1))
-expect 'a byte more than the longest' 'refused 1 at 0\n'
+expect 'a byte more than the longest' 'refused 1 at 0 byte 0\n'
 for length in 3G 5G; do
     zeros "$length"
-    expect "a file of $length" 'refused 1 at 0\n'
+    expect "a file of $length" 'refused 1 at 0 byte 0\n'
 done

@@ -30,8 +30,14 @@ static void check(int holds, const char *what) {
     }
 }
 
+/* Every refusal of this kind here has index and position 0. */
 static int is(eif_answer answer, unsigned number, uint64_t length) {
-    return answer.number == number && answer.index == 0 && answer.length == length;
+    return answer.number == number && answer.index == 0 && answer.position == 0 &&
+           answer.length == length;
+}
+
+static int refused(eif_reading reading, unsigned number, uint64_t index, uint64_t position) {
+    return reading.number == number && reading.index == index && reading.position == position;
 }
 
 /* All bytes from begin up to end still have their first value. */
@@ -104,7 +110,7 @@ static void try_read(const uint8_t *image) {
     static const uint64_t offsets[3] = {548, 561, 574};
     static const uint64_t lengths[3] = {1, 1, 0};
     eif_reading reading = eif_read(image, IMAGE_LENGTH);
-    check(reading.number == EIF_ACCEPTED && reading.index == 0, "read");
+    check(refused(reading, EIF_ACCEPTED, 0, 0), "read");
     check(reading.version == 2 && reading.flags == 0, "version and flags");
     check(reading.default_mem == 0 && reading.default_cpus == 0, "default_mem and default_cpus");
     check(reading.count == 3, "count");
@@ -118,11 +124,51 @@ static void try_read(const uint8_t *image) {
         check(section.length.value == (i < 3 ? lengths[i] : 0), "length of a section");
     }
 
-    eif_reading refused = eif_read(image, 547);
-    check(refused.number == EIF_IMAGE_TOO_SHORT && refused.index == 0, "read, 547 bytes");
-    check(refused.version == 0 && refused.count == 0, "fields beside a refusal");
-    check(refused.ramdisk_mark == 0 && refused.ramdisk_count == 0, "ramdisks beside a refusal");
-    check(refused.first_ramdisk == EIF_NO_RAMDISK, "first ramdisk beside a refusal");
+    eif_reading cut = eif_read(image, 547);
+    check(refused(cut, EIF_IMAGE_TOO_SHORT, 0, 0), "read, 547 bytes");
+    check(cut.version == 0 && cut.count == 0, "fields beside a refusal");
+    check(cut.ramdisk_mark == 0 && cut.ramdisk_count == 0, "ramdisks beside a refusal");
+    check(cut.first_ramdisk == EIF_NO_RAMDISK, "first ramdisk beside a refusal");
+}
+
+/* A byte of the image changed: where the refusal says that it stands. */
+static void try_position(const uint8_t *image, size_t place, uint8_t value, unsigned number,
+                         uint64_t index, uint64_t position) {
+    uint8_t changed[IMAGE_LENGTH];
+    memcpy(changed, image, IMAGE_LENGTH);
+    changed[place] = value;
+    eif_reading reading = eif_read(changed, IMAGE_LENGTH);
+    check(refused(reading, number, index, position), "position of a refusal");
+    eif_arriving state = eif_arriving_begin();
+    state = eif_arriving_feed(state, changed, IMAGE_LENGTH, UINT64_MAX).state;
+    eif_arriving_finished end = eif_arriving_finish(state);
+    check(refused(end.reading, number, index, position), "position, arriving");
+    eif_answer roll = eif_roll_length(changed, IMAGE_LENGTH);
+    check(roll.number == number && roll.index == index && roll.position == position &&
+              roll.length == 0,
+          "position, handed on by a roll");
+    eif_answer copied = eif_copy_boot(changed, IMAGE_LENGTH, at(UINT64_MAX), NULL, 0);
+    check(copied.number == number && copied.position == position, "position, handed on by a stream");
+    eif_registers_answer registers = eif_registers(changed, IMAGE_LENGTH);
+    check(registers.number == number && registers.index == index &&
+              registers.position == position,
+          "position, handed on by registers");
+}
+
+/* The checksum is never mended: every rule here but 13 is judged before it. */
+static void try_positions(const uint8_t *image) {
+    try_position(image, 3, 'x', EIF_WRONG_MAGIC, 0, 0);
+    try_position(image, 5, 9, EIF_WRONG_VERSION, 0, 4);
+    try_position(image, 27, 1, EIF_WRONG_COUNT, 0, 26);
+    try_position(image, 43, 0, EIF_STARTS_EARLY, 1, 36);
+    try_position(image, 51, 255, EIF_NOT_PACKED, 2, 44);
+    try_position(image, 307, 9, EIF_ENDS_LATE, 2, 44);
+    try_position(image, 572, 9, EIF_SIZES_DIFFER, 1, 561);
+    try_position(image, 575, 9, EIF_TYPE_NOT_ALLOWED, 2, 574);
+    try_position(image, 549, 3, EIF_RAMDISK_BEFORE_KERNEL, 0, 548);
+    try_position(image, 575, 2, EIF_TYPE_REPEATED, 2, 574);
+    try_position(image, 562, 3, EIF_SECTION_MISSING, 0, 26);
+    try_position(image, 560, 0, EIF_CHECKSUM_DIFFERS, 0, 544);
 }
 
 /* A byte after the last section, and a gap of one byte before it. Checksums are not mended: 20 is judged
@@ -131,11 +177,11 @@ static void try_padded(const uint8_t *image) {
     uint8_t padded[IMAGE_LENGTH + 1] = {0};
     memcpy(padded, image, IMAGE_LENGTH);
     eif_reading tail = eif_read(padded, IMAGE_LENGTH + 1);
-    check(tail.number == EIF_NOT_PACKED && tail.index == 0, "read, a byte after the last section");
+    check(refused(tail, EIF_NOT_PACKED, 0, IMAGE_LENGTH), "read, a byte after the last section");
     memcpy(padded + 575, image + 574, IMAGE_LENGTH - 574);
     padded[51] = 575 % 256;
     eif_reading gap = eif_read(padded, IMAGE_LENGTH + 1);
-    check(gap.number == EIF_NOT_PACKED && gap.index == 2, "read, a gap before section 2");
+    check(refused(gap, EIF_NOT_PACKED, 2, 44), "read, a gap before section 2");
 }
 
 static int same_reading(const eif_reading *a, const eif_reading *b) {
@@ -167,8 +213,8 @@ static void try_arriving_end(const uint8_t *image) {
     eif_arriving_fed none = eif_arriving_feed(fed.state, image, IMAGE_LENGTH, 0);
     check(none.count == 0 && memcmp(&none.state, &fed.state, sizeof state) == 0, "allowance 0");
     eif_arriving_finished end = eif_arriving_finish(fed.state);
-    eif_reading refused = eif_read(image, 547);
-    check(same_reading(&end.reading, &refused), "547 bytes arrived");
+    eif_reading whole = eif_read(image, 547);
+    check(same_reading(&end.reading, &whole), "547 bytes arrived");
     check(end.state.ended == 1 && end.state.taken == 547, "end told");
     fed = eif_arriving_feed(end.state, image + 547, IMAGE_LENGTH - 547, UINT64_MAX);
     check(fed.count == 0 && memcmp(&fed.state, &end.state, sizeof state) == 0, "after the end");
@@ -263,7 +309,7 @@ static void try_roll(const uint8_t *image) {
     check(stays(out, ROLL_LENGTH, sizeof out), "output past the roll");
 
     eif_roll_reading reading = eif_roll_read(expected_roll, ROLL_LENGTH);
-    check(reading.number == EIF_ACCEPTED && reading.index == 0, "roll read");
+    check(reading.number == EIF_ACCEPTED && reading.index == 0 && reading.position == 0, "roll read");
     check(reading.count == 3, "roll's count");
     for (unsigned i = 0; i < EIF_MAX_SECTIONS; i++) {
         eif_roll_record record = reading.records[i];
@@ -273,7 +319,8 @@ static void try_roll(const uint8_t *image) {
     }
 
     eif_roll_reading cut = eif_roll_read(expected_roll, ROLL_LENGTH - 1);
-    check(cut.number == EIF_RECORD_CUT && cut.index == 3 && cut.count == 0, "roll cut");
+    check(cut.number == EIF_RECORD_CUT && cut.index == 3 && cut.position == 32 && cut.count == 0,
+          "roll cut");
 }
 
 /* Whether a digest begins with these 8 bytes. */
@@ -293,10 +340,10 @@ static void try_registers(const uint8_t *image) {
     check(begins(answer.registers[1], UINT64_C(0x9e7c220976a9e4a0)), "register 1");
     check(begins(answer.registers[2], UINT64_C(0x21b9efbc18480766)), "register 2");
 
-    eif_registers_answer refused = eif_registers(image, 547);
-    check(refused.number == EIF_IMAGE_TOO_SHORT && refused.index == 0, "registers, 547 bytes");
+    eif_registers_answer cut = eif_registers(image, 547);
+    check(cut.number == EIF_IMAGE_TOO_SHORT && cut.index == 0, "registers, 547 bytes");
     for (unsigned i = 0; i < EIF_REGISTERS; i++) {
-        check(memcmp(&refused.registers[i], &zeros, sizeof zeros) == 0, "registers beside a refusal");
+        check(memcmp(&cut.registers[i], &zeros, sizeof zeros) == 0, "registers beside a refusal");
     }
 }
 
@@ -320,9 +367,10 @@ static void try_sha384(void) {
     eif_sha384 full = first.state;
     full.total = EIF_MAX_MESSAGE_LENGTH - 2;
     check(eif_sha384_update(full, abc, 2).number == EIF_ACCEPTED, "a piece up to the limit");
-    eif_sha384_fed refused = eif_sha384_update(full, abc, 3);
-    check(refused.number == EIF_MESSAGE_TOO_LONG && refused.index == 0, "a piece past the limit");
-    check(memcmp(&refused.state, &full, sizeof full) == 0, "state beside a refusal");
+    eif_sha384_fed past = eif_sha384_update(full, abc, 3);
+    check(past.number == EIF_MESSAGE_TOO_LONG && past.index == 0 && past.position == 0,
+          "a piece past the limit");
+    check(memcmp(&past.state, &full, sizeof full) == 0, "state beside a refusal");
 }
 
 int main(void) {
@@ -330,6 +378,7 @@ int main(void) {
     expect_image(image);
     try_write(image);
     try_read(image);
+    try_positions(image);
     try_padded(image);
     try_arriving(image);
     try_arriving_end(image);

@@ -38,6 +38,7 @@ fn labelled(what: &[u8], n: u64) {
 fn refusal(r: Refusal) {
     labelled(b": refused ", r.number as u64);
     labelled(b" at ", r.index);
+    labelled(b" byte ", r.position);
 }
 
 fn accepted(reading: Reading) {

@@ -1,6 +1,6 @@
 -- The layout of an image: what the rules look at, and where it stands (FORMAT.md, The header and Sections).
 -- Assumes nothing.
-use Prim.Native.Nat.{ℕ, zero, suc, _+_, _*_}
+use Prim.Native.Nat.{ℕ, zero, suc, _+_, _*_, _%_}
 use mathlib.Core.List.{List}
 use lib.ListN.{length}
 use Rattle.octets.specs.Bytes.{field}
@@ -75,6 +75,10 @@ version v = v .header 2 versionAt
 abbrev pub headerFlags : View → ℕ
 headerFlags v = v .header 2 headerFlagsAt
 
+-- their lowest bit
+abbrev pub architecture : ℕ → ℕ
+architecture flags = flags % 2
+
 -- default_mem
 abbrev pub memory : View → ℕ
 memory v = v .header 8 memoryAt
@@ -142,6 +146,9 @@ viewOf s =
 
 abbrev pub versionOf : List ℕ → ℕ
 versionOf s = version (viewOf s)
+
+abbrev pub headerFlagsOf : List ℕ → ℕ
+headerFlagsOf s = headerFlags (viewOf s)
 
 abbrev pub countOf : List ℕ → ℕ
 countOf s = count (viewOf s)

@@ -1,51 +1,53 @@
 -- The order of the refusals that FORMAT.md gives for each call, as lists: every rule at every section or record that it judges.
 -- That each verdict is that of the first rule that applies is a law of its own. Assumes nothing.
-use Prim.Native.Nat.{ℕ, zero, suc, _+_}
+use Prim.Native.Nat.{ℕ, zero, suc, _+_, _*_}
 use mathlib.Core.Bool.{Bool, true, not}
 use mathlib.Core.List.{List, [], _∷_, _++_}
 use lib.Dec.{ltb, leb, eqb}
 use lib.ListN.{length}
+use Rattle.octets.specs.Bytes.{leField}
 use Rattle.eif.specs.Numbers.{sizeLimit, placeCount, oldestVersion, kernel, ramdisk, imageTooLong, imageTooShort, wrongMagic, wrongVersion, wrongCount, startsEarly, endsLate, sizesDiffer, typeNotAllowed, ramdiskBeforeKernel, typeRepeated, sectionMissing, checksumDiffers, notPacked, outputTooShort, dataLengthDiffers, recordCut, recordTypeWrong, bytesAfterEnd, pastStreamEnd}
 use Rattle.eif.specs.Logic.{both, either, choose}
-use Rattle.eif.specs.Answers.{refuse}
+use Rattle.eif.specs.Answers.{refuseAt}
 use Rattle.eif.specs.Rules.{versionKnown, countKnown, allowedIn, seen, missing}
-use Rattle.eif.specs.Layout.{magicNumber, headerSize, View, viewOf, magic, version, count, offset, size, checksum, end, start}
+use Rattle.eif.specs.Layout.{magicNumber, headerSize, versionAt, countAt, offsetsAt, checksumAt, View, viewOf, magic, version, count, offset, size, checksum, end, start}
 use Rattle.eif.specs.Reading.{hasTail, checksumOf}
 use Rattle.eif.specs.Plan.{plannedKind, plainSize, dataBefore}
 use Rattle.eif.specs.Stream.{streamOf, listedBytes}
-use Rattle.eif.specs.Roll.{recordHeadSize, recordAt, recordSize, recordKind, isEnd, imageSize, rollBytes}
+use Rattle.eif.specs.Roll.{recordHeadSize, flagsType, flagsLength, flagsRecordSize, restOf, recordAt, recordStart, recordSize, recordKind, isEnd, imageSize, rollBytes}
 use Rattle.eif.specs.declared.Plan.{Plan}
 use Rattle.eif.specs.declared.Stream.{Stream}
 use Rattle.eif.specs.declared.StreamSections.{StreamSections}
 use Rattle.eif.specs.declared.Verdict.{Verdict}
 use Rattle.eif.specs.declared.Verdict.the-variants.{Accepted}
 
--- whether a rule applies, its number, and the index that its refusal gives
+-- whether a rule applies, its number, and the index and the position that its refusal gives
 pub record Rule : Type 0 where
   pub applies : Bool
   pub number : ℕ
   pub index : ℕ
+  pub position : ℕ
 
-abbrev pub rule : Bool → ℕ → ℕ → Rule
-rule applies number index = record { applies = applies; number = number; index = index }
+abbrev pub rule : Bool → ℕ → ℕ → ℕ → Rule
+rule applies number index position = record { applies = applies; number = number; index = index; position = position }
 
 -- the refusal of the first rule that applies
 unfoldable pub firstThatApplies : List Rule → Verdict
 firstThatApplies [] = Accepted
-firstThatApplies (r ∷ rs) = choose (r .applies) (refuse (r .number) (r .index)) (firstThatApplies rs)
+firstThatApplies (r ∷ rs) = choose (r .applies) (refuseAt (r .number) (r .index) (r .position)) (firstThatApplies rs)
 
 -- ---- rules on section types, for image, plan and roll: types are given by a function from place to type
 
--- 10 and 11 at place i
-unfoldable pub orderRules : (ℕ → ℕ) → ℕ → List Rule
-orderRules kinds i =
-    rule (both (eqb (kinds i) ramdisk) (not (seen kinds kernel i))) ramdiskBeforeKernel i
-    ∷ rule (both (not (eqb (kinds i) ramdisk)) (seen kinds (kinds i) i)) typeRepeated i
+-- 10 and 11 at place i, whose refusals give an index and a position
+unfoldable pub orderRules : (ℕ → ℕ) → ℕ → ℕ → ℕ → List Rule
+orderRules kinds i index position =
+    rule (both (eqb (kinds i) ramdisk) (not (seen kinds kernel i))) ramdiskBeforeKernel index position
+    ∷ rule (both (not (eqb (kinds i) ramdisk)) (seen kinds (kinds i) i)) typeRepeated index position
     ∷ []
 
 -- 9, 10 and 11 at place i, in a version
-unfoldable pub typeRules : ℕ → (ℕ → ℕ) → ℕ → List Rule
-typeRules version kinds i = rule (not (allowedIn version (kinds i))) typeNotAllowed i ∷ orderRules kinds i
+unfoldable pub typeRules : ℕ → (ℕ → ℕ) → ℕ → ℕ → List Rule
+typeRules version kinds i position = rule (not (allowedIn version (kinds i))) typeNotAllowed i position ∷ orderRules kinds i i position
 
 -- the rules at n places from place i on
 unfoldable pub rulesFrom : (ℕ → List Rule) → ℕ → ℕ → List Rule
@@ -56,27 +58,27 @@ rulesFrom at (suc n) i = at i ++ rulesFrom at n (suc i)
 
 unfoldable pub headerRules : View → List Rule
 headerRules v =
-    rule (ltb sizeLimit (v .size)) imageTooLong 0
-    ∷ rule (ltb (v .size) headerSize) imageTooShort 0
-    ∷ rule (not (eqb (magic v) magicNumber)) wrongMagic 0
-    ∷ rule (not (versionKnown (version v))) wrongVersion 0
-    ∷ rule (not (countKnown (count v))) wrongCount 0
+    rule (ltb sizeLimit (v .size)) imageTooLong 0 0
+    ∷ rule (ltb (v .size) headerSize) imageTooShort 0 0
+    ∷ rule (not (eqb (magic v) magicNumber)) wrongMagic 0 0
+    ∷ rule (not (versionKnown (version v))) wrongVersion 0 versionAt
+    ∷ rule (not (countKnown (count v))) wrongCount 0 countAt
     ∷ []
 
 unfoldable pub sectionRules : View → ℕ → List Rule
 sectionRules v i =
-    rule (ltb (offset v i) (start v i)) startsEarly i
-    ∷ rule (not (eqb (offset v i) (start v i))) notPacked i
-    ∷ rule (ltb (v .size) (end v i)) endsLate i
-    ∷ rule (not (eqb (v .ownSize i) (size v i))) sizesDiffer i
-    ∷ typeRules (version v) (v .kind) i
+    rule (ltb (offset v i) (start v i)) startsEarly i (offsetsAt + 8 * i)
+    ∷ rule (not (eqb (offset v i) (start v i))) notPacked i (offsetsAt + 8 * i)
+    ∷ rule (ltb (v .size) (end v i)) endsLate i (offsetsAt + 8 * i)
+    ∷ rule (not (eqb (v .ownSize i) (size v i))) sizesDiffer i (offset v i)
+    ∷ typeRules (version v) (v .kind) i (offset v i)
 
 unfoldable pub viewRules : View → ℕ → List Rule
 viewRules v computed =
     headerRules v ++ (rulesFrom (sectionRules v) (count v) 0
-    ++ (rule (missing (v .kind) (version v) (count v)) sectionMissing 0
-    ∷ rule (hasTail v) notPacked 0
-    ∷ rule (not (eqb (checksum v) computed)) checksumDiffers 0
+    ++ (rule (missing (v .kind) (version v) (count v)) sectionMissing 0 countAt
+    ∷ rule (hasTail v) notPacked 0 (start v (count v))
+    ∷ rule (not (eqb (checksum v) computed)) checksumDiffers 0 checksumAt
     ∷ []))
 
 abbrev pub imageRules : List ℕ → List Rule
@@ -87,60 +89,68 @@ imageRules s = viewRules (viewOf s) (checksumOf s)
 -- on the plan alone, as for the length of its image
 unfoldable pub planRules : Plan → List Rule
 planRules p =
-    rule (not (versionKnown (p .version))) wrongVersion 0
-    ∷ rule (not (countKnown (p .count))) wrongCount 0
-    ∷ (rulesFrom (typeRules (p .version) (plannedKind (p .places))) (p .count) 0
-    ++ (rule (missing (plannedKind (p .places)) (p .version) (p .count)) sectionMissing 0
-    ∷ rule (ltb sizeLimit (plainSize p)) imageTooLong 0
+    rule (not (versionKnown (p .version))) wrongVersion 0 0
+    ∷ rule (not (countKnown (p .count))) wrongCount 0 0
+    ∷ (rulesFrom (λ i. typeRules (p .version) (plannedKind (p .places)) i 0) (p .count) 0
+    ++ (rule (missing (plannedKind (p .places)) (p .version) (p .count)) sectionMissing 0 0
+    ∷ rule (ltb sizeLimit (plainSize p)) imageTooLong 0 0
     ∷ []))
 
 -- with so many bytes of data and of room
 unfoldable pub writeRules : Plan → ℕ → ℕ → List Rule
 writeRules p given room =
     planRules p
-    ++ (rule (not (eqb given (dataBefore (p .places) (p .count)))) dataLengthDiffers 0
-    ∷ rule (ltb room (plainSize p)) outputTooShort 0
+    ++ (rule (not (eqb given (dataBefore (p .places) (p .count)))) dataLengthDiffers 0 0
+    ∷ rule (ltb room (plainSize p)) outputTooShort 0 0
     ∷ [])
 
 -- ---- copying from a stream, and writing a roll: the image's own, then 19 or 14
 
 unfoldable pub copyRules : List ℕ → Stream → ℕ → List Rule
-copyRules s stream from = imageRules s ++ (rule (ltb (length (streamOf s stream)) from) pastStreamEnd 0 ∷ [])
+copyRules s stream from = imageRules s ++ (rule (ltb (length (streamOf s stream)) from) pastStreamEnd 0 0 ∷ [])
 
 -- from sections already found there is no image to judge
 unfoldable pub copyListedRules : List ℕ → StreamSections → ℕ → List Rule
-copyListedRules s list from = rule (ltb (length (listedBytes s list)) from) pastStreamEnd 0 ∷ []
+copyListedRules s list from = rule (ltb (length (listedBytes s list)) from) pastStreamEnd 0 0 ∷ []
 
 unfoldable pub rollWriteRules : List ℕ → ℕ → List Rule
-rollWriteRules s room = imageRules s ++ (rule (ltb room (length (rollBytes s))) outputTooShort 0 ∷ [])
+rollWriteRules s room = imageRules s ++ (rule (ltb room (length (rollBytes s))) outputTooShort 0 0 ∷ [])
 
--- ---- reading a roll: per record 16, 17; stop at the end record; 5, 16, 10, 11. After the end record 18, 12, 1
+-- ---- reading a roll: of the flags record 16, 17, 16; then per record 16, 17; stop at the end record; 5, 16, 10, 11. After the end
+-- record 18, 12, 1. Record i of the rest is record i + 1 of the roll, and starts twelve bytes further on in it
+
+unfoldable pub flagsRules : List ℕ → List Rule
+flagsRules s =
+    rule (ltb (length s) recordHeadSize) recordCut 0 0
+    ∷ rule (either (not (eqb (leField 2 8 s) flagsType)) (not (eqb (leField 8 0 s) flagsLength))) recordTypeWrong 0 0
+    ∷ rule (ltb (length s) flagsRecordSize) recordCut 0 0
+    ∷ []
 
 unfoldable pub headRules : List ℕ → ℕ → List Rule
 headRules s i =
-    rule (ltb (length s) (recordAt s i + recordHeadSize)) recordCut i
-    ∷ rule (either (ltb ramdisk (recordKind s i)) (both (isEnd s i) (not (eqb (recordSize s i) 0)))) recordTypeWrong i
+    rule (ltb (length s) (recordAt s i + recordHeadSize)) recordCut (suc i) (recordStart s i)
+    ∷ rule (either (ltb ramdisk (recordKind s i)) (both (isEnd s i) (not (eqb (recordSize s i) 0)))) recordTypeWrong (suc i) (recordStart s i)
     ∷ []
 
 unfoldable pub bodyRules : List ℕ → ℕ → List Rule
 bodyRules s i =
-    rule (leb placeCount i) wrongCount 0
-    ∷ rule (ltb (length s) (recordAt s (suc i))) recordCut i
-    ∷ orderRules (recordKind s) i
+    rule (leb placeCount i) wrongCount 0 (recordStart s i)
+    ∷ rule (ltb (length s) (recordAt s (suc i))) recordCut (suc i) (recordStart s i)
+    ∷ orderRules (recordKind s) i (suc i) (recordStart s i)
 
 -- with the end record at place n
 unfoldable pub endRules : List ℕ → ℕ → List Rule
 endRules s n =
-    rule (ltb (recordAt s n + recordHeadSize) (length s)) bytesAfterEnd 0
-    ∷ rule (missing (recordKind s) oldestVersion n) sectionMissing 0
-    ∷ rule (ltb sizeLimit (imageSize s n)) imageTooLong 0
+    rule (ltb (recordAt s n + recordHeadSize) (length s)) bytesAfterEnd 0 (recordStart s n + recordHeadSize)
+    ∷ rule (missing (recordKind s) oldestVersion n) sectionMissing 0 0
+    ∷ rule (ltb sizeLimit (imageSize s n)) imageTooLong 0 0
     ∷ []
 
 -- from record i on, in at most n records
 unfoldable pub rollRulesFrom : List ℕ → ℕ → ℕ → List Rule
-rollRulesFrom s zero i = rule true wrongCount 0 ∷ []
+rollRulesFrom s zero i = rule true wrongCount 0 (recordStart s i) ∷ []
 rollRulesFrom s (suc n) i = headRules s i ++ choose (isEnd s i) (endRules s i) (bodyRules s i ++ rollRulesFrom s n (suc i))
 
--- at most 32 records and the end record
+-- the flags record, at most 32 records and the end record
 abbrev pub rollRules : List ℕ → List Rule
-rollRules s = rollRulesFrom s (suc placeCount) 0
+rollRules s = flagsRules s ++ rollRulesFrom (restOf s) (suc placeCount) 0

@@ -3,15 +3,15 @@
 use Prim.Native.Nat.{ℕ, suc, _+_, _*_}
 use mathlib.Core.Bool.{Bool, not}
 use mathlib.Core.List.{List, [], _∷_, _++_}
-use lib.Dec.{ltb, eqb}
+use lib.Dec.{ltb, leb, eqb}
 use lib.ListN.{replicate, take, drop}
 use Rattle.crc32.specs.Crc.{crc32}
 use Rattle.eif.specs.Numbers.{sizeLimit, placeCount, ramdisk, imageTooLong, imageTooShort, wrongMagic, wrongVersion, wrongCount, startsEarly, endsLate, sizesDiffer, typeNotAllowed, sectionMissing, checksumDiffers, notPacked}
-use Rattle.eif.specs.Logic.{choose}
-use Rattle.eif.specs.Answers.{refuse, andThen, wholeVerdict}
+use Rattle.eif.specs.Logic.{either, choose}
+use Rattle.eif.specs.Answers.{refuseAt, andThen, wholeAt, wholeVerdict}
 use Rattle.eif.specs.Rules.{versionKnown, countKnown, allowedIn, orderFault, missing, firstFault}
 use Rattle.eif.specs.Table.{filled}
-use Rattle.eif.specs.Layout.{magicNumber, headerSize, sectionHeaderSize, checksumAt, View, viewOf, magic, version, headerFlags, memory, cpus, count, offset, size, checksum, end, start}
+use Rattle.eif.specs.Layout.{magicNumber, headerSize, sectionHeaderSize, versionAt, countAt, offsetsAt, checksumAt, View, viewOf, magic, version, headerFlags, architecture, memory, cpus, count, offsetEntry, offset, size, checksum, end, start}
 use Rattle.eif.specs.declared.Section.{Section}
 use Rattle.eif.specs.declared.Reading.{Reading}
 use Rattle.eif.specs.declared.Verdict.{Verdict}
@@ -48,29 +48,52 @@ sectionRule v i =
 abbrev pub hasTail : View → Bool
 hasTail v = ltb (start v (count v)) (v .size)
 
--- 12, then 20 for bytes after the last section
-unfoldable pub fileRule : View → ℕ
-fileRule v =
-    choose (missing (v .kind) (version v) (count v)) sectionMissing
-    (choose (hasTail v) notPacked
-    0)
+-- 12
+unfoldable pub missingRule : View → ℕ
+missingRule v = choose (missing (v .kind) (version v) (count v)) sectionMissing 0
+
+-- 20, for bytes after the last section
+unfoldable pub tailRule : View → ℕ
+tailRule v = choose (hasTail v) notPacked 0
 
 -- 13, for the checksum that was computed
 unfoldable pub checksumRule : View → ℕ → ℕ
 checksumRule v computed = choose (not (eqb (checksum v) computed)) checksumDiffers 0
 
+-- ---- the positions
+
+-- where the field at fault stands, for 1 to 12 and for 20 at a section: 0 for 1, 2 and 3, the version for 4, the count for 5 and 12,
+-- the section's offset entry for 6, 7 and 20, the section's own header for 8 to 11
+unfoldable pub positionIn : (ℕ → ℕ → ℕ) → ℕ → ℕ → ℕ
+positionIn header number index =
+    choose (leb number wrongMagic) 0
+    (choose (eqb number wrongVersion) versionAt
+    (choose (either (eqb number wrongCount) (eqb number sectionMissing)) countAt
+    (choose (either (leb number endsLate) (eqb number notPacked)) (offsetsAt + 8 * index)
+    (offsetEntry header index))))
+
+-- a verdict with its position
+abbrev pub located : (ℕ → ℕ → ℕ) → Verdict → Verdict
+located header Accepted = Accepted
+located header (Refused r) = refuseAt (r .number) (r .index) (positionIn header (r .number) (r .index))
+
 -- ---- the verdict
 
--- by all rules but 13: the header, then the sections in ascending index up to the first that fails, then the file as a whole
+-- number and index by the rules 1 to 12, 20 where a section starts among them: the header, then the sections in ascending index
+-- up to the first that fails, then what is missing
 unfoldable pub judged : View → Verdict
 judged v =
     andThen (wholeVerdict (headerRule v))
     (andThen (firstFault (sectionRule v) (count v) 0)
-    (wholeVerdict (fileRule v)))
+    (wholeVerdict (missingRule v)))
+
+-- by all rules but 13: those with their positions, then bytes after the last section, of which the first is at fault
+unfoldable pub early : View → Verdict
+early v = andThen (located (v .header) (judged v)) (wholeAt (tailRule v) (start v (count v)))
 
 -- by all rules
 unfoldable pub verdictIn : View → ℕ → Verdict
-verdictIn v computed = andThen (judged v) (wholeVerdict (checksumRule v computed))
+verdictIn v computed = andThen (early v) (wholeAt (checksumRule v computed) checksumAt)
 
 -- the checksum over every byte of a file but 544 to 547, which are taken out
 unfoldable pub checksumOf : List ℕ → ℕ
@@ -139,6 +162,7 @@ blankReading verdict =
       verdict = verdict;
       version = 0;
       flags = 0;
+      architecture = 0;
       memory = 0;
       cpus = 0;
       count = 0;
@@ -153,6 +177,7 @@ readingOf v Accepted =
       verdict = Accepted;
       version = version v;
       flags = headerFlags v;
+      architecture = architecture (headerFlags v);
       memory = memory v;
       cpus = cpus v;
       count = count v;
@@ -162,12 +187,12 @@ readingOf v Accepted =
 
 -- by all rules but 13
 unfoldable pub readEarly : View → Reading
-readEarly v = readingOf v (judged v)
+readEarly v = readingOf v (early v)
 
 -- a reading by all rules but 13, and then by 13: the stored checksum against the one that was computed
 abbrev pub sealedFor : Verdict → Reading → ℕ → ℕ → Reading
 sealedFor (Refused r) reading stored computed = reading
-sealedFor Accepted reading stored computed = choose (eqb stored computed) reading (blankReading (refuse checksumDiffers 0))
+sealedFor Accepted reading stored computed = choose (eqb stored computed) reading (blankReading (refuseAt checksumDiffers 0 checksumAt))
 
 unfoldable pub sealed : Reading → ℕ → ℕ → Reading
 sealed reading stored computed = sealedFor (reading .verdict) reading stored computed

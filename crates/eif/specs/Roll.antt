@@ -5,14 +5,14 @@ use mathlib.Core.Bool.{Bool, not}
 use mathlib.Core.List.{List, [], _∷_, _++_}
 use mathlib.Core.Path.{_≡_}
 use lib.Dec.{ltb, leb, eqb}
-use lib.ListN.{length, replicate, take}
+use lib.ListN.{length, replicate, take, drop}
 use Rattle.octets.specs.Bytes.{leField, leBytes}
 use Rattle.eif.specs.Numbers.{sizeLimit, placeCount, oldestVersion, kernel, ramdisk, imageTooLong, wrongCount, sectionMissing, outputTooShort, recordCut, recordTypeWrong, bytesAfterEnd}
-use Rattle.eif.specs.Logic.{both, choose}
-use Rattle.eif.specs.Answers.{refuse, andThen}
+use Rattle.eif.specs.Logic.{both, either, choose}
+use Rattle.eif.specs.Answers.{refuse, refuseAt, andThen}
 use Rattle.eif.specs.Rules.{orderFault, missing}
 use Rattle.eif.specs.Table.{filled}
-use Rattle.eif.specs.Layout.{headerSize, sectionHeaderSize}
+use Rattle.eif.specs.Layout.{headerSize, sectionHeaderSize, headerFlagsOf}
 use Rattle.eif.specs.Reading.{sectionsOf, dataOf, verdictOf}
 use Rattle.eif.specs.Output.{outputFor}
 use Rattle.eif.specs.Plan.{writtenFor}
@@ -36,12 +36,25 @@ headOf size kind = leBytes 8 size ++ leBytes 2 kind
 abbrev pub endType : ℕ
 endType = 0
 
+-- the flags record, which is first: the header's flags, two bytes, little-endian
+abbrev pub flagsType : ℕ
+flagsType = 256
+
+abbrev pub flagsLength : ℕ
+flagsLength = 2
+
+abbrev pub flagsRecordSize : ℕ
+flagsRecordSize = 12
+
+unfoldable pub flagsRecord : ℕ → List ℕ
+flagsRecord flags = headOf flagsLength flagsType ++ leBytes flagsLength flags
+
 -- what a record holds: a type and the data
 pub record Record : Type 0 where
   pub kind : ℕ
   pub bytes : List ℕ
 
--- a record for each, and the end record
+-- what follows the flags record: a record for each, and the end record
 unfoldable pub rollOf : List Record → List ℕ
 rollOf [] = headOf 0 endType
 rollOf (r ∷ rs) = headOf (length (r .bytes)) (r .kind) ++ (r .bytes ++ rollOf rs)
@@ -66,13 +79,18 @@ abbrev pub recordsOf : List ℕ → List Record
 recordsOf s = recordsIn s (sectionsOf s)
 
 unfoldable pub rollBytes : List ℕ → List ℕ
-rollBytes s = rollOf (recordsOf s)
+rollBytes s = flagsRecord (headerFlagsOf s) ++ rollOf (recordsOf s)
 
--- ---- two words of FORMAT.md, The boot roll: same sections and beginning
+-- ---- words of FORMAT.md, The boot roll: same sections, same flags and beginning
 
 -- two images hold the same such sections: same types, lengths, bytes and order
 abbrev pub SameSections : List ℕ → List ℕ → Type 0
 SameSections s t = recordsOf s ≡ recordsOf t
+
+-- two images have the same flags and hold the same such sections
+pub record SameBoot (s t : List ℕ) : Type 0 where
+  pub flags : headerFlagsOf s ≡ headerFlagsOf t
+  pub sections : SameSections s t
 
 -- one roll is the beginning of another
 pub record Begins (x y : List ℕ) : Type 0 where
@@ -96,7 +114,24 @@ rollLength s = writtenFor (verdictOf s) (length (rollBytes s))
 unfoldable pub rollOutput : List ℕ → List ℕ → List ℕ
 rollOutput s d = outputFor (rollVerdict s (length d)) (rollBytes s) d
 
--- ---- reading: the records by their place
+-- ---- reading: the flags record
+
+-- its rules 16, 17 and 16, all at record 0; 0: none applies
+unfoldable pub flagsFault : List ℕ → ℕ
+flagsFault s =
+    choose (ltb (length s) recordHeadSize) recordCut
+    (choose (either (not (eqb (leField 2 8 s) flagsType)) (not (eqb (leField 8 0 s) flagsLength))) recordTypeWrong
+    (choose (ltb (length s) flagsRecordSize) recordCut
+    0))
+
+abbrev pub rollFlags : List ℕ → ℕ
+rollFlags s = leField flagsLength recordHeadSize s
+
+-- what follows it
+abbrev pub restOf : List ℕ → List ℕ
+restOf s = drop flagsRecordSize s
+
+-- ---- reading: the records of the rest, by their place in it
 
 -- where record i starts
 unfoldable pub recordAt : List ℕ → ℕ → ℕ
@@ -127,22 +162,18 @@ bodyFault s i =
     (choose (ltb (length s) (recordAt s (suc i))) recordCut
     (orderFault (recordKind s) (recordKind s i) i))
 
--- where the records end, or the refusal on the way
+-- the record where the records end, or the number of the refusal on the way and the record at which it stops
 pub data Ending : Type 0 where
   ended : ℕ → Ending
   stopped : ℕ → ℕ → Ending
 
--- a refusal at record i: 5 gives the index 0
-abbrev pub stop : ℕ → ℕ → Ending
-stop number i = stopped number (choose (eqb number wrongCount) 0 i)
-
 -- from record i on, in at most n records: a head, then the end, or what follows the head and the next record
 unfoldable pub endFrom : List ℕ → ℕ → ℕ → Ending
-endFrom s zero i = stopped wrongCount 0
+endFrom s zero i = stopped wrongCount i
 endFrom s (suc n) i =
     let rest = endFrom s n (suc i) in
-    let judged = choose (eqb (bodyFault s i) 0) rest (stop (bodyFault s i) i) in
-    choose (eqb (headFault s i) 0) (choose (isEnd s i) (ended i) judged) (stop (headFault s i) i)
+    let judged = choose (eqb (bodyFault s i) 0) rest (stopped (bodyFault s i) i) in
+    choose (eqb (headFault s i) 0) (choose (isEnd s i) (ended i) judged) (stopped (headFault s i) i)
 
 -- what the records before i would take in an image, with its header
 unfoldable pub imageSize : List ℕ → ℕ → ℕ
@@ -159,26 +190,44 @@ rollFault s n =
 
 -- ---- the answer
 
--- what a reading says of record i
+-- where record i of the rest starts in the roll
+abbrev pub recordStart : List ℕ → ℕ → ℕ
+recordStart s i = flagsRecordSize + recordAt s i
+
+-- a refusal at record i of the rest, whose index counts the flags record too: 5 gives the index 0; the position is the record's start
+abbrev pub stopVerdict : List ℕ → ℕ → ℕ → Verdict
+stopVerdict s number i = refuseAt number (choose (eqb number wrongCount) 0 (suc i)) (recordStart s i)
+
+-- a refusal of a roll whose end record is record n of the rest: 18 gives the first byte after it, 12 and 1 give 0
+abbrev pub endVerdict : List ℕ → ℕ → ℕ → Verdict
+endVerdict s number n = refuseAt number 0 (choose (eqb number bytesAfterEnd) (recordStart s n + recordHeadSize) 0)
+
+-- what a reading says of record i of the rest: the position counts from the roll's start
 abbrev pub listedAt : List ℕ → ℕ → RollRecord
-listedAt s i = record { kind = recordKind s i; position = record { 0 = recordAt s i + recordHeadSize }; length = record { 0 = recordSize s i } }
+listedAt s i = record { kind = recordKind s i; position = record { 0 = recordStart s i + recordHeadSize }; length = record { 0 = recordSize s i } }
 
 abbrev pub blankRecord : RollRecord
 blankRecord = record { kind = 0; position = record { 0 = 0 }; length = record { 0 = 0 } }
 
 abbrev pub refusedRoll : Verdict → RollReading
-refusedRoll verdict = record { verdict = verdict; count = 0; records = replicate placeCount blankRecord }
+refusedRoll verdict = record { verdict = verdict; flags = 0; count = 0; records = replicate placeCount blankRecord }
 
-abbrev pub acceptedRoll : ℕ → List RollRecord → RollReading
-acceptedRoll count records = record { verdict = Accepted; count = count; records = records }
+abbrev pub acceptedRoll : ℕ → ℕ → List RollRecord → RollReading
+acceptedRoll flags count records = record { verdict = Accepted; flags = flags; count = count; records = records }
 
-abbrev pub rollAnswerFor : List ℕ → Ending → RollReading
-rollAnswerFor s (stopped number index) = refusedRoll (refuse number index)
-rollAnswerFor s (ended n) =
+abbrev pub rollAnswerFor : ℕ → List ℕ → Ending → RollReading
+rollAnswerFor flags s (stopped number i) = refusedRoll (stopVerdict s number i)
+rollAnswerFor flags s (ended n) =
     choose (eqb (rollFault s n) 0)
-    (acceptedRoll n (filled (listedAt s) blankRecord placeCount n))
-    (refusedRoll (refuse (rollFault s n) 0))
+    (acceptedRoll flags n (filled (listedAt s) blankRecord placeCount n))
+    (refusedRoll (endVerdict s (rollFault s n) n))
 
--- at most 32 records and the end record
+-- the rest of a roll with these flags: at most 32 records and the end record
+unfoldable pub readRest : ℕ → List ℕ → RollReading
+readRest flags s = rollAnswerFor flags s (endFrom s (suc placeCount) 0)
+
+-- the flags record, then the rest
 unfoldable pub readRoll : List ℕ → RollReading
-readRoll s = rollAnswerFor s (endFrom s (suc placeCount) 0)
+readRoll s =
+    choose (eqb (flagsFault s) 0) (readRest (rollFlags s) (restOf s))
+    (refusedRoll (refuse (flagsFault s) 0))

@@ -1,14 +1,15 @@
--- The worked roll and its neighbours, R1 to R11 of FORMAT.md, The boot roll: one table, one claim for all rows.
+-- The worked roll and its neighbours, R1 to R11 of FORMAT.md, The boot roll, each behind a flags record, and neighbours of the flags
+-- record: one table, one claim for all rows.
 -- Assumes nothing.
-use Prim.Native.Nat.{ℕ, _-_}
+use Prim.Native.Nat.{ℕ, zero, suc, _+_, _-_}
 use mathlib.Core.Path.{_≡_, refl}
 use mathlib.Core.List.{List, [], _∷_, _++_, map}
 use lib.ListN.{length, replicate, take}
 use Rattle.octets.specs.Bytes.{leField}
 use Rattle.eif.specs.Numbers.{placeCount}
-use Rattle.eif.specs.Answers.{refuse}
+use Rattle.eif.specs.Answers.{refuseAt}
 use Rattle.eif.specs.Rules.{seen, orderFault, missing}
-use Rattle.eif.specs.Roll.{rollOf, headOf, readRoll, refusedRoll, acceptedRoll, blankRecord, endFrom, recordAt, headFault, bodyFault, imageSize, rollFault}
+use Rattle.eif.specs.Roll.{rollOf, headOf, flagsRecord, flagsFault, readRest, readRoll, refusedRoll, acceptedRoll, blankRecord, endFrom, recordAt, headFault, bodyFault, imageSize, rollFault}
 use Rattle.eif.specs.declared.RollRecord.{RollRecord}
 use Rattle.eif.specs.declared.RollReading.{RollReading}
 
@@ -17,6 +18,9 @@ pub record Row : Type 0 where
   pub answer : RollReading
 
 -- the records of the worked roll
+abbrev flags : List ℕ
+flags = flagsRecord 0
+
 abbrev kernelRecord : List ℕ
 kernelRecord = headOf 1 1 ++ (0x4b ∷ [])
 
@@ -29,23 +33,27 @@ ramdiskRecord = headOf 0 3
 abbrev endRecord : List ℕ
 endRecord = headOf 0 0
 
--- the 42 bytes that FORMAT.md prints
-abbrev pub worked : List ℕ
-worked =
+-- 42 bytes that FORMAT.md prints, which follow the flags record
+abbrev rest : List ℕ
+rest =
     0x01 ∷ 0x00 ∷ 0x00 ∷ 0x00 ∷ 0x00 ∷ 0x00 ∷ 0x00 ∷ 0x00 ∷ 0x01 ∷ 0x00 ∷ 0x4b
     ∷ 0x01 ∷ 0x00 ∷ 0x00 ∷ 0x00 ∷ 0x00 ∷ 0x00 ∷ 0x00 ∷ 0x00 ∷ 0x02 ∷ 0x00 ∷ 0x61
     ∷ 0x00 ∷ 0x00 ∷ 0x00 ∷ 0x00 ∷ 0x00 ∷ 0x00 ∷ 0x00 ∷ 0x00 ∷ 0x03 ∷ 0x00
     ∷ 0x00 ∷ 0x00 ∷ 0x00 ∷ 0x00 ∷ 0x00 ∷ 0x00 ∷ 0x00 ∷ 0x00 ∷ 0x00 ∷ 0x00 ∷ []
+
+-- with a flags record of no flag
+abbrev pub worked : List ℕ
+worked = 0x02 ∷ 0x00 ∷ 0x00 ∷ 0x00 ∷ 0x00 ∷ 0x00 ∷ 0x00 ∷ 0x00 ∷ 0x00 ∷ 0x01 ∷ 0x00 ∷ 0x00 ∷ rest
 
 -- type, data position and length of a record
 abbrev listed : ℕ → ℕ → ℕ → RollRecord
 listed kind position size = record { kind = kind; position = record { 0 = position }; length = record { 0 = size } }
 
 abbrev accepted : List RollRecord → RollReading
-accepted records = acceptedRoll (length records) (records ++ replicate (placeCount - length records) blankRecord)
+accepted records = acceptedRoll 0 (length records) (records ++ replicate (placeCount - length records) blankRecord)
 
-abbrev refused : ℕ → ℕ → RollReading
-refused number index = refusedRoll (refuse number index)
+abbrev refused : ℕ → ℕ → ℕ → RollReading
+refused number index position = refusedRoll (refuseAt number index position)
 
 abbrev row : List ℕ → RollReading → Row
 row roll answer = record { roll = roll; answer = answer }
@@ -54,24 +62,61 @@ row roll answer = record { roll = roll; answer = answer }
 -- command line exchanged; R7 ramdisk first; R8 kernel twice; R9 first type 4; R10 type 0 with length 1; R11 length of eight ff
 abbrev pub rows : List Row
 rows =
-    row [] (refused 16 0)
-    ∷ row (replicate 10 0) (refused 12 0)
-    ∷ row worked (accepted (listed 1 10 1 ∷ listed 2 21 1 ∷ listed 3 32 0 ∷ []))
-    ∷ row (take 41 worked) (refused 16 3)
-    ∷ row (worked ++ (0 ∷ [])) (refused 18 0)
-    ∷ row (commandLineRecord ++ kernelRecord ++ ramdiskRecord ++ endRecord) (accepted (listed 2 10 1 ∷ listed 1 21 1 ∷ listed 3 32 0 ∷ []))
-    ∷ row (ramdiskRecord ++ kernelRecord ++ commandLineRecord ++ endRecord) (refused 10 0)
-    ∷ row (kernelRecord ++ worked) (refused 11 1)
-    ∷ row (headOf 1 4 ++ (0x4b ∷ []) ++ commandLineRecord ++ ramdiskRecord ++ endRecord) (refused 17 0)
-    ∷ row (headOf 1 0 ++ (0x4b ∷ []) ++ commandLineRecord ++ ramdiskRecord ++ endRecord) (refused 17 0)
-    ∷ row (replicate 8 0xff ++ (1 ∷ 0 ∷ [])) (refused 16 0)
+    row flags (refused 16 1 12)
+    ∷ row (flags ++ replicate 10 0) (refused 12 0 0)
+    ∷ row worked (accepted (listed 1 22 1 ∷ listed 2 33 1 ∷ listed 3 44 0 ∷ []))
+    ∷ row (take 53 worked) (refused 16 4 44)
+    ∷ row (worked ++ (0 ∷ [])) (refused 18 0 54)
+    ∷ row (flags ++ commandLineRecord ++ kernelRecord ++ ramdiskRecord ++ endRecord) (accepted (listed 2 22 1 ∷ listed 1 33 1 ∷ listed 3 44 0 ∷ []))
+    ∷ row (flags ++ ramdiskRecord ++ kernelRecord ++ commandLineRecord ++ endRecord) (refused 10 1 12)
+    ∷ row (flags ++ kernelRecord ++ rest) (refused 11 2 23)
+    ∷ row (flags ++ headOf 1 4 ++ (0x4b ∷ []) ++ commandLineRecord ++ ramdiskRecord ++ endRecord) (refused 17 1 12)
+    ∷ row (flags ++ headOf 1 0 ++ (0x4b ∷ []) ++ commandLineRecord ++ ramdiskRecord ++ endRecord) (refused 17 1 12)
+    ∷ row (flags ++ replicate 8 0xff ++ (1 ∷ 0 ∷ [])) (refused 16 1 12)
     ∷ []
 
-pub rows-hold : map (λ (r : Row). readRoll (r .roll)) rows ≡ map (λ (r : Row). r .answer) rows
-unfolding headOf readRoll endFrom recordAt leField seen orderFault missing headFault bodyFault imageSize rollFault
+-- a flags record, kernel, command line and thirty empty ramdisks; and what is listed of these ramdisks
+abbrev repeated : ℕ → List ℕ → List ℕ
+repeated zero x = []
+repeated (suc n) x = x ++ repeated n x
+
+abbrev full : List ℕ
+full = flags ++ kernelRecord ++ commandLineRecord ++ repeated 30 ramdiskRecord
+
+abbrev ramdisksFrom : ℕ → ℕ → List RollRecord
+ramdisksFrom zero at = []
+ramdisksFrom (suc n) at = listed 3 at 0 ∷ ramdisksFrom n (at + 10)
+
+-- no bytes; nine bytes of a flags record; no flags record; the end record first; a flags record of length 3; of length 3 and cut; its data
+-- cut by one byte; a second flags record; every flag set; the lower byte first; 32 records behind it, and one more
+abbrev pub flagsRows : List Row
+flagsRows =
+    row [] (refused 16 0 0)
+    ∷ row (take 9 worked) (refused 16 0 0)
+    ∷ row rest (refused 17 0 0)
+    ∷ row (replicate 10 0) (refused 17 0 0)
+    ∷ row (headOf 3 256 ++ (0 ∷ 0 ∷ 0 ∷ []) ++ rest) (refused 17 0 0)
+    ∷ row (headOf 3 256) (refused 17 0 0)
+    ∷ row (take 11 worked) (refused 16 0 0)
+    ∷ row (flags ++ worked) (refused 17 1 12)
+    ∷ row (flagsRecord 0xffff ++ kernelRecord ++ commandLineRecord ++ endRecord)
+    (acceptedRoll 0xffff 2 (listed 1 22 1 ∷ listed 2 33 1 ∷ replicate 30 blankRecord))
+    ∷ row (headOf 2 256 ++ (0x01 ∷ 0x02 ∷ []) ++ kernelRecord ++ commandLineRecord ++ endRecord)
+    (acceptedRoll 0x0201 2 (listed 1 22 1 ∷ listed 2 33 1 ∷ replicate 30 blankRecord))
+    ∷ row (full ++ endRecord) (acceptedRoll 0 32 (listed 1 22 1 ∷ listed 2 33 1 ∷ ramdisksFrom 30 44))
+    ∷ row (full ++ ramdiskRecord ++ endRecord) (refused 5 0 334)
+    ∷ []
+
+pub rows-hold : map (λ (r : Row). readRoll (r .roll)) (rows ++ flagsRows) ≡ map (λ (r : Row). r .answer) (rows ++ flagsRows)
+unfolding headOf flagsRecord flagsFault readRest readRoll endFrom recordAt leField seen orderFault missing headFault bodyFault imageSize rollFault
 rows-hold = refl
 
--- the worked roll is that of a kernel 4b, a command line 61 and an empty ramdisk
-pub worked-is : rollOf (record { kind = 1; bytes = 0x4b ∷ [] } ∷ record { kind = 2; bytes = 0x61 ∷ [] } ∷ record { kind = 3; bytes = [] } ∷ []) ≡ worked
-unfolding rollOf headOf
+-- the worked roll is that of no flag, a kernel 4b, a command line 61 and an empty ramdisk
+pub worked-is : flagsRecord 0 ++ rollOf (record { kind = 1; bytes = 0x4b ∷ [] } ∷ record { kind = 2; bytes = 0x61 ∷ [] } ∷ record { kind = 3; bytes = [] } ∷ []) ≡ worked
+unfolding flagsRecord rollOf headOf
 worked-is = refl
+
+-- the lower byte of the flags comes first
+pub flags-bytes : flagsRecord 0x0201 ≡ headOf 2 256 ++ (0x01 ∷ 0x02 ∷ [])
+unfolding flagsRecord
+flags-bytes = refl

@@ -4,22 +4,24 @@
 use Prim.Native.Nat.{ℕ}
 use mathlib.Core.Path.{_≡_, refl}
 use mathlib.Core.List.{List, [], _∷_, _++_, map}
-use lib.ListN.{length, replicate}
+use lib.ListN.{length, replicate, take}
 use Rattle.octets.specs.Bytes.{beValue, field}
+use Rattle.octets.specs.Over.{over}
 use Rattle.crc32.specs.Crc.{crc32, crcFrom, shiftBits, shiftBit}
 use Rattle.eif.specs.Numbers.{kernel, commandLine, ramdisk, signature, sectionMissing, notPacked}
-use Rattle.eif.specs.Rules.{allowedIn, seen, orderFault, missing, firstFault}
-use Rattle.eif.specs.Answers.{refuse}
+use Rattle.eif.specs.Rules.{allowedIn, seen, orderFault, typeFault, missing, firstFault}
+use Rattle.eif.specs.Answers.{refuse, refuseAt}
 use Rattle.eif.specs.Layout.{offsetAt}
-use Rattle.eif.specs.Reading.{headerRule, entryRule, sectionRule, fileRule, checksumRule, judged, verdictIn, checksumOf, verdictOf, blankSection, sectionsOf}
-use Rattle.eif.specs.Plan.{blankPlace, packedAt, dataBefore, fixedFields, offsetTable, sizeTable, headerBytes, sectionHeader, sectionBytes, plainImage}
-use Rattle.eif.specs.Roll.{headOf, rollOf, recordsIn, rollBytes}
+use Rattle.eif.specs.Reading.{headerRule, entryRule, sectionRule, missingRule, tailRule, checksumRule, positionIn, judged, early, verdictIn, checksumOf, verdictOf, blankSection, sectionsOf}
+use Rattle.eif.specs.Plan.{blankPlace, fieldFault, planFault, planVerdict, packedAt, dataBefore, fixedFields, offsetTable, sizeTable, headerBytes, sectionHeader, sectionBytes, plainImage}
+use Rattle.eif.specs.Roll.{headOf, flagsRecord, rollOf, recordsIn, rollBytes}
 use Rattle.eif.specs.Stream.{keeps, kept, streamSections}
 use Rattle.eif.specs.Rows.{worked}
 use Rattle.eif.specs.declared.Place.{Place}
 use Rattle.eif.specs.declared.Plan.{Plan}
 use Rattle.eif.specs.declared.Section.{Section}
 use Rattle.eif.specs.declared.Stream.the-variants.{Whole, Boot, App}
+use Rattle.eif.specs.declared.Verdict.{Verdict}
 use Rattle.eif.specs.declared.Verdict.the-variants.{Accepted}
 
 abbrev place : ℕ → ℕ → Place
@@ -52,13 +54,13 @@ unfolding checksumOf crc32 crcFrom shiftBits shiftBit plainImage headerBytes fix
 worked-checksum = refl
 
 pub worked-accepted : verdictOf workedImage ≡ Accepted
-unfolding verdictIn judged headerRule firstFault sectionRule entryRule allowedIn orderFault seen fileRule missing checksumRule field beValue checksumOf crc32 crcFrom shiftBits shiftBit plainImage headerBytes fixedFields offsetTable sizeTable packedAt sectionBytes sectionHeader dataBefore
+unfolding verdictIn early judged headerRule firstFault sectionRule entryRule allowedIn orderFault seen missingRule tailRule missing checksumRule field beValue checksumOf crc32 crcFrom shiftBits shiftBit plainImage headerBytes fixedFields offsetTable sizeTable packedAt sectionBytes sectionHeader dataBefore
 worked-accepted = refl
 
 -- a byte after the last section is told after 12 and before 13
 
-pub tail-before-checksum : verdictOf (workedImage ++ 0 ∷ []) ≡ refuse notPacked 0
-unfolding verdictIn judged headerRule firstFault sectionRule entryRule allowedIn orderFault seen fileRule missing checksumRule field beValue checksumOf crc32 crcFrom shiftBits shiftBit plainImage headerBytes fixedFields offsetTable sizeTable packedAt sectionBytes sectionHeader dataBefore
+pub tail-before-checksum : verdictOf (workedImage ++ 0 ∷ []) ≡ refuseAt notPacked 0 586
+unfolding verdictIn early judged headerRule firstFault sectionRule entryRule allowedIn orderFault seen missingRule tailRule missing checksumRule field beValue checksumOf crc32 crcFrom shiftBits shiftBit plainImage headerBytes fixedFields offsetTable sizeTable packedAt sectionBytes sectionHeader dataBefore
 tail-before-checksum = refl
 
 -- version 3 with a kernel and a signature, and no command line
@@ -73,9 +75,49 @@ incomplete =
       places = place kernel 1 ∷ place signature 1 ∷ replicate 30 blankPlace;
     }
 
-pub missing-before-tail : verdictOf (plainImage incomplete (0x4b ∷ 0x61 ∷ []) ++ 0 ∷ []) ≡ refuse sectionMissing 0
-unfolding verdictIn judged headerRule firstFault sectionRule entryRule allowedIn orderFault seen fileRule missing checksumRule field beValue checksumOf crc32 crcFrom shiftBits shiftBit plainImage headerBytes fixedFields offsetTable sizeTable packedAt sectionBytes sectionHeader dataBefore
+pub missing-before-tail : verdictOf (plainImage incomplete (0x4b ∷ 0x61 ∷ []) ++ 0 ∷ []) ≡ refuseAt sectionMissing 0 26
+unfolding verdictIn early judged positionIn headerRule firstFault sectionRule entryRule allowedIn orderFault seen missingRule tailRule missing checksumRule field beValue checksumOf crc32 crcFrom shiftBits shiftBit plainImage headerBytes fixedFields offsetTable sizeTable packedAt sectionBytes sectionHeader dataBefore
 missing-before-tail = refl
+
+-- the plan alone is at fault, and a plan has no position
+pub incomplete-plan : planVerdict incomplete 2 ≡ refuse sectionMissing 0
+unfolding planVerdict fieldFault firstFault typeFault allowedIn orderFault seen planFault missing
+incomplete-plan = refl
+
+-- ---- what is refused, and where: some bytes of the image are others, from a position on
+
+pub record RefusedImage : Type 0 where
+  pub image : List ℕ
+  pub verdict : Verdict
+
+abbrev refused : List ℕ → Verdict → RefusedImage
+refused image verdict = record { image = image; verdict = verdict }
+
+abbrev changed : ℕ → List ℕ → Verdict → RefusedImage
+changed at bytes verdict = refused (over workedImage at bytes) verdict
+
+-- 2 to 5; 6 and 20 at section 1, 7 at section 2; 8, 9 at section 1, 10 at section 0, 11 at section 2; 12, 20, 13
+abbrev pub refusals : List RefusedImage
+refusals =
+    refused (take 547 workedImage) (refuseAt 2 0 0)
+    ∷ changed 3 (0x67 ∷ []) (refuseAt 3 0 0)
+    ∷ changed 5 (5 ∷ []) (refuseAt 4 0 4)
+    ∷ changed 27 (33 ∷ []) (refuseAt 5 0 26)
+    ∷ changed 42 (2 ∷ 0x30 ∷ []) (refuseAt 6 1 36)
+    ∷ changed 42 (2 ∷ 0x32 ∷ []) (refuseAt 20 1 36)
+    ∷ changed 307 (1 ∷ []) (refuseAt 7 2 44)
+    ∷ changed 572 (2 ∷ []) (refuseAt 8 1 561)
+    ∷ changed 562 (6 ∷ []) (refuseAt 9 1 561)
+    ∷ changed 549 (3 ∷ []) (refuseAt 10 0 548)
+    ∷ changed 575 (1 ∷ []) (refuseAt 11 2 574)
+    ∷ changed 562 (3 ∷ []) (refuseAt 12 0 26)
+    ∷ refused (workedImage ++ 0 ∷ []) (refuseAt 20 0 586)
+    ∷ changed 547 (0 ∷ []) (refuseAt 13 0 544)
+    ∷ []
+
+pub refusals-hold : map (λ (r : RefusedImage). verdictOf (r .image)) refusals ≡ map (λ (r : RefusedImage). r .verdict) refusals
+unfolding over verdictIn early judged positionIn headerRule firstFault sectionRule entryRule allowedIn orderFault seen missingRule tailRule missing checksumRule field beValue checksumOf crc32 crcFrom shiftBits shiftBit plainImage headerBytes fixedFields offsetTable sizeTable packedAt sectionBytes sectionHeader dataBefore
+refusals-hold = refl
 
 abbrev read : ℕ → ℕ → ℕ → Section
 read kind position size = record { kind = kind; flags = 0; position = record { 0 = position }; length = record { 0 = size } }
@@ -85,7 +127,7 @@ unfolding field beValue plainImage headerBytes fixedFields offsetTable sizeTable
 worked-sections = refl
 
 pub worked-roll : rollBytes workedImage ≡ worked
-unfolding rollBytes rollOf headOf recordsIn field beValue crc32 crcFrom shiftBits shiftBit plainImage headerBytes fixedFields offsetTable sizeTable packedAt sectionBytes sectionHeader dataBefore
+unfolding rollBytes flagsRecord rollOf headOf recordsIn field beValue crc32 crcFrom shiftBits shiftBit plainImage headerBytes fixedFields offsetTable sizeTable packedAt sectionBytes sectionHeader dataBefore
 worked-roll = refl
 
 -- ---- streams in file order: of kernel, two ramdisks and then the command line

@@ -1,7 +1,7 @@
 // The Enclave Image File: its vocabulary. The definitions that all contracts cite stand in specs/; docs/FORMAT.md has the same
 // rules in words. Nothing here computes but the section type's own test of which version may hold it.
 ghost use mathlib.Core.Path.{_≡_};
-ghost use Rattle.eif.specs.Answers.{refuse};
+ghost use Rattle.eif.specs.Answers.{refuse, refuseAt};
 ghost use Rattle.eif.specs.Rules.{allowedIn};
 
 // ---- limits
@@ -82,6 +82,17 @@ impl RecordHead {
     pub const END_TYPE: u16 = 0;
 }
 
+// The flags record, a boot roll's first: its type, the length of its data, and its size.
+pub struct FlagsRecord;
+
+impl FlagsRecord {
+    pub const TYPE: u16 = 256;
+
+    pub const LENGTH: u64 = 2;
+
+    pub const SIZE: usize = 12;
+}
+
 // ---- numbers that must not be mixed up
 
 // A position in the file, in a stream and in a boot roll, and a length of data.
@@ -131,11 +142,12 @@ impl SectionType {
 
 // ---- answers
 
-// Why something is refused: the answer number, and the index of the section or record that it is about, else 0
-// (FORMAT.md, Answer numbers).
+// Why something is refused: the answer number, the index of the section or record that it is about, else 0, and where in the
+// file or the roll the field at fault stands, else 0 (FORMAT.md, Answer numbers).
 pub struct Refusal {
     pub number: u8,
     pub index: u64,
+    pub position: u64,
 }
 
 // The answer numbers.
@@ -205,10 +217,21 @@ pub enum Verdict {
 }
 
 impl Verdict {
+    // A refusal that is about no one place.
     pub fn refuse(number: u8, index: u64) -> Verdict
         ensures { λ r. ⌜ r ≡ refuse number index ⌝ }
     {
-        Verdict::Refused(Refusal { number, index })
+        Verdict::refuse_at(number, index, 0)
+    }
+
+    pub fn refuse_at(number: u8, index: u64, position: u64) -> Verdict
+        ensures { λ r. ⌜ r ≡ refuseAt number index position ⌝ }
+    {
+        Verdict::Refused(Refusal {
+            number,
+            index,
+            position,
+        })
     }
 }
 
@@ -223,12 +246,13 @@ pub struct Section {
     pub length: DataLength,
 }
 
-// `memory` and `cpus` are the header's default_mem and default_cpus; `ramdisks` is the ramdisk mark, a term of FORMAT.md: its
-// bit i is one exactly when section i is a ramdisk.
+// `architecture` is the lowest bit of the flags; `memory` and `cpus` are the header's default_mem and default_cpus; `ramdisks` is the
+// ramdisk mark, a term of FORMAT.md: its bit i is one exactly when section i is a ramdisk.
 pub struct Reading {
     pub verdict: Verdict,
     pub version: u16,
     pub flags: u16,
+    pub architecture: u16,
     pub memory: u64,
     pub cpus: u64,
     pub count: u16,
@@ -300,8 +324,10 @@ pub struct RollRecord {
     pub length: DataLength,
 }
 
+// `flags` are those of the flags record, which the list leaves out.
 pub struct RollReading {
     pub verdict: Verdict,
+    pub flags: u16,
     pub count: u64,
     pub records: [RollRecord; PLACES],
 }

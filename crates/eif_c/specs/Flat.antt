@@ -1,11 +1,11 @@
--- The flat answers that C sees: the number and index of a verdict (FORMAT.md, Answer numbers), and all else as it is. What is
--- computed from the ramdisk mark follows it: beside a refusal the mark is 0 and the first ramdisk 32.
+-- The flat answers that C sees: the number, index and position of a verdict (FORMAT.md, Answer numbers), and all else as it is.
+-- What is computed from the ramdisk mark follows it: beside a refusal the mark is 0 and the first ramdisk 32.
 -- Assumes nothing.
 use Prim.Native.Nat.{ℕ}
 use mathlib.Core.List.{map}
 use lib.Count.{ones, trailingZeros}
 use lib.ListN.{replicate}
-use Rattle.eif.specs.Answers.{numberOf, indexOf}
+use Rattle.eif.specs.Answers.{numberOf, indexOf, positionOf}
 use Rattle.eif.specs.declared.Section.{Section}
 use Rattle.eif.specs.declared.Reading.{Reading}
 use Rattle.eif.specs.declared.Written.{Written}
@@ -33,18 +33,20 @@ flatReading r =
       flags = r .flags;
       count = r .count;
       index = indexOf (r .verdict);
+      position = positionOf (r .verdict);
       memory = r .memory;
       cpus = r .cpus;
       ramdisks = r .ramdisks;
       «ramdisk_count» = ones (r .ramdisks);
       «first_ramdisk» = trailingZeros 32 (r .ramdisks);
+      architecture = r .architecture;
       «reserved_after» = 0;
       sections = map flatSection (r .sections);
     }
 
 abbrev pub flat : Verdict → ℕ → EifAnswer
 flat verdict length =
-    record { number = numberOf verdict; reserved = replicate 7 0; index = indexOf verdict; length = length }
+    record { number = numberOf verdict; reserved = replicate 7 0; index = indexOf verdict; position = positionOf verdict; length = length }
 
 abbrev pub flatWritten : Written → EifAnswer
 flatWritten w = flat (w .verdict) (w .length)
@@ -62,8 +64,11 @@ abbrev pub flatRollReading : RollReading → EifRollReading
 flatRollReading r =
     record {
       number = numberOf (r .verdict);
-      reserved = replicate 7 0;
+      reserved = 0;
+      flags = r .flags;
+      «reserved_after» = 0;
       index = indexOf (r .verdict);
+      position = positionOf (r .verdict);
       count = r .count;
       records = map flatRecord (r .records);
     }

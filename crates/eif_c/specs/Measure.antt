@@ -3,7 +3,7 @@
 use Prim.Native.Nat.{ℕ}
 use mathlib.Core.List.{List}
 use lib.ListN.{replicate}
-use Rattle.eif.specs.Answers.{numberOf, indexOf}
+use Rattle.eif.specs.Answers.{numberOf, indexOf, positionOf}
 use Rattle.sha384.specs.declared.Updated.{Updated}
 use Rattle.eif_registers.specs.declared.Digest.{Digest}
 use Rattle.eif_registers.specs.declared.Measurement.{Measurement}
@@ -12,11 +12,11 @@ use Rattle.eif_c.specs.declared.measure.EifRegisters.{EifRegisters}
 
 abbrev pub flatFed : Updated → EifSha384Fed
 flatFed u =
-    record { number = numberOf (u .verdict); reserved = replicate 7 0; index = indexOf (u .verdict); state = u .state }
+    record { number = numberOf (u .verdict); reserved = replicate 7 0; index = indexOf (u .verdict); position = positionOf (u .verdict); state = u .state }
 
 abbrev pub flatDigest : List ℕ → Digest
 flatDigest bytes = record { 0 = bytes }
 
 abbrev pub flatRegisters : Measurement → EifRegisters
 flatRegisters m =
-    record { number = numberOf (m .verdict); reserved = replicate 7 0; index = indexOf (m .verdict); registers = m .registers }
+    record { number = numberOf (m .verdict); reserved = replicate 7 0; index = indexOf (m .verdict); position = positionOf (m .verdict); registers = m .registers }

@@ -1,5 +1,5 @@
-// The library's calls for programs in C and Rust: answers are flat structs with the answer number (0: accepted) and its index
-// instead of a verdict. A slice is a pointer and a length. include/eif.h declares these functions to C.
+// The library's calls for programs in C and Rust: answers are flat structs with the answer number (0: accepted), its index and its
+// position instead of a verdict. A slice is a pointer and a length. include/eif.h declares these functions to C.
 //
 // The digest and the registers stand in measure.rt, the reader of an image that arrives in pieces in arrival.rt.
 mod arrival;
@@ -9,7 +9,7 @@ mod sections;
 ghost use mathlib.Core.Path.{_≡_};
 ghost use mathlib.Core.List.{map};
 ghost use lib.ListN.{length};
-ghost use Rattle.eif.specs.Answers.{numberOf, indexOf};
+ghost use Rattle.eif.specs.Answers.{numberOf, indexOf, positionOf};
 ghost use Rattle.eif.specs.Reading.{readImage};
 ghost use Rattle.eif.specs.Plan.{writeAnswer, writeOutput, planLength};
 ghost use Rattle.eif.specs.Stream.{copyAnswer, copyOutput, lengthAnswer};
@@ -49,12 +49,14 @@ pub struct EifReading {
     pub flags: u16,
     pub count: u16,
     pub index: u64,
+    pub position: u64,
     pub memory: u64,
     pub cpus: u64,
     pub ramdisks: u32,
     pub ramdisk_count: u32,
     pub first_ramdisk: u32,
-    pub reserved_after: u32,
+    pub architecture: u16,
+    pub reserved_after: u16,
     pub sections: [EifSection; PLACES],
 }
 
@@ -64,6 +66,7 @@ pub struct EifAnswer {
     pub number: u8,
     pub reserved: [u8; 7],
     pub index: u64,
+    pub position: u64,
     pub length: u64,
 }
 
@@ -79,13 +82,16 @@ pub struct EifRollRecord {
 #[repr(C)]
 pub struct EifRollReading {
     pub number: u8,
-    pub reserved: [u8; 7],
+    pub reserved: u8,
+    pub flags: u16,
+    pub reserved_after: u32,
     pub index: u64,
+    pub position: u64,
     pub count: u64,
     pub records: [EifRollRecord; PLACES],
 }
 
-// ---- a verdict's number and index
+// ---- a verdict's number, index and position
 
 fn number_of(verdict: Verdict) -> u8
     ensures { λ r. ⌜ r ≡ numberOf verdict ⌝ }
@@ -105,6 +111,15 @@ fn index_of(verdict: Verdict) -> u64
     }
 }
 
+fn position_of(verdict: Verdict) -> u64
+    ensures { λ r. ⌜ r ≡ positionOf verdict ⌝ }
+{
+    match verdict {
+        Verdict::Accepted => 0,
+        Verdict::Refused(r) => r.position,
+    }
+}
+
 fn answer(verdict: Verdict, length: u64) -> EifAnswer
     ensures { λ r. ⌜ r ≡ flat verdict length ⌝ }
 {
@@ -112,6 +127,7 @@ fn answer(verdict: Verdict, length: u64) -> EifAnswer
         number: number_of(verdict),
         reserved: [0u8; 7],
         index: index_of(verdict),
+        position: position_of(verdict),
         length,
     }
 }
@@ -196,11 +212,13 @@ fn flat_reading(reading: Reading) -> EifReading
         flags: reading.flags,
         count: reading.count,
         index: index_of(verdict),
+        position: position_of(verdict),
         memory: reading.memory,
         cpus: reading.cpus,
         ramdisks: reading.ramdisks,
         ramdisk_count: eif_judge::ramdisk_count(reading),
         first_ramdisk: eif_judge::first_ramdisk(reading),
+        architecture: reading.architecture,
         reserved_after: 0,
         sections: flat_sections(sections),
     }
@@ -323,8 +341,11 @@ pub extern "C" fn eif_roll_read(roll: &[u8]) -> EifRollReading
     let records = reading.records;
     EifRollReading {
         number: number_of(verdict),
-        reserved: [0u8; 7],
+        reserved: 0,
+        flags: reading.flags,
+        reserved_after: 0,
         index: index_of(verdict),
+        position: position_of(verdict),
         count: reading.count,
         records: flat_records(records),
     }

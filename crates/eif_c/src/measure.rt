@@ -12,6 +12,7 @@ pub struct EifSha384Fed {
     pub number: u8,
     pub reserved: [u8; 7],
     pub index: u64,
+    pub position: u64,
     pub state: State,
 }
 
@@ -21,6 +22,7 @@ pub struct EifRegisters {
     pub number: u8,
     pub reserved: [u8; 7],
     pub index: u64,
+    pub position: u64,
     pub registers: [Digest; 3],
 }
 
@@ -43,6 +45,7 @@ pub extern "C" fn eif_sha384_update(state: State, piece: &[u8]) -> EifSha384Fed
         number: crate::number_of(verdict),
         reserved: [0u8; 7],
         index: crate::index_of(verdict),
+        position: crate::position_of(verdict),
         state: after,
     }
 }
@@ -66,6 +69,7 @@ pub extern "C" fn eif_registers(image: &[u8]) -> EifRegisters
         number: crate::number_of(verdict),
         reserved: [0u8; 7],
         index: crate::index_of(verdict),
+        position: crate::position_of(verdict),
         registers,
     }
 }

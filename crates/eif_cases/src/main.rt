@@ -108,6 +108,8 @@ fn refusal(r: Refusal) {
     number(r.number as u64);
     text(b" at ");
     number(r.index);
+    text(b" byte ");
+    number(r.position);
 }
 
 fn field(name: &[u8], n: u64) {
@@ -118,6 +120,7 @@ fn field(name: &[u8], n: u64) {
 fn fields(reading: Reading) {
     field(b"version ", reading.version as u64);
     field(b" flags ", reading.flags as u64);
+    field(b" architecture ", reading.architecture as u64);
     field(b" memory ", reading.memory);
     field(b" cpus ", reading.cpus);
     field(b" count ", reading.count as u64);
@@ -311,6 +314,7 @@ fn of_the_rules() {
     one_off(b"checksum one off");
     zeros_counted(b"checksum over its field as zeros");
     paired(b"command line before the kernel", 2, 2, 1);
+    small(b"flags 65534", two(6, 65534), nothing());
     gap(b"a gap of one byte");
     tail(b"one byte after the last section");
 }

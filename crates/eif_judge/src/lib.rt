@@ -9,10 +9,11 @@ ghost use lib.Dec.{ltb};
 ghost use lib.Count.{ones, trailingZeros};
 ghost use Rattle.octets.specs.Bytes.{field};
 ghost use Rattle.eif.specs.Numbers.{placeCount};
+ghost use Rattle.eif.specs.Answers.{refuse};
 ghost use Rattle.eif.specs.Rules.{firstFault};
 ghost use Rattle.eif.specs.Table.{filled};
-ghost use Rattle.eif.specs.Layout.{headerSize, sectionHeaderSize, viewFrom, offsetAt, sizeAt, start, end};
-ghost use Rattle.eif.specs.Reading.{headerRule, entryRule, sectionRule, section, blankSection, markOf, blankReading, readEarly, sealed};
+ghost use Rattle.eif.specs.Layout.{headerSize, sectionHeaderSize, offsetsAt, viewFrom, offsetAt, sizeAt, start, end};
+ghost use Rattle.eif.specs.Reading.{headerRule, entryRule, sectionRule, positionIn, located, section, blankSection, markOf, blankReading, readEarly, sealed};
 use eif::DataLength;
 use eif::FilePosition;
 use eif::Header;
@@ -84,12 +85,58 @@ fn refused(verdict: Verdict) -> Reading
         verdict,
         version: 0,
         flags: 0,
+        architecture: 0,
         memory: 0,
         cpus: 0,
         count: 0,
         sections: [none; eif::PLACES],
         ramdisks: 0,
     }
+}
+
+// ---- where a refusal is
+
+// Where the table has a section's offset.
+fn offset_entry(index: u64) -> u64
+    requires { ⌜ index < placeCount ⌝ }
+    ensures { λ r. ⌜ r ≡ offsetsAt + 8 * index ⌝ }
+{
+    Header::OFFSETS_AT as u64 + 8 * index
+}
+
+// The position of the field at fault, by the answer number: 1 to 12, or 20 at a section.
+fn position(header: &[u8], number: u8, index: u64) -> u64
+    requires { ⌜ index < placeCount ⌝ }
+    ensures { λ r. ⌜ r ≡ positionIn (λ w at. field w at (now (header .entry))) number index ⌝ }
+{
+    if number <= Refusal::WRONG_MAGIC {
+        return 0;
+    }
+    if number == Refusal::WRONG_VERSION {
+        return Header::VERSION_AT as u64;
+    }
+    if number == Refusal::WRONG_COUNT {
+        return Header::COUNT_AT as u64;
+    }
+    if number == Refusal::SECTION_MISSING {
+        return Header::COUNT_AT as u64;
+    }
+    if number <= Refusal::ENDS_LATE {
+        return offset_entry(index);
+    }
+    if number == Refusal::NOT_PACKED {
+        return offset_entry(index);
+    }
+    offset_at(header, index as usize)
+}
+
+// A refusal with its position, beside which everything is zero.
+fn refused_in(header: &[u8], number: u8, index: u64) -> Reading
+    requires { ⌜ index < placeCount ⌝ }
+    ensures { λ r. ⌜ r ≡ blankReading (located (λ w at. field w at (now (header .entry))) (refuse number index)) ⌝ }
+{
+    let at = position(header, number, index);
+    refused(Verdict::refuse_at(number, index, at))
 }
 
 // ---- the rules
@@ -253,7 +300,7 @@ pub fn judge(header: &[u8], heads: &[u8], size: u64) -> Reading
 {
     let fault = header_fault(header, size);
     if fault != 0 {
-        return refused(Verdict::refuse(fault, 0));
+        return refused_in(header, fault, 0);
     }
     let version = octets::be16(header, Header::VERSION_AT);
     let count = octets::be16(header, Header::COUNT_AT);
@@ -262,19 +309,21 @@ pub fn judge(header: &[u8], heads: &[u8], size: u64) -> Reading
     let verdict = walked.verdict;
     let sections = walked.sections;
     let kinds = walked.kinds;
-    let Verdict::Accepted = verdict else {
-        return refused(verdict);
-    };
+    if let Verdict::Refused(r) = verdict {
+        return refused_in(header, r.number, r.index);
+    }
     if type_rules::lacks(&kinds[..used], version) {
-        return refused(Verdict::refuse(Refusal::SECTION_MISSING, 0));
+        return refused_in(header, Refusal::SECTION_MISSING, 0);
     }
     if walked.end < size {
-        return refused(Verdict::refuse(Refusal::NOT_PACKED, 0));
+        return refused(Verdict::refuse_at(Refusal::NOT_PACKED, 0, walked.end));
     }
+    let flags = octets::be16(header, Header::FLAGS_AT);
     Reading {
         verdict,
         version,
-        flags: octets::be16(header, Header::FLAGS_AT),
+        flags,
+        architecture: flags % 2,
         memory: octets::be64(header, Header::MEMORY_AT),
         cpus: octets::be64(header, Header::CPUS_AT),
         count,
@@ -292,7 +341,11 @@ pub fn seal(reading: Reading, stored: u32, computed: u32) -> Reading
         return reading;
     };
     if stored != computed {
-        return refused(Verdict::refuse(Refusal::CHECKSUM_DIFFERS, 0));
+        return refused(Verdict::refuse_at(
+            Refusal::CHECKSUM_DIFFERS,
+            0,
+            Header::CHECKSUM_AT as u64,
+        ));
     }
     reading
 }

@@ -1,22 +1,24 @@
--- Demand 1 (PROMISES.md): a refusal carries the first number that applies, in the order that FORMAT.md gives for the call.
+-- Demand 1 (PROMISES.md): a refusal carries the number, the index and the position of the first rule that applies, in the order
+-- that FORMAT.md gives for the call.
 -- Assumes nothing.
-use Prim.Native.Nat.{ℕ, zero, suc, _+_}
+use Prim.Native.Nat.{ℕ, zero, suc, _+_, _*_}
 use mathlib.Core.Path.{_≡_, refl, sym, ap, ap₂, _∙_}
 use mathlib.Core.Bool.{Bool, true, false, not}
 use mathlib.Core.List.{List, [], _∷_, _++_}
 use borrow.Author.Tests.{eq-eqb}
 use lib.Dec.{ltb, leb, eqb}
 use lib.ListN.{length}
+use Rattle.octets.specs.Bytes.{leField}
 use Rattle.eif.specs.Numbers.{sizeLimit, placeCount, oldestVersion, kernel, ramdisk, sectionMissing, checksumDiffers, notPacked, outputTooShort, pastStreamEnd}
 use Rattle.eif.specs.Logic.{both, either, choose}
-use Rattle.eif.specs.Answers.{refuse, andThen, wholeVerdict}
+use Rattle.eif.specs.Answers.{refuse, refuseAt, andThen, wholeAt, wholeVerdict}
 use Rattle.eif.specs.Rules.{versionKnown, countKnown, allowedIn, seen, orderFault, typeFault, missing, firstFault}
-use Rattle.eif.specs.Layout.{magicNumber, headerSize, View, viewOf, magic, version, count, offset, size, checksum, end, start}
-use Rattle.eif.specs.Reading.{headerRule, entryRule, sectionRule, hasTail, fileRule, checksumRule, judged, verdictIn, checksumOf, verdictOf}
+use Rattle.eif.specs.Layout.{magicNumber, headerSize, countAt, checksumAt, View, viewOf, magic, version, count, offsetEntry, offset, size, checksum, end, start}
+use Rattle.eif.specs.Reading.{headerRule, entryRule, sectionRule, hasTail, missingRule, tailRule, checksumRule, positionIn, located, judged, early, verdictIn, checksumOf, verdictOf}
 use Rattle.eif.specs.Plan.{plannedKind, plainSize, dataBefore, fieldFault, sizeFault, planFault, planVerdict, writeVerdict, planLength}
 use Rattle.eif.specs.Stream.{streamOf, copyVerdict, copyListedAnswer, lengthAnswer}
-use Rattle.eif.specs.Roll.{recordHeadSize, recordAt, recordSize, recordKind, isEnd, imageSize, rollBytes, rollVerdict, rollLength, Ending, ended, stopped, stop, headFault, bodyFault, rollFault, endFrom, rollAnswerFor, readRoll}
-use Rattle.eif.specs.Order.{Rule, rule, firstThatApplies, orderRules, typeRules, rulesFrom, headerRules, sectionRules, viewRules, imageRules, planRules, writeRules, copyRules, copyListedRules, rollWriteRules, headRules, bodyRules, endRules, rollRulesFrom, rollRules}
+use Rattle.eif.specs.Roll.{recordHeadSize, flagsType, flagsLength, flagsRecordSize, flagsFault, rollFlags, restOf, recordAt, recordStart, recordSize, recordKind, isEnd, imageSize, rollBytes, rollVerdict, rollLength, Ending, ended, stopped, stopVerdict, endVerdict, headFault, bodyFault, rollFault, endFrom, refusedRoll, rollAnswerFor, readRest, readRoll}
+use Rattle.eif.specs.Order.{Rule, rule, firstThatApplies, orderRules, typeRules, rulesFrom, headerRules, sectionRules, viewRules, imageRules, planRules, writeRules, copyRules, copyListedRules, rollWriteRules, flagsRules, headRules, bodyRules, endRules, rollRulesFrom, rollRules}
 use Rattle.eif.specs.declared.Plan.{Plan}
 use Rattle.eif.specs.declared.RollReading.{RollReading}
 use Rattle.eif.specs.declared.Stream.{Stream}
@@ -27,102 +29,135 @@ use Rattle.eif_rules.proofs.Verdicts.{then-none}
 
 -- ---- lists of rules, one after the other
 
-then-choose : (b : Bool) (n i : ℕ) (v w : Verdict) → andThen (choose b (refuse n i) v) w ≡ choose b (refuse n i) (andThen v w)
-then-choose true n i v w = refl
-then-choose false n i v w = refl
+then-choose : (b : Bool) (n i p : ℕ) (v w : Verdict) → andThen (choose b (refuseAt n i p) v) w ≡ choose b (refuseAt n i p) (andThen v w)
+then-choose true n i p v w = refl
+then-choose false n i p v w = refl
 
 first-append : (a b : List Rule) → firstThatApplies (a ++ b) ≡ andThen (firstThatApplies a) (firstThatApplies b)
 unfolding firstThatApplies
 first-append [] b = refl
 first-append (r ∷ rs) b =
-    ap (choose (r .applies) (refuse (r .number) (r .index))) (first-append rs b)
-    ∙ sym (then-choose (r .applies) (r .number) (r .index) (firstThatApplies rs) (firstThatApplies b))
+    ap (choose (r .applies) (refuseAt (r .number) (r .index) (r .position))) (first-append rs b)
+    ∙ sym (then-choose (r .applies) (r .number) (r .index) (r .position) (firstThatApplies rs) (firstThatApplies b))
 
--- a number at a place; 0: none applies
-abbrev at : ℕ → ℕ → Verdict
-at number i = choose (eqb number 0) Accepted (refuse number i)
+-- a number at a place, with a position; 0: none applies
+abbrev at : ℕ → ℕ → ℕ → Verdict
+at number i position = choose (eqb number 0) Accepted (refuseAt number i position)
 
 then-at : (n i : ℕ) (b : Bool) (w : Verdict) → andThen (choose b Accepted (refuse n i)) w ≡ choose b w (refuse n i)
 then-at n i true w = refl
 then-at n i false w = refl
 
--- rules at each place answer as the walk over the places does
-walk-first : (rules : ℕ → List Rule) (fault : ℕ → ℕ) → ((i : ℕ) → firstThatApplies (rules i) ≡ at (fault i) i)
-    → (n i : ℕ) → firstThatApplies (rulesFrom rules n i) ≡ firstFault fault n i
+-- rules at each place answer as the walk over the places does, as it is or with the positions
+walk-first : (f : Verdict → Verdict) → f Accepted ≡ Accepted → ((v w : Verdict) → f (andThen v w) ≡ andThen (f v) (f w))
+    → (rules : ℕ → List Rule) (fault : ℕ → ℕ) → ((i : ℕ) → firstThatApplies (rules i) ≡ f (at (fault i) i 0))
+    → (n i : ℕ) → firstThatApplies (rulesFrom rules n i) ≡ f (firstFault fault n i)
 unfolding rulesFrom firstFault firstThatApplies
-walk-first rules fault h zero i = refl
-walk-first rules fault h (suc n) i =
+walk-first f none split rules fault h zero i = sym none
+walk-first f none split rules fault h (suc n) i =
     first-append (rules i) (rulesFrom rules n (suc i))
-    ∙ ap₂ andThen (h i) (walk-first rules fault h n (suc i))
-    ∙ then-at (fault i) i (eqb (fault i) 0) (firstFault fault n (suc i))
+    ∙ ap₂ andThen (h i) (walk-first f none split rules fault h n (suc i))
+    ∙ sym (split (at (fault i) i 0) (firstFault fault n (suc i)))
+    ∙ ap f (then-at (fault i) i (eqb (fault i) 0) (firstFault fault n (suc i)))
 
 -- ---- the rules on types
 
 -- is it a ramdisk, was a kernel seen, was its type seen
-order-by : (r k t : Bool) (i : ℕ)
-    → choose (both r (not k)) (refuse 10 i) (choose (both (not r) t) (refuse 11 i) Accepted) ≡ at (choose r (choose k 0 10) (choose t 11 0)) i
-order-by true true t i = refl
-order-by true false t i = refl
-order-by false k true i = refl
-order-by false k false i = refl
+abbrev order : Bool → Bool → Bool → ℕ
+order r k t = choose r (choose k 0 10) (choose t 11 0)
 
-order-first : (kinds : ℕ → ℕ) (i : ℕ) → firstThatApplies (orderRules kinds i) ≡ at (orderFault kinds (kinds i) i) i
+order-by : (r k t : Bool) (i p : ℕ)
+    → choose (both r (not k)) (refuseAt 10 i p) (choose (both (not r) t) (refuseAt 11 i p) Accepted) ≡ at (order r k t) i p
+order-by true true t i p = refl
+order-by true false t i p = refl
+order-by false k true i p = refl
+order-by false k false i p = refl
+
+order-first : (kinds : ℕ → ℕ) (i index p : ℕ) → firstThatApplies (orderRules kinds i index p) ≡ at (orderFault kinds (kinds i) i) index p
 unfolding firstThatApplies orderRules orderFault
-order-first kinds i = order-by (eqb (kinds i) ramdisk) (seen kinds kernel i) (seen kinds (kinds i) i) i
+order-first kinds i index p = order-by (eqb (kinds i) ramdisk) (seen kinds kernel i) (seen kinds (kinds i) i) index p
 
-type-by : (d : Bool) (order i : ℕ) → choose d (refuse 9 i) (at order i) ≡ at (choose d 9 order) i
-type-by true order i = refl
-type-by false order i = refl
+type-by : (d : Bool) (fault i p : ℕ) → choose d (refuseAt 9 i p) (at fault i p) ≡ at (choose d 9 fault) i p
+type-by true fault i p = refl
+type-by false fault i p = refl
 
-type-first : (version : ℕ) (kinds : ℕ → ℕ) (i : ℕ) → firstThatApplies (typeRules version kinds i) ≡ at (typeFault version kinds i) i
+type-first : (version : ℕ) (kinds : ℕ → ℕ) (i p : ℕ) → firstThatApplies (typeRules version kinds i p) ≡ at (typeFault version kinds i) i p
 unfolding firstThatApplies typeRules typeFault
-type-first version kinds i =
-    ap (choose (not (allowedIn version (kinds i))) (refuse 9 i)) (order-first kinds i)
-    ∙ type-by (not (allowedIn version (kinds i))) (orderFault kinds (kinds i) i) i
+type-first version kinds i p =
+    ap (choose (not (allowedIn version (kinds i))) (refuseAt 9 i p)) (order-first kinds i i p)
+    ∙ type-by (not (allowedIn version (kinds i))) (orderFault kinds (kinds i) i) i p
 
 -- ---- reading an image
 
-five : (a b c d e : Bool)
-    → choose a (refuse 1 0) (choose b (refuse 2 0) (choose c (refuse 3 0) (choose d (refuse 4 0) (choose e (refuse 5 0) Accepted))))
-    ≡ wholeVerdict (choose a 1 (choose b 2 (choose c 3 (choose d 4 (choose e 5 0)))))
-five true b c d e = refl
-five false true c d e = refl
-five false false true d e = refl
-five false false false true e = refl
-five false false false false true = refl
-five false false false false false = refl
+module _ (h : ℕ → ℕ → ℕ) where
+  located-then : (v w : Verdict) → located h (andThen v w) ≡ andThen (located h v) (located h w)
+  located-then Accepted w = refl
+  located-then (Refused r) w = refl
 
-header-first : (v : View) → firstThatApplies (headerRules v) ≡ wholeVerdict (headerRule v)
+  five : (a b c d e : Bool)
+      → choose a (refuseAt 1 0 0) (choose b (refuseAt 2 0 0) (choose c (refuseAt 3 0 0) (choose d (refuseAt 4 0 4) (choose e (refuseAt 5 0 26) Accepted))))
+      ≡ located h (wholeVerdict (choose a 1 (choose b 2 (choose c 3 (choose d 4 (choose e 5 0))))))
+  unfolding positionIn
+  five true b c d e = refl
+  five false true c d e = refl
+  five false false true d e = refl
+  five false false false true e = refl
+  five false false false false true = refl
+  five false false false false false = refl
+
+  -- the rules 10 and 11 give the section's own header
+  order-own : (r k t : Bool) (i : ℕ) → at (order r k t) i (offsetEntry h i) ≡ located h (at (order r k t) i 0)
+  unfolding positionIn
+  order-own true true t i = refl
+  order-own true false t i = refl
+  order-own false k true i = refl
+  order-own false k false i = refl
+
+  -- 6, 20, 7, 8 and 9
+  abbrev entry : Bool → Bool → Bool → Bool → Bool → ℕ
+  entry a p b c d = choose a 6 (choose p 20 (choose b 7 (choose c 8 (choose d 9 0))))
+
+  entry-by : (a p b c d : Bool) (fault i : ℕ) → at fault i (offsetEntry h i) ≡ located h (at fault i 0)
+      → choose a (refuseAt 6 i (28 + 8 * i)) (choose p (refuseAt 20 i (28 + 8 * i)) (choose b (refuseAt 7 i (28 + 8 * i)) (choose c (refuseAt 8 i (offsetEntry h i)) (at (choose d 9 fault) i (offsetEntry h i)))))
+      ≡ located h (at (choose (eqb (entry a p b c d) 0) fault (entry a p b c d)) i 0)
+  unfolding positionIn
+  entry-by true p b c d fault i e = refl
+  entry-by false true b c d fault i e = refl
+  entry-by false false true c d fault i e = refl
+  entry-by false false false true d fault i e = refl
+  entry-by false false false false true fault i e = refl
+  entry-by false false false false false fault i e = e
+
+  last-by : (a t b : Bool) (past : ℕ)
+      → choose a (refuseAt 12 0 26) (choose t (refuseAt 20 0 past) (choose b (refuseAt 13 0 544) Accepted))
+      ≡ andThen (located h (wholeVerdict (choose a 12 0))) (andThen (wholeAt (choose t 20 0) past) (wholeAt (choose b 13 0) 544))
+  unfolding positionIn
+  last-by true t b past = refl
+  last-by false true b past = refl
+  last-by false false true past = refl
+  last-by false false false past = refl
+
+header-first : (v : View) → firstThatApplies (headerRules v) ≡ located (v .header) (wholeVerdict (headerRule v))
 unfolding firstThatApplies headerRules headerRule
 header-first v =
-    five (ltb sizeLimit (v .size)) (ltb (v .size) headerSize) (not (eqb (magic v) magicNumber)) (not (versionKnown (version v))) (not (countKnown (count v)))
+    five (v .header) (ltb sizeLimit (v .size)) (ltb (v .size) headerSize) (not (eqb (magic v) magicNumber)) (not (versionKnown (version v))) (not (countKnown (count v)))
 
-entry-by : (a p b c d : Bool) (order i : ℕ)
-    → choose a (refuse 6 i) (choose p (refuse 20 i) (choose b (refuse 7 i) (choose c (refuse 8 i) (at (choose d 9 order) i))))
-    ≡ at (choose (eqb (choose a 6 (choose p 20 (choose b 7 (choose c 8 (choose d 9 0))))) 0) order (choose a 6 (choose p 20 (choose b 7 (choose c 8 (choose d 9 0)))))) i
-entry-by true p b c d order i = refl
-entry-by false true b c d order i = refl
-entry-by false false true c d order i = refl
-entry-by false false false true d order i = refl
-entry-by false false false false true order i = refl
-entry-by false false false false false order i = refl
-
-section-first : (v : View) (i : ℕ) → firstThatApplies (sectionRules v i) ≡ at (sectionRule v i) i
-unfolding firstThatApplies sectionRules sectionRule entryRule typeFault
+section-first : (v : View) (i : ℕ) → firstThatApplies (sectionRules v i) ≡ located (v .header) (at (sectionRule v i) i 0)
+unfolding firstThatApplies sectionRules sectionRule entryRule typeFault orderFault
 section-first v i =
     let a : Bool = ltb (offset v i) (start v i) in
     let p : Bool = not (eqb (offset v i) (start v i)) in
     let b : Bool = ltb (v .size) (end v i) in
     let c : Bool = not (eqb (v .ownSize i) (size v i)) in
     let d : Bool = not (allowedIn (version v) (v .kind i)) in
-    ap (λ (x : Verdict). choose a (refuse 6 i) (choose p (refuse 20 i) (choose b (refuse 7 i) (choose c (refuse 8 i) x)))) (type-first (version v) (v .kind) i)
-    ∙ entry-by a p b c d (orderFault (v .kind) (v .kind i) i) i
+    let own = order-own (v .header) (eqb (v .kind i) ramdisk) (seen (v .kind) kernel i) (seen (v .kind) (v .kind i) i) i in
+    let entry : ℕ = 28 + 8 * i in
+    ap (λ (x : Verdict). choose a (refuseAt 6 i entry) (choose p (refuseAt 20 i entry) (choose b (refuseAt 7 i entry) (choose c (refuseAt 8 i (offset v i)) x)))) (type-first (version v) (v .kind) i (offset v i))
+    ∙ entry-by (v .header) a p b c d (orderFault (v .kind) (v .kind i) i) i own
 
-last-by : (a t b : Bool) → choose a (refuse 12 0) (choose t (refuse 20 0) (choose b (refuse 13 0) Accepted)) ≡ andThen (wholeVerdict (choose a 12 (choose t 20 0))) (wholeVerdict (choose b 13 0))
-last-by true t b = refl
-last-by false true b = refl
-last-by false false true = refl
-last-by false false false = refl
+then-assoc : (a b c : Verdict) → andThen a (andThen b c) ≡ andThen (andThen a b) c
+then-assoc Accepted b c = refl
+then-assoc (Refused r) b c = refl
 
 then-then : (a b c d : Verdict) → andThen a (andThen b (andThen c d)) ≡ andThen (andThen a (andThen b c)) d
 then-then Accepted Accepted c d = refl
@@ -131,17 +166,29 @@ then-then (Refused r) b c d = refl
 
 -- the verdict on a view, and so on an image, is that of the first rule that applies
 pub view-first : (v : View) (computed : ℕ) → verdictIn v computed ≡ firstThatApplies (viewRules v computed)
-unfolding viewRules verdictIn judged fileRule checksumRule firstThatApplies
+unfolding viewRules verdictIn early judged missingRule tailRule checksumRule firstThatApplies
 view-first v computed =
     let m : Bool = missing (v .kind) (version v) (count v) in
     let c : Bool = not (eqb (checksum v) computed) in
     let t : Bool = hasTail v in
-    let last : List Rule = rule m sectionMissing 0 ∷ rule t notPacked 0 ∷ rule c checksumDiffers 0 ∷ [] in
+    let past : ℕ = start v (count v) in
+    let last : List Rule = rule m sectionMissing 0 countAt ∷ rule t notPacked 0 past ∷ rule c checksumDiffers 0 checksumAt ∷ [] in
     let sections : List Rule = rulesFrom (sectionRules v) (count v) 0 in
+    let head : Verdict = wholeVerdict (headerRule v) in
+    let walk : Verdict = firstFault (sectionRule v) (count v) 0 in
+    let lack : Verdict = wholeVerdict (choose m sectionMissing 0) in
+    let tail : Verdict = wholeAt (choose t notPacked 0) past in
+    let sum : Verdict = wholeAt (choose c checksumDiffers 0) checksumAt in
+    let f : Verdict → Verdict = located (v .header) in
+    let split = located-then (v .header) in
     sym
     (first-append (headerRules v) (sections ++ last)
-    ∙ ap₂ andThen (header-first v) (first-append sections last ∙ ap₂ andThen (walk-first (sectionRules v) (sectionRule v) (section-first v) (count v) 0) (last-by m t c))
-    ∙ then-then (wholeVerdict (headerRule v)) (firstFault (sectionRule v) (count v) 0) (wholeVerdict (choose m sectionMissing (choose t notPacked 0))) (wholeVerdict (choose c checksumDiffers 0)))
+    ∙ ap₂ andThen (header-first v)
+    (first-append sections last
+    ∙ ap₂ andThen (walk-first f refl split (sectionRules v) (sectionRule v) (section-first v) (count v) 0) (last-by (v .header) m t c past))
+    ∙ then-then (f head) (f walk) (f lack) (andThen tail sum)
+    ∙ ap (λ (x : Verdict). andThen x (andThen tail sum)) (sym (split head (andThen walk lack) ∙ ap (andThen (f head)) (split walk lack)))
+    ∙ then-assoc (f (andThen head (andThen walk lack))) tail sum)
 
 pub read-first : (s : List ℕ) → verdictOf s ≡ firstThatApplies (imageRules s)
 read-first s = view-first (viewOf s) (checksumOf s)
@@ -150,10 +197,10 @@ read-first s = view-first (viewOf s) (checksumOf s)
 
 -- a last rule after the image's own
 after-image : (s : List ℕ) (b : Bool) (n : ℕ)
-    → andThen (verdictOf s) (choose b (refuse n 0) Accepted) ≡ firstThatApplies (imageRules s ++ (rule b n 0 ∷ []))
+    → andThen (verdictOf s) (choose b (refuse n 0) Accepted) ≡ firstThatApplies (imageRules s ++ (rule b n 0 0 ∷ []))
 unfolding firstThatApplies
 after-image s b n =
-    ap (λ (x : Verdict). andThen x (choose b (refuse n 0) Accepted)) (read-first s) ∙ sym (first-append (imageRules s) (rule b n 0 ∷ []))
+    ap (λ (x : Verdict). andThen x (choose b (refuse n 0) Accepted)) (read-first s) ∙ sym (first-append (imageRules s) (rule b n 0 0 ∷ []))
 
 pub copy-first : (s : List ℕ) (stream : Stream) (from : ℕ) → copyVerdict s stream from ≡ firstThatApplies (copyRules s stream from)
 unfolding copyVerdict copyRules
@@ -206,8 +253,9 @@ module _ (p : Plan) where
       let kinds : ℕ → ℕ = plannedKind (p .places) in
       let m : Bool = missing kinds (p .version) (p .count) in
       let l : Bool = ltb sizeLimit (plainSize p) in
-      let last : List Rule = rule m sectionMissing 0 ∷ rule l 1 0 ∷ [] in
-      let sections : List Rule = rulesFrom (typeRules (p .version) kinds) (p .count) 0 in
+      let last : List Rule = rule m sectionMissing 0 0 ∷ rule l 1 0 0 ∷ [] in
+      let types : ℕ → List Rule = λ i. typeRules (p .version) kinds i 0 in
+      let sections : List Rule = rulesFrom types (p .count) 0 in
       let walk : Verdict = firstFault (typeFault (p .version) kinds) (p .count) 0 in
       let v : Bool = not (versionKnown (p .version)) in
       let n : Bool = not (countKnown (p .count)) in
@@ -217,7 +265,7 @@ module _ (p : Plan) where
       ∙ ap (λ (x : Verdict). andThen x (choose (differs given) (refuse 15 0) Accepted))
       (sym
       (ap (λ (x : Verdict). choose v (refuse 4 0) (choose n (refuse 5 0) x))
-      (first-append sections last ∙ ap (λ (x : Verdict). andThen x (firstThatApplies last)) (walk-first (typeRules (p .version) kinds) (typeFault (p .version) kinds) (type-first (p .version) kinds) (p .count) 0))
+      (first-append sections last ∙ ap (λ (x : Verdict). andThen x (firstThatApplies last)) (walk-first (λ v. v) refl (λ v w. refl) types (typeFault (p .version) kinds) (λ i. type-first (p .version) kinds i 0) (p .count) 0))
       ∙ fields-by v n (andThen walk (firstThatApplies last))))
 
   pub write-first : (given room : ℕ) → writeVerdict p given room ≡ firstThatApplies (writeRules p given room)
@@ -226,7 +274,7 @@ module _ (p : Plan) where
       let o : Bool = ltb room (plainSize p) in
       ap (λ (x : Verdict). andThen x (choose o (refuse outputTooShort 0) Accepted)) (plan-then given)
       ∙ then-room (firstThatApplies (planRules p)) (differs given) (choose o (refuse outputTooShort 0) Accepted)
-      ∙ sym (first-append (planRules p) (rule (differs given) 15 0 ∷ rule o outputTooShort 0 ∷ []))
+      ∙ sym (first-append (planRules p) (rule (differs given) 15 0 0 ∷ rule o outputTooShort 0 0 ∷ []))
 
   -- the length of a plan's image
   pub plan-length-first : planLength p .verdict ≡ firstThatApplies (planRules p)
@@ -240,23 +288,23 @@ module _ (p : Plan) where
 
 module _ (s : List ℕ) where
   -- what the records' ending says of the roll
-  abbrev endVerdict : Ending → Verdict
-  endVerdict (stopped number index) = refuse number index
-  endVerdict (ended n) = at (rollFault s n) 0
+  abbrev endingVerdict : Ending → Verdict
+  endingVerdict (stopped number i) = stopVerdict s number i
+  endingVerdict (ended n) = choose (eqb (rollFault s n) 0) Accepted (endVerdict s (rollFault s n) n)
 
   -- the rules on a head, and what follows it
-  head-by : (a b c : Bool) (i : ℕ) (x : Ending) (w : Verdict) → w ≡ endVerdict x
-      → andThen (choose a (refuse 16 i) (choose (either b c) (refuse 17 i) Accepted)) w
-      ≡ endVerdict (choose (eqb (choose a 16 (choose b 17 (choose c 17 0))) 0) x (stop (choose a 16 (choose b 17 (choose c 17 0))) i))
+  head-by : (a b c : Bool) (i : ℕ) (x : Ending) (w : Verdict) → w ≡ endingVerdict x
+      → andThen (choose a (refuseAt 16 (suc i) (recordStart s i)) (choose (either b c) (refuseAt 17 (suc i) (recordStart s i)) Accepted)) w
+      ≡ endingVerdict (choose (eqb (choose a 16 (choose b 17 (choose c 17 0))) 0) x (stopped (choose a 16 (choose b 17 (choose c 17 0))) i))
   head-by true b c i x w e = refl
   head-by false true c i x w e = refl
   head-by false false true i x w e = refl
   head-by false false false i x w e = e
 
   -- the rules on the rest of a record, and what follows it
-  body-by : (a b r k t : Bool) (i : ℕ) (x : Ending) (w : Verdict) → w ≡ endVerdict x
-      → andThen (choose a (refuse 5 0) (choose b (refuse 16 i) (at (choose r (choose k 0 10) (choose t 11 0)) i))) w
-      ≡ endVerdict (choose (eqb (choose a 5 (choose b 16 (choose r (choose k 0 10) (choose t 11 0)))) 0) x (stop (choose a 5 (choose b 16 (choose r (choose k 0 10) (choose t 11 0)))) i))
+  body-by : (a b r k t : Bool) (i : ℕ) (x : Ending) (w : Verdict) → w ≡ endingVerdict x
+      → andThen (choose a (refuseAt 5 0 (recordStart s i)) (choose b (refuseAt 16 (suc i) (recordStart s i)) (at (order r k t) (suc i) (recordStart s i)))) w
+      ≡ endingVerdict (choose (eqb (choose a 5 (choose b 16 (order r k t))) 0) x (stopped (choose a 5 (choose b 16 (order r k t))) i))
   body-by true b r k t i x w e = refl
   body-by false true r k t i x w e = refl
   body-by false false true true t i x w e = e
@@ -264,23 +312,25 @@ module _ (s : List ℕ) where
   body-by false false false k true i x w e = refl
   body-by false false false k false i x w e = e
 
-  end-by : (a b c : Bool) → choose a (refuse 18 0) (choose b (refuse 12 0) (choose c (refuse 1 0) Accepted)) ≡ at (choose a 18 (choose b 12 (choose c 1 0))) 0
-  end-by true b c = refl
-  end-by false true c = refl
-  end-by false false true = refl
-  end-by false false false = refl
+  end-by : (n : ℕ) (a b c : Bool)
+      → choose a (refuseAt 18 0 (recordStart s n + recordHeadSize)) (choose b (refuse 12 0) (choose c (refuse 1 0) Accepted))
+      ≡ choose (eqb (choose a 18 (choose b 12 (choose c 1 0))) 0) Accepted (endVerdict s (choose a 18 (choose b 12 (choose c 1 0))) n)
+  end-by n true b c = refl
+  end-by n false true c = refl
+  end-by n false false true = refl
+  end-by n false false false = refl
 
-  end-first : (n : ℕ) → firstThatApplies (endRules s n) ≡ endVerdict (ended n)
+  end-first : (n : ℕ) → firstThatApplies (endRules s n) ≡ endingVerdict (ended n)
   unfolding firstThatApplies endRules rollFault
-  end-first n = end-by (ltb (recordAt s n + recordHeadSize) (length s)) (missing (recordKind s) oldestVersion n) (ltb sizeLimit (imageSize s n))
+  end-first n = end-by n (ltb (recordAt s n + recordHeadSize) (length s)) (missing (recordKind s) oldestVersion n) (ltb sizeLimit (imageSize s n))
 
-  either-way : (e : Bool) (x y : List Rule) (p q : Ending) → firstThatApplies x ≡ endVerdict p → firstThatApplies y ≡ endVerdict q
-      → firstThatApplies (choose e x y) ≡ endVerdict (choose e p q)
+  either-way : (e : Bool) (x y : List Rule) (p q : Ending) → firstThatApplies x ≡ endingVerdict p → firstThatApplies y ≡ endingVerdict q
+      → firstThatApplies (choose e x y) ≡ endingVerdict (choose e p q)
   either-way true x y p q f g = f
   either-way false x y p q f g = g
 
-  body-first : (i : ℕ) (rest : List Rule) (x : Ending) → firstThatApplies rest ≡ endVerdict x
-      → firstThatApplies (bodyRules s i ++ rest) ≡ endVerdict (choose (eqb (bodyFault s i) 0) x (stop (bodyFault s i) i))
+  body-first : (i : ℕ) (rest : List Rule) (x : Ending) → firstThatApplies rest ≡ endingVerdict x
+      → firstThatApplies (bodyRules s i ++ rest) ≡ endingVerdict (choose (eqb (bodyFault s i) 0) x (stopped (bodyFault s i) i))
   unfolding firstThatApplies bodyRules bodyFault orderFault
   body-first i rest x e =
       let a : Bool = leb placeCount i in
@@ -289,30 +339,47 @@ module _ (s : List ℕ) where
       let k : Bool = seen (recordKind s) kernel i in
       let t : Bool = seen (recordKind s) (recordKind s i) i in
       first-append (bodyRules s i) rest
-      ∙ ap (λ (o : Verdict). andThen (choose a (refuse 5 0) (choose b (refuse 16 i) o)) (firstThatApplies rest)) (order-first (recordKind s) i)
+      ∙ ap (λ (o : Verdict). andThen (choose a (refuseAt 5 0 (recordStart s i)) (choose b (refuseAt 16 (suc i) (recordStart s i)) o)) (firstThatApplies rest)) (order-first (recordKind s) i (suc i) (recordStart s i))
       ∙ body-by a b r k t i x (firstThatApplies rest) e
 
-  records-first : (n i : ℕ) → firstThatApplies (rollRulesFrom s n i) ≡ endVerdict (endFrom s n i)
+  records-first : (n i : ℕ) → firstThatApplies (rollRulesFrom s n i) ≡ endingVerdict (endFrom s n i)
   unfolding rollRulesFrom endFrom firstThatApplies headRules headFault
   records-first zero i = refl
   records-first (suc n) i =
       let rest : List Rule = bodyRules s i ++ rollRulesFrom s n (suc i) in
       let next : List Rule = choose (isEnd s i) (endRules s i) rest in
-      let judged : Ending = choose (eqb (bodyFault s i) 0) (endFrom s n (suc i)) (stop (bodyFault s i) i) in
-      let after : firstThatApplies next ≡ endVerdict (choose (isEnd s i) (ended i) judged) =
+      let judged : Ending = choose (eqb (bodyFault s i) 0) (endFrom s n (suc i)) (stopped (bodyFault s i) i) in
+      let after : firstThatApplies next ≡ endingVerdict (choose (isEnd s i) (ended i) judged) =
       either-way (isEnd s i) (endRules s i) rest (ended i) judged (end-first i) (body-first i (rollRulesFrom s n (suc i)) (endFrom s n (suc i)) (records-first n (suc i))) in
       first-append (headRules s i) next
       ∙ head-by (ltb (length s) (recordAt s i + recordHeadSize)) (ltb ramdisk (recordKind s i)) (both (isEnd s i) (not (eqb (recordSize s i) 0))) i
       (choose (isEnd s i) (ended i) judged) (firstThatApplies next) after
 
-  answer-verdict : (e : Ending) → rollAnswerFor s e .verdict ≡ endVerdict e
-  answer-verdict (stopped number index) = refl
-  answer-verdict (ended n) = go (eqb (rollFault s n) 0) _ _
+  answer-verdict : (flags : ℕ) (e : Ending) → rollAnswerFor flags s e .verdict ≡ endingVerdict e
+  answer-verdict flags (stopped number i) = refl
+  answer-verdict flags (ended n) = go (eqb (rollFault s n) 0) _ _
     where
       go : (b : Bool) (x y : RollReading) → choose b x y .verdict ≡ choose b (x .verdict) (y .verdict)
       go true x y = refl
       go false x y = refl
 
-  pub roll-read-first : readRoll s .verdict ≡ firstThatApplies (rollRules s)
-  unfolding readRoll
-  roll-read-first = answer-verdict (endFrom s (suc placeCount) 0) ∙ sym (records-first (suc placeCount) 0)
+  rest-first : (flags : ℕ) → readRest flags s .verdict ≡ firstThatApplies (rollRulesFrom s (suc placeCount) 0)
+  unfolding readRest
+  rest-first flags = answer-verdict flags (endFrom s (suc placeCount) 0) ∙ sym (records-first (suc placeCount) 0)
+
+-- the rules on the flags record, and what follows it
+flags-by : (a b c : Bool) (x : RollReading) (w : Verdict) → x .verdict ≡ w
+    → choose (eqb (choose a 16 (choose b 17 (choose c 16 0))) 0) x (refusedRoll (refuse (choose a 16 (choose b 17 (choose c 16 0))) 0)) .verdict
+    ≡ andThen (choose a (refuse 16 0) (choose b (refuse 17 0) (choose c (refuse 16 0) Accepted))) w
+flags-by true b c x w e = refl
+flags-by false true c x w e = refl
+flags-by false false true x w e = refl
+flags-by false false false x w e = e
+
+pub roll-read-first : (s : List ℕ) → readRoll s .verdict ≡ firstThatApplies (rollRules s)
+unfolding readRoll flagsFault flagsRules firstThatApplies
+roll-read-first s =
+    let rest : List Rule = rollRulesFrom (restOf s) (suc placeCount) 0 in
+    flags-by (ltb (length s) recordHeadSize) (either (not (eqb (leField 2 8 s) flagsType)) (not (eqb (leField 8 0 s) flagsLength))) (ltb (length s) flagsRecordSize)
+    (readRest (rollFlags s) (restOf s)) (firstThatApplies rest) (rest-first (restOf s) (rollFlags s))
+    ∙ sym (first-append (flagsRules s) rest)

@@ -11,12 +11,13 @@ use lib.ListN.{length, length-take, length-drop}
 use Rattle.eif.specs.Numbers.{placeCount}
 use Rattle.eif.specs.Rules.{orderFault, missing}
 use Rattle.eif.specs.Layout.{View, viewOf, version, count, checksum, versionOf, countOf, startAt, kindAt}
-use Rattle.eif.specs.Reading.{sectionRule, hasTail, fileRule, checksumRule, judged, verdictIn, checksumOf, verdictOf, sectionAt, blankSection, sectionsOf, dataOf}
+use Rattle.eif.specs.Reading.{sectionRule, hasTail, missingRule, tailRule, checksumRule, judged, early, verdictIn, checksumOf, verdictOf, sectionAt, blankSection, sectionsOf, dataOf}
 use Rattle.eif.specs.declared.Section.{Section}
 use Rattle.eif.specs.declared.Verdict.the-variants.{Accepted}
 use Rattle.eif_rules.proofs.Logic.{choose-zero}
-use Rattle.eif_rules.proofs.Verdicts.{then-accepted, whole-zero, all-accepted, walk-accepted, walk-all}
+use Rattle.eif_rules.proofs.Verdicts.{then-accepted, whole-zero, whole-at-zero, all-accepted, walk-accepted, walk-all}
 use Rattle.eif_rules.proofs.Table.{All, all-filled}
+use Rattle.eif_rules.proofs.Position.{located-accepted}
 use Rattle.eif_rules.proofs.View.{Header, header, header0, sound-of, order-of}
 
 pub record Passes (v : View) (computed : ℕ) : Type 0 where
@@ -27,15 +28,21 @@ pub record Passes (v : View) (computed : ℕ) : Type 0 where
   pub sum : checksum v ≡ computed
 
 module _ (v : View) where
-  file-zero : fileRule v ≡ 0 → (missing (v .kind) (version v) (count v) ≡ false) × (hasTail v ≡ false)
-  unfolding fileRule
-  file-zero e =
-      let m = choose-zero (missing (v .kind) (version v) (count v)) 11 _ e in
-      (m .0, choose-zero (hasTail v) 19 0 (m .1) .0)
+  missing-zero : missingRule v ≡ 0 → missing (v .kind) (version v) (count v) ≡ false
+  unfolding missingRule
+  missing-zero e = choose-zero (missing (v .kind) (version v) (count v)) 11 0 e .0
 
-  zero-file : missing (v .kind) (version v) (count v) ≡ false → hasTail v ≡ false → fileRule v ≡ 0
-  unfolding fileRule
-  zero-file m t = rw (m, t)
+  zero-missing : missing (v .kind) (version v) (count v) ≡ false → missingRule v ≡ 0
+  unfolding missingRule
+  zero-missing e = rw e
+
+  tail-zero : tailRule v ≡ 0 → hasTail v ≡ false
+  unfolding tailRule
+  tail-zero e = choose-zero (hasTail v) 19 0 e .0
+
+  zero-tail : hasTail v ≡ false → tailRule v ≡ 0
+  unfolding tailRule
+  zero-tail e = rw e
 
   sum-zero : (computed : ℕ) → checksumRule v computed ≡ 0 → checksum v ≡ computed
   unfolding checksumRule
@@ -46,27 +53,28 @@ module _ (v : View) where
   zero-sum computed e = simp (eq-eqb _ _ e)
 
   pub accepted→ : (computed : ℕ) → verdictIn v computed ≡ Accepted → Passes v computed
-  unfolding verdictIn judged
+  unfolding verdictIn early judged
   accepted→ computed e =
       let j = then-accepted _ _ e in
-      let a = then-accepted _ _ (j .0) in
+      let t = then-accepted _ _ (j .0) in
+      let a = then-accepted _ _ (located-accepted _ _ (t .0)) in
       let b = then-accepted _ _ (a .1) in
       record {
         head = header v (whole-zero _ (a .0));
         sections = λ i h. walk-accepted (sectionRule v) (count v) 0 (b .0) i (omega arith) (omega arith);
-        complete = file-zero (whole-zero _ (b .1)) .0;
-        no-tail = file-zero (whole-zero _ (b .1)) .1;
-        sum = sum-zero computed (whole-zero _ (j .1));
+        complete = missing-zero (whole-zero _ (b .1));
+        no-tail = tail-zero (whole-at-zero _ _ (t .1));
+        sum = sum-zero computed (whole-at-zero _ _ (j .1));
       }
 
   pub →accepted : (computed : ℕ) → Passes v computed → verdictIn v computed ≡ Accepted
-  unfolding verdictIn judged
+  unfolding verdictIn early judged
   →accepted computed p =
       let h = p .head in
       let z = header0 v (h .small) (h .whole) (h .magic) (h .low) (h .high) (h .some) (h .few) in
       let w = walk-all (sectionRule v) (count v) 0 (λ j a b. p .sections j (omega arith)) in
-      let e = all-accepted _ _ _ (sym z) w (zero-file (p .complete) (p .no-tail)) in
-      rw (e, zero-sum computed (p .sum))
+      let e = all-accepted _ _ _ (sym z) w (zero-missing (p .complete)) in
+      rw (e, zero-tail (p .no-tail), zero-sum computed (p .sum))
 
 -- ---- of an accepted image
 

@@ -1,19 +1,19 @@
 -- Two views that agree on what the rules look at have the same reading.
 -- Assumes nothing.
 use Prim.Native.Nat.{ℕ, zero, suc, _+_, _*_, _<_, _≤_}
-use mathlib.Core.Path.{_≡_, refl, ap, ap₂, _∙_}
+use mathlib.Core.Path.{_≡_, refl, sym, ap, ap₂, _∙_}
 use mathlib.Core.Bool.{not}
 use mathlib.Core.Logic.{⊎-elim}
 use native.Mathlib.Omega.{arith}
 use borrow.Author.Tests.{lt-ltb, le-ltb, eq-eqb, ne-eqb}
 use lib.Dec.{eqb}
-use Rattle.eif.specs.Numbers.{placeCount, checksumDiffers}
+use Rattle.eif.specs.Numbers.{sizeLimit, placeCount, imageTooShort, checksumDiffers}
 use Rattle.eif.specs.Logic.{choose}
-use Rattle.eif.specs.Answers.{wholeVerdict}
+use Rattle.eif.specs.Answers.{refuse, indexOf, wholeAt, wholeVerdict}
 use Rattle.eif.specs.Rules.{firstFault}
 use Rattle.eif.specs.Table.{filled}
 use Rattle.eif.specs.Layout.{headerSize, sectionHeaderSize, checksumAt, View, version, count, offset, size, end, start}
-use Rattle.eif.specs.Reading.{headerRule, entryRule, sectionRule, fileRule, checksumRule, judged, verdictIn, blankSection, section, sections, readingOf, readView}
+use Rattle.eif.specs.Reading.{headerRule, entryRule, sectionRule, missingRule, tailRule, checksumRule, positionIn, located, judged, early, verdictIn, blankSection, section, sections, readingOf, readView}
 use Rattle.eif.specs.declared.Verdict.{Verdict}
 use Rattle.eif.specs.declared.Verdict.the-variants.{Accepted, Refused}
 use Rattle.octets.proofs.Over.{le-or-lt}
@@ -21,6 +21,7 @@ use Rattle.eif_rules.proofs.Logic.{equal-or-not}
 use Rattle.eif_rules.proofs.Verdicts.{then-accepted, then-same, whole-zero, walk-accepted, walk-same}
 use Rattle.eif_rules.proofs.Types.{order-same, missing-same}
 use Rattle.eif_rules.proofs.Table.{filled-same}
+use Rattle.eif_rules.proofs.Position.{located-accepted, early-accepted, judged-index}
 use Rattle.eif_rules.proofs.View.{header, sound-of}
 
 -- section i's own header lies in the file, past the file's header
@@ -113,6 +114,10 @@ module _ (v w : View) (same : Agree v w) where
         (le-or-lt (start w i) (offset w i))
 
     module _ (few : count w ≤ placeCount) where
+      tail-same : wholeAt (tailRule v) (start v (count v)) ≡ wholeAt (tailRule w) (start w (count w))
+      unfolding tailRule
+      tail-same = rw (count-same, start-same (count w) few, same .sizes)
+
       walk : firstFault (sectionRule v) (count v) 0 ≡ firstFault (sectionRule w) (count w) 0
       walk =
           ap (λ (n : ℕ). firstFault (sectionRule v) n 0) count-same
@@ -122,11 +127,11 @@ module _ (v w : View) (same : Agree v w) where
         all-lie : (j : ℕ) → j < count w → Lies w j
         all-lie = lies w (count w) few (λ k l. walk-accepted (sectionRule w) (count w) 0 accepted k (omega arith) (omega arith))
 
-        whole-same : fileRule v ≡ fileRule w
-        unfolding fileRule
+        whole-same : missingRule v ≡ missingRule w
+        unfolding missingRule
         whole-same =
             let m = missing-same (v .kind) (w .kind) (version w) (count w) (λ j l. same .kinds j (all-lie j l)) in
-            rw (version-same, count-same, m, start-same (count w) few, same .sizes)
+            rw (version-same, count-same, m)
 
         sections-same : sections v ≡ sections w
         sections-same =
@@ -142,13 +147,30 @@ module _ (v w : View) (same : Agree v w) where
                 let z = size-same j (p .place) in
                 rw (a, b, o, z)
 
-  early-same : judged v ≡ judged w
+  judged-same : judged v ≡ judged w
   unfolding judged
-  early-same =
+  judged-same =
       then-same _ _ _ _ (ap wholeVerdict header-same)
       (λ e.
       let h = header w (whole-zero _ e) in
       then-same _ _ _ _ (walk (h .whole) (h .few)) (λ a. ap wholeVerdict (whole-same (h .whole) (h .few) a)))
+
+  -- the position looks only at an entry of the table, and a file too short for one is refused with 2
+  located-same : (x : Verdict) → indexOf x < placeCount → (w .size < headerSize → x ≡ refuse imageTooShort 0)
+      → located (v .header) x ≡ located (w .header) x
+  unfolding positionIn
+  located-same Accepted h g = refl
+  located-same (Refused r) h g =
+      ⊎-elim
+      (λ l. let o = offset-same l (r .index) h in rw o)
+      (λ l. ap (located (v .header)) (g l) ∙ sym (ap (located (w .header)) (g l)))
+      (le-or-lt headerSize (w .size))
+
+  short : w .size < headerSize → judged w ≡ refuse imageTooShort 0
+  unfolding judged headerRule
+  short l =
+      let small : w .size ≤ sizeLimit = omega arith in
+      simp (le-ltb _ _ small, lt-ltb _ _ l)
 
   -- what an accepted one has
   record Good : Type 0 where
@@ -164,12 +186,20 @@ module _ (v w : View) (same : Agree v w) where
       let h = header w (whole-zero _ (a .0)) in
       record { whole = h .whole; few = h .few; walked = b .0 }
 
+  early-same : early v ≡ early w
+  unfolding early
+  early-same =
+      then-same _ _ _ _ (ap (located (v .header)) judged-same ∙ located-same (judged w) (judged-index w) short)
+      (λ e. let g = good (located-accepted _ _ e) in tail-same (g .whole) (g .few))
+
   module _ (sum : ℕ) where
     verdict-same : verdictIn v sum ≡ verdictIn w sum
     unfolding verdictIn checksumRule
     verdict-same =
         then-same _ _ _ _ early-same
-        (λ e. ap (λ (n : ℕ). wholeVerdict (choose (not (eqb n sum)) checksumDiffers 0)) (same .headers (good e .whole) 4 checksumAt (omega arith)))
+        (λ e.
+        ap (λ (n : ℕ). wholeAt (choose (not (eqb n sum)) checksumDiffers 0) checksumAt)
+        (same .headers (good (early-accepted w e) .whole) 4 checksumAt (omega arith)))
 
     reading-same : (x : Verdict) → (x ≡ Accepted → judged w ≡ Accepted) → readingOf v x ≡ readingOf w x
     reading-same (Refused r) h = refl
@@ -187,7 +217,7 @@ module _ (v w : View) (same : Agree v w) where
 
     early-of : verdictIn w sum ≡ Accepted → judged w ≡ Accepted
     unfolding verdictIn
-    early-of e = then-accepted _ _ e .0
+    early-of e = early-accepted w (then-accepted _ _ e .0)
 
     pub read-same : readView v sum ≡ readView w sum
     unfolding readView

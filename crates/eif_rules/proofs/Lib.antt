@@ -3,7 +3,9 @@ pub mod Verdicts
 pub mod Types
 pub mod Table
 pub mod View
+pub mod Position
 pub mod Reading
 pub mod Accept
 pub mod Agree
 pub mod Mark
+pub mod Flags

@@ -10,7 +10,7 @@ use native.Mathlib.Nat.{eq-or-lt-of-le}
 use borrow.Author.Tests.{eq-eqb, ne-eqb, eqb-true}
 use lib.Dec.{eqb}
 use Rattle.eif.specs.Logic.{choose}
-use Rattle.eif.specs.Answers.{refuse, andThen, wholeVerdict}
+use Rattle.eif.specs.Answers.{refuse, andThen, wholeAt, wholeVerdict}
 use Rattle.eif.specs.Rules.{firstFault}
 use Rattle.eif.specs.declared.Refusal.{Refusal}
 use Rattle.eif.specs.declared.Verdict.{Verdict}
@@ -33,8 +33,11 @@ pub then-same : (a b x y : Verdict) → a ≡ b → (b ≡ Accepted → x ≡ y)
 then-same a Accepted x y e h = ap (λ (v : Verdict). andThen v x) e ∙ h refl
 then-same a (Refused r) x y e h = ap (λ (v : Verdict). andThen v x) e
 
+pub whole-at-zero : (n p : ℕ) → wholeAt n p ≡ Accepted → n ≡ 0
+whole-at-zero n p e = eqb-true _ _ (choose-accepted Accepted _ (eqb n 0) e .0)
+
 pub whole-zero : (n : ℕ) → wholeVerdict n ≡ Accepted → n ≡ 0
-whole-zero n e = eqb-true _ _ (choose-accepted Accepted _ (eqb n 0) e .0)
+whole-zero n e = whole-at-zero n 0 e
 
 pub all-accepted : (m n : ℕ) (v : Verdict) → m ≡ 0 → v ≡ Accepted → n ≡ 0 → andThen (wholeVerdict m) (andThen v (wholeVerdict n)) ≡ Accepted
 all-accepted m n v a b c = rw (a, b, c) refl

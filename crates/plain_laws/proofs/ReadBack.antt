@@ -11,7 +11,7 @@ use Rattle.octets.specs.Bytes.{AreBytes}
 use Rattle.eif.specs.Numbers.{placeCount}
 use Rattle.eif.specs.Rules.{allowedIn, orderFault, missing}
 use Rattle.eif.specs.Table.{filled}
-use Rattle.eif.specs.Layout.{sectionHeaderSize, viewOf, memory, cpus, versionOf, countOf, startAt, kindAt}
+use Rattle.eif.specs.Layout.{sectionHeaderSize, viewOf, architecture, memory, cpus, versionOf, countOf, startAt, kindAt}
 use Rattle.eif.specs.Reading.{entryRule, hasTail, checksumOf, verdictOf, sectionAt, blankSection, sectionsOf, markOf, readImage}
 use Rattle.eif.specs.Plan.{placeAt, plannedKind, plannedSize, packedAt, plainSize, plainImage}
 use Rattle.eif.specs.declared.Place.{Place}
@@ -124,4 +124,4 @@ module _ (p : Plan) (d : List ℕ) (a : Planned p (length d)) where
           let u = read-cpus p d a (c .cpus) in
           let q = sections-back in
           reading-accepted s plain-accepted
-          ∙ (λ t. record { verdict = Accepted; version = v t; flags = f t; memory = m t; cpus = u t; count = n t; sections = q t; ramdisks = markOf (q t) })
+          ∙ (λ t. record { verdict = Accepted; version = v t; flags = f t; architecture = architecture (f t); memory = m t; cpus = u t; count = n t; sections = q t; ramdisks = markOf (q t) })

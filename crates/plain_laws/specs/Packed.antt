@@ -5,7 +5,7 @@ use mathlib.Core.Path.{_≡_}
 use mathlib.Core.List.{List}
 use Rattle.eif.specs.Numbers.{placeCount}
 use Rattle.eif.specs.Table.{filled}
-use Rattle.eif.specs.Layout.{sectionHeaderSize}
+use Rattle.eif.specs.Layout.{sectionHeaderSize, architecture}
 use Rattle.eif.specs.Reading.{blankSection, markOf}
 use Rattle.eif.specs.Plan.{placeAt, plannedKind, plannedSize, packedAt}
 use Rattle.eif.specs.declared.Place.{Place}
@@ -34,6 +34,7 @@ packedReading p =
       verdict = Accepted;
       version = p .version;
       flags = p .flags;
+      architecture = architecture (p .flags);
       memory = p .memory;
       cpus = p .cpus;
       count = p .count;

@@ -21,6 +21,8 @@ fn refusal(r: Refusal) {
     number(r.number as u64);
     text(b" at ");
     number(r.index);
+    text(b" byte ");
+    number(r.position);
 }
 
 fn answer(verdict: Verdict) {

@@ -3,6 +3,7 @@
 ghost use mathlib.Core.Path.{_≡_};
 ghost use lib.ListN.{length};
 use eif::DataLength;
+use eif::FlagsRecord;
 use eif::Header;
 use eif::PLACES;
 use eif::Place;
@@ -41,6 +42,8 @@ fn refusal(r: Refusal) {
     number(r.number as u64);
     text(b" at ");
     number(r.index);
+    text(b" byte ");
+    number(r.position);
 }
 
 fn answer(verdict: Verdict) {
@@ -85,14 +88,16 @@ fn list(records: [RollRecord; PLACES]) {
     }
 }
 
-// The verdict, the count and the list.
-fn read(label: &[u8], roll: &[u8]) {
+// The verdict, the flags, the count and the list.
+fn read_whole(label: &[u8], roll: &[u8]) {
     let reading = roll_reader::read(roll);
     let verdict = reading.verdict;
     let records = reading.records;
     text(label);
     text(b": ");
     answer(verdict);
+    text(b", flags ");
+    number(reading.flags as u64);
     text(b", ");
     number(reading.count);
     text(b" records");
@@ -100,14 +105,16 @@ fn read(label: &[u8], roll: &[u8]) {
     text(b"\n");
 }
 
-// The verdict, the count and the list's last place.
-fn read_last(label: &[u8], roll: &[u8]) {
+// The verdict, the flags, the count and the list's last place.
+fn read_whole_last(label: &[u8], roll: &[u8]) {
     let reading = roll_reader::read(roll);
     let verdict = reading.verdict;
     let records = reading.records;
     text(label);
     text(b": ");
     answer(verdict);
+    text(b", flags ");
+    number(reading.flags as u64);
     text(b", ");
     number(reading.count);
     text(b" records, last");
@@ -123,7 +130,36 @@ fn put_record(roll: &mut [u8], at: u16, kind: u16, lent: &[u8]) {
     octets::copy(roll, from + RecordHead::SIZE, lent);
 }
 
-// The 42 bytes that FORMAT.md, The boot roll, prints.
+// A flags record without flags, over a roll's start.
+fn put_flags(roll: &mut [u8]) {
+    put_record(roll, 0, FlagsRecord::TYPE, &[0u8, 0]);
+}
+
+// The longest rest of a roll below.
+const REST: usize = 340;
+
+// A rest of a roll, behind a flags record.
+fn read(label: &[u8], rest: &[u8]) {
+    if REST < rest.len() {
+        return;
+    }
+    let mut roll = [0u8; FlagsRecord::SIZE + REST];
+    put_flags(&mut roll);
+    octets::copy(&mut roll, FlagsRecord::SIZE, rest);
+    read_whole(label, &roll[0..FlagsRecord::SIZE + rest.len()]);
+}
+
+fn read_last(label: &[u8], rest: &[u8]) {
+    if REST < rest.len() {
+        return;
+    }
+    let mut roll = [0u8; FlagsRecord::SIZE + REST];
+    put_flags(&mut roll);
+    octets::copy(&mut roll, FlagsRecord::SIZE, rest);
+    read_whole_last(label, &roll[0..FlagsRecord::SIZE + rest.len()]);
+}
+
+// 42 bytes that FORMAT.md, The boot roll, prints: what follows the flags record.
 const WORKED: [u8; 42] = [
     0x01,
     0x00,
@@ -238,6 +274,67 @@ fn rows() {
     first_type(b"R9 first type 4", 4);
     first_type(b"R10 type 0 with length 1", 0);
     huge();
+}
+
+// ---- at an inner record and the last
+
+// The worked roll with two bytes changed.
+fn changed(label: &[u8], at: usize, value: u16) {
+    let mut roll = WORKED;
+    octets::put_le16(&mut roll, at, value);
+    read(label, &roll);
+}
+
+fn without_end() {
+    let worked = WORKED;
+    let mut roll = [0u8; 32];
+    octets::copy(&mut roll, 0, &worked);
+    read(b"without its end record", &roll);
+}
+
+fn ramdisk_second() {
+    let mut roll = [0u8; 42];
+    put_record(&mut roll, 0, SectionType::COMMAND_LINE, b"a");
+    put_record(&mut roll, 11, SectionType::RAMDISK, b"r");
+    put_record(&mut roll, 22, SectionType::KERNEL, b"");
+    read(b"ramdisk second, before the kernel", &roll);
+}
+
+fn inner() {
+    without_end();
+    changed(b"second record's data past the end", 13, 1);
+    changed(b"second type 4", 19, 4);
+    changed(b"end record with length 1", 32, 1);
+    ramdisk_second();
+    changed(b"command line twice", 30, 2);
+}
+
+// ---- neighbours of the flags record
+
+fn flags_rows() {
+    let none = [0u8; 0];
+    let zeros = [0u8; 10];
+    let worked = WORKED;
+    read_whole(b"no bytes", &none);
+    read_whole(b"ten zero bytes, no flags record", &zeros);
+    read_whole(b"no flags record", &worked);
+    let mut roll = [0u8; 54];
+    put_flags(&mut roll);
+    octets::copy(&mut roll, FlagsRecord::SIZE, &worked);
+    read_whole(b"nine bytes of a flags record", &roll[0..9]);
+    read_whole(b"its data cut", &roll[0..11]);
+    read_whole(b"a lone flags record", &roll[0..12]);
+    read(b"a second flags record", &roll);
+    octets::put_le16(&mut roll, RecordHead::SIZE, 65535);
+    read_whole(b"every flag", &roll);
+}
+
+fn flags_length() {
+    let worked = WORKED;
+    let mut roll = [0u8; 55];
+    put_record(&mut roll, 0, FlagsRecord::TYPE, &[0u8, 0, 0]);
+    octets::copy(&mut roll, 13, &worked);
+    read_whole(b"a flags record of length 3", &roll);
 }
 
 // ---- as many records as an image has places, and one more
@@ -359,19 +456,19 @@ fn worked_image() -> [u8; 586]
 
 fn rooms() {
     let image = worked_image();
-    let mut short = [0xeeu8; 41];
-    write(b"the worked image, room 41", &image, &mut short);
-    let mut exact = [0xeeu8; 42];
-    write(b"the worked image, room 42", &image, &mut exact);
-    read(b"its roll read", &exact);
-    let mut long = [0xeeu8; 43];
-    write(b"the worked image, room 43", &image, &mut long);
+    let mut short = [0xeeu8; 53];
+    write(b"the worked image, room 53", &image, &mut short);
+    let mut exact = [0xeeu8; 54];
+    write(b"the worked image, room 54", &image, &mut exact);
+    read_whole(b"its roll read", &exact);
+    let mut long = [0xeeu8; 55];
+    write(b"the worked image, room 55", &image, &mut long);
 }
 
 fn not_sealed() {
     let mut image = worked_image();
     octets::put_be16(&mut image, Header::FLAGS_AT, 1);
-    let mut out = [0xeeu8; 42];
+    let mut out = [0xeeu8; 54];
     write(b"its flags changed, its checksum not", &image, &mut out);
 }
 
@@ -381,7 +478,7 @@ fn before_kernel() {
     octets::put_be16(&mut image, 548, SectionType::COMMAND_LINE);
     octets::put_be16(&mut image, 561, SectionType::RAMDISK);
     case_images::seal(&mut image);
-    let mut out = [0xeeu8; 42];
+    let mut out = [0xeeu8; 54];
     write(b"a ramdisk before the kernel", &image, &mut out);
 }
 
@@ -416,7 +513,7 @@ fn planned() {
     text(b"the worked plan: ");
     rolled(written);
     text(b"\n");
-    let mut out = [0xeeu8; 42];
+    let mut out = [0xeeu8; 54];
     write(b"its image's roll", &image, &mut out);
 }
 
@@ -424,9 +521,9 @@ fn planned() {
 
 // The two rolls, by their lengths, and whether they are equal.
 fn compare(label: &[u8], one: &[u8], other: &[u8]) {
-    let mut x = [0u8; 64];
+    let mut x = [0u8; 76];
     let first = roll_writer::write(one, &mut x);
-    let mut y = [0u8; 64];
+    let mut y = [0u8; 76];
     let second = roll_writer::write(other, &mut y);
     text(label);
     text(b": ");
@@ -473,9 +570,9 @@ fn ramdisk_image(first: &[u8], second: &[u8]) -> [u8; 604]
     image
 }
 
-// Version 4 with other flags, a signature and metadata; reserved fields and unused entries are not zero.
+// Version 4 with a signature and metadata; reserved fields and unused entries are not zero.
 fn put_start(image: &mut [u8]) {
-    case_images::put_header(image, 4, 65535, 6);
+    case_images::put_header(image, 4, 0, 6);
     case_images::put_section(image, 0, 548, SectionType::KERNEL, 1, b"K");
     case_images::put_section(image, 1, 561, SectionType::COMMAND_LINE, 2, b"a");
     case_images::put_section(image, 2, 574, SectionType::SIGNATURE, 3, b"signed");
@@ -506,7 +603,32 @@ fn ramdisks_exchanged() {
 fn differ_elsewhere() {
     let one = ramdisk_image(b"old", b"new");
     let other = other_image();
-    compare(b"flags, version, signature, unused entries", &one, &other);
+    compare(b"version, signature, unused entries", &one, &other);
+}
+
+fn flagged_image(flags: u16) -> [u8; 586]
+    ensures { λ r. ⌜ length r ≡ 586 ⌝ }
+{
+    let mut image = worked_image();
+    octets::put_be16(&mut image, Header::FLAGS_AT, flags);
+    case_images::seal(&mut image);
+    image
+}
+
+// The other processor, and another flag.
+fn other_flags() {
+    let one = worked_image();
+    let processor = flagged_image(1);
+    compare(b"another architecture", &one, &processor);
+    let flag = flagged_image(32768);
+    compare(b"another flag", &one, &flag);
+}
+
+fn flags_written() {
+    let image = flagged_image(0x1234);
+    let mut out = [0xeeu8; 54];
+    write(b"flags 1234", &image, &mut out);
+    read_whole(b"its roll read", &out);
 }
 
 fn byte_moved() {
@@ -517,6 +639,9 @@ fn byte_moved() {
 
 fn main() {
     rows();
+    inner();
+    flags_rows();
+    flags_length();
     many();
     ramdisk_alone();
     kernels_whole();
@@ -527,5 +652,7 @@ fn main() {
     before_kernel();
     ramdisks_exchanged();
     differ_elsewhere();
+    other_flags();
+    flags_written();
     byte_moved();
 }

@@ -1,10 +1,10 @@
 -- Demand 3 (PROMISES.md): what a boot roll tells of its image. Images and rolls are byte strings where it is said; an accepted
 -- image is one whose reading is accepted. Assumes nothing.
 use Prim.Native.Nat.{ℕ, _+_, _<_, _≤_}
-use mathlib.Core.Path.{_≡_, refl, sym, ap, _∙_}
+use mathlib.Core.Path.{_≡_, sym, ap, ap₂, _∙_}
 use mathlib.Core.Bool.{Bool}
 use mathlib.Core.Logic.{_⊎_, ⊎-elim}
-use mathlib.Core.List.{List, _++_, map}
+use mathlib.Core.List.{List, _++_, append-assoc, map}
 use native.Mathlib.Omega.{arith}
 use borrow.Author.Tests.{lt-ltb, le-ltb}
 use lib.Dec.{ltb}
@@ -12,14 +12,15 @@ use lib.ListN.{length, take, drop, take-append-drop}
 use lib.Seq.{length-take-le, take-all}
 use Rattle.octets.specs.Bytes.{AreBytes}
 use Rattle.octets.specs.Over.{over}
-use Rattle.octets.proofs.Value.{bytes-take}
+use Rattle.octets.proofs.Value.{bytes-take, field-lt}
 use Rattle.eif.specs.Numbers.{placeCount, outputTooShort}
 use Rattle.eif.specs.Logic.{choose}
 use Rattle.eif.specs.Answers.{refuse, andThen}
 use Rattle.eif.specs.Output.{outputFor}
+use Rattle.eif.specs.Layout.{headerFlagsOf}
 use Rattle.eif.specs.Reading.{verdictOf}
 use Rattle.eif.specs.Plan.{writtenFor}
-use Rattle.eif.specs.Roll.{rollOf, recordsOf, rollBytes, SameSections, Begins, rollVerdict, rollAnswer, rollLength, rollOutput, recordKind, recordSize, readRoll}
+use Rattle.eif.specs.Roll.{Record, flagsRecordSize, flagsRecord, rollOf, recordsOf, rollBytes, SameBoot, Begins, rollVerdict, rollAnswer, rollLength, rollOutput, rollFlags, recordKind, recordSize, readRoll}
 use Rattle.eif.specs.declared.Refusal.{Refusal}
 use Rattle.eif.specs.declared.RollReading.{RollReading}
 use Rattle.eif.specs.declared.Verdict.{Verdict}
@@ -28,6 +29,7 @@ use Rattle.eif_rules.proofs.Verdicts.{then-none}
 use Rattle.roll_laws.specs.Listing.{listFrom, listingOf, foundIn}
 use Rattle.roll_laws.proofs.Prefix.{prefix-same}
 use Rattle.roll_laws.proofs.Positions.{sizes, kinds}
+use Rattle.roll_laws.proofs.Flags.{flags-past, flags-back, read-on, flags-same}
 use Rattle.roll_laws.proofs.RollRules.{→roll}
 use Rattle.roll_laws.proofs.ImageOfRoll.{ImageOf, image-of-roll}
 use Rattle.roll_laws.proofs.RollOfImage.{image-fit, image-few, roll-whole, shorter}
@@ -39,78 +41,102 @@ equal-begins : (x y : List ℕ) → x ≡ y → Begins x y
 equal-begins x y e = let n = ap length e in record { shorter = omega arith; same = take-all (length x) y (omega arith) ∙ sym e }
 
 module _ (s t : List ℕ) where
-  -- If they hold the same, the rolls are equal, whatever differs elsewhere in the files.
-  pub same-roll : SameSections s t → rollBytes s ≡ rollBytes t
+  -- If they have the same flags and hold the same, the rolls are equal, whatever differs elsewhere in the files.
+  pub same-roll : SameBoot s t → rollBytes s ≡ rollBytes t
   unfolding rollBytes
-  same-roll e = ap rollOf e
+  same-roll e = ap₂ (λ (f : ℕ) (rs : List Record). flagsRecord f ++ rollOf rs) (e .flags) (e .sections)
 
-  module _ (s-accepted : verdictOf s ≡ Accepted) (t-accepted : verdictOf t ≡ Accepted) where
-    begins : Begins (rollBytes s) (rollBytes t) → SameSections s t
+  other-way : SameBoot s t → SameBoot t s
+  other-way e = record { flags = sym (e .flags); sections = sym (e .sections) }
+
+  module _ (s-bytes : AreBytes s) (s-accepted : verdictOf s ≡ Accepted) (t-bytes : AreBytes t) (t-accepted : verdictOf t ≡ Accepted) where
+    begins : Begins (rollBytes s) (rollBytes t) → SameBoot s t
     unfolding rollBytes
     begins b =
-        let x : List ℕ = rollOf (recordsOf s) in
-        let y : List ℕ = rollOf (recordsOf t) in
-        prefix-same (recordsOf s) (recordsOf t) (drop (length x) y) (image-fit s s-accepted) (image-fit t t-accepted)
-        (ap (λ (l : List ℕ). l ++ drop (length x) y) (sym (b .same)) ∙ take-append-drop (length x) y)
+        let f : ℕ = headerFlagsOf s in
+        let x : List ℕ = flagsRecord f ++ rollOf (recordsOf s) in
+        let y : List ℕ = rollBytes t in
+        let more : List ℕ = drop (length x) y in
+        let e = flags-same f (headerFlagsOf t) (rollOf (recordsOf s) ++ more) (rollOf (recordsOf t)) (field-lt 2 6 s s-bytes) (field-lt 2 6 t t-bytes)
+        (sym (append-assoc (flagsRecord f) (rollOf (recordsOf s)) more)
+        ∙ ap (λ (l : List ℕ). l ++ more) (sym (b .same)) ∙ take-append-drop (length x) y) in
+        record { flags = e .0; sections = prefix-same (recordsOf s) (recordsOf t) more (image-fit s s-accepted) (image-fit t t-accepted) (e .1) }
 
--- For every two accepted images, if one roll is equal to the other or is its beginning, then both images hold the same such
--- sections: same kinds, lengths, bytes and order.
-module _ (s t : List ℕ) (s-accepted : verdictOf s ≡ Accepted) (t-accepted : verdictOf t ≡ Accepted) where
-  pub begins-same : (rollBytes s ≡ rollBytes t) ⊎ (Begins (rollBytes s) (rollBytes t) ⊎ Begins (rollBytes t) (rollBytes s)) → SameSections s t
+-- For every two accepted images, if one roll is equal to the other or is its beginning, then both images have the same flags and hold
+-- the same such sections: same kinds, lengths, bytes and order.
+module _ (s t : List ℕ) (s-bytes : AreBytes s) (s-accepted : verdictOf s ≡ Accepted) (t-bytes : AreBytes t) (t-accepted : verdictOf t ≡ Accepted) where
+  pub begins-same : (rollBytes s ≡ rollBytes t) ⊎ (Begins (rollBytes s) (rollBytes t) ⊎ Begins (rollBytes t) (rollBytes s)) → SameBoot s t
   begins-same =
       ⊎-elim
-      (λ e. begins s t s-accepted t-accepted (equal-begins (rollBytes s) (rollBytes t) e))
-      (⊎-elim (begins s t s-accepted t-accepted) (λ b. sym (begins t s t-accepted s-accepted b)))
+      (λ e. begins s t s-bytes s-accepted t-bytes t-accepted (equal-begins (rollBytes s) (rollBytes t) e))
+      (⊎-elim (begins s t s-bytes s-accepted t-bytes t-accepted) (λ b. other-way t s (begins t s t-bytes t-accepted s-bytes s-accepted b)))
 
 -- ---- the roll's reader
 
 -- The roll's reader gives the list of any roll it accepts: that of the image, said from the image's sections alone.
 pub record ReadsList (s : List ℕ) : Type 0 where
-  -- the count, and of each section of type 1, 2 or 3 in file order the type, data position and length; unused places blank
-  pub reading : readRoll (rollBytes s) ≡ listingOf (recordsOf s)
+  -- the flags, the count, and of each section of type 1, 2 or 3 in file order the type, data position and length; unused places blank
+  pub reading : readRoll (rollBytes s) ≡ listingOf (headerFlagsOf s) (recordsOf s)
   -- none is left out
   pub few : length (recordsOf s) ≤ placeCount
   -- the bytes at these positions of the roll are the sections' data
-  pub found : map (foundIn (rollBytes s)) (listFrom 0 (recordsOf s)) ≡ recordsOf s
+  pub found : map (foundIn (rollBytes s)) (listFrom flagsRecordSize (recordsOf s)) ≡ recordsOf s
 
-pub list-of-image : (s : List ℕ) → verdictOf s ≡ Accepted → ReadsList s
+-- its list, whatever its flags are read as, and the bytes there
+pub listing-of-roll : (s : List ℕ) → verdictOf s ≡ Accepted → readRoll (rollBytes s) ≡ listingOf (rollFlags (rollBytes s)) (recordsOf s)
 unfolding rollBytes
-list-of-image s ok =
+listing-of-roll s ok =
     let rs = recordsOf s in
     let t = rollOf (recordsOf s) in
+    let f : ℕ = rollFlags (flagsRecord (headerFlagsOf s) ++ t) in
+    read-on (headerFlagsOf s) t
+    ∙ →roll f t (length rs) (roll-whole s ok)
+    ∙ listing-is t f rs (image-few s ok)
+    (record {
+      kind = λ j h. let z : 0 + j ≡ j = omega arith in ap (recordKind t) z ∙ kinds rs (image-fit s ok) j h;
+      size = λ j h. let z : 0 + j ≡ j = omega arith in ap (recordSize t) z ∙ sizes rs (image-fit s ok) j h;
+    })
+
+pub found-in-roll : (s : List ℕ) → map (foundIn (rollBytes s)) (listFrom flagsRecordSize (recordsOf s)) ≡ recordsOf s
+unfolding rollBytes
+found-in-roll s =
+    let t = rollOf (recordsOf s) in
+    found-from (flagsRecord (headerFlagsOf s) ++ t) (recordsOf s) flagsRecordSize (flags-past (headerFlagsOf s) t)
+
+-- its flags are the image's
+flags-of-roll : (s : List ℕ) → AreBytes s → rollFlags (rollBytes s) ≡ headerFlagsOf s
+unfolding rollBytes
+flags-of-roll s w = flags-back (headerFlagsOf s) (rollOf (recordsOf s)) (field-lt 2 6 s w)
+
+pub list-of-image : (s : List ℕ) → AreBytes s → verdictOf s ≡ Accepted → ReadsList s
+list-of-image s w ok =
     record {
-      reading =
-          →roll t (length rs) (roll-whole s ok)
-          ∙ listing-is t rs (image-few s ok)
-          (record {
-            kind = λ j h. let z : 0 + j ≡ j = omega arith in ap (recordKind t) z ∙ kinds rs (image-fit s ok) j h;
-            size = λ j h. let z : 0 + j ≡ j = omega arith in ap (recordSize t) z ∙ sizes rs (image-fit s ok) j h;
-          });
+      reading = listing-of-roll s ok ∙ ap (λ (f : ℕ). listingOf f (recordsOf s)) (flags-of-roll s w);
       few = image-few s ok;
-      found = found-from t rs 0 refl;
+      found = found-in-roll s;
     }
 
-pub list-of-roll : (t : List ℕ) (i : ImageOf t) → readRoll t ≡ listingOf (recordsOf (i .image))
-list-of-roll t i = ap readRoll (sym (i .roll)) ∙ list-of-image (i .image) (i .accepted) .reading
+pub list-of-roll : (t : List ℕ) (i : ImageOf t) → readRoll t ≡ listingOf (headerFlagsOf (i .image)) (recordsOf (i .image))
+list-of-roll t i = ap readRoll (sym (i .roll)) ∙ list-of-image (i .image) (i .bytes) (i .accepted) .reading
 
 -- The roll's reader gives the list of any roll it accepts.
 pub record ListOf (t : List ℕ) : Type 0 where
   -- an accepted image whose roll it is
   pub of : ImageOf t
   -- the answer is that image's list, none is left out, and the bytes at its positions are the sections' data
-  pub reading : readRoll t ≡ listingOf (recordsOf (of .image))
+  pub reading : readRoll t ≡ listingOf (headerFlagsOf (of .image)) (recordsOf (of .image))
   pub few : length (recordsOf (of .image)) ≤ placeCount
-  pub found : map (foundIn t) (listFrom 0 (recordsOf (of .image))) ≡ recordsOf (of .image)
+  pub found : map (foundIn t) (listFrom flagsRecordSize (recordsOf (of .image))) ≡ recordsOf (of .image)
 
 pub list-of-accepted : (t : List ℕ) → AreBytes t → readRoll t .verdict ≡ Accepted → ListOf t
 list-of-accepted t w ok =
     let i = image-of-roll t w ok in
-    let l = list-of-image (i .image) (i .accepted) in
+    let l = list-of-image (i .image) (i .bytes) (i .accepted) in
     record {
       of = i;
       reading = list-of-roll t i;
       few = l .few;
-      found = ap (λ (x : List ℕ). map (foundIn x) (listFrom 0 (recordsOf (i .image)))) (sym (i .roll)) ∙ l .found;
+      found = ap (λ (x : List ℕ). map (foundIn x) (listFrom flagsRecordSize (recordsOf (i .image)))) (sym (i .roll)) ∙ l .found;
     }
 
 -- Whatever bytes the roll's reader is handed, it accepts them exactly when they are the roll of some accepted image.
@@ -125,13 +151,14 @@ no-cut t w ok n h cut =
     let l : length (take n t) ≡ n = length-take-le n t (omega arith) in
     let b : Begins (take n t) t = record { shorter = omega arith; same = ap (λ (k : ℕ). take k t) l } in
     let c : Begins (rollBytes (j .image)) (rollBytes (i .image)) = rw (i .roll, j .roll) b in
-    let e = sym (j .roll) ∙ same-roll (j .image) (i .image) (begins (j .image) (i .image) (j .accepted) (i .accepted) c) ∙ i .roll in
+    let e = sym (j .roll) ∙ same-roll (j .image) (i .image) (begins (j .image) (i .image) (j .bytes) (j .accepted) (i .bytes) (i .accepted) c) ∙ i .roll in
     let m = ap length e in
     omega arith
 
 -- ---- the roll's writer
 
--- A roll is always shorter than its image.
+-- A roll is always shorter than its image: where it has the flags record and the end record, 22 bytes, the image has its header, 548, and
+-- where it has a record's head, 10, the image has a section's, 12.
 pub roll-shorter : (s : List ℕ) → verdictOf s ≡ Accepted → length (rollBytes s) < length s
 roll-shorter = shorter
 

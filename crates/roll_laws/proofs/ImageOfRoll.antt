@@ -1,23 +1,24 @@
--- Every accepted roll is the roll of an accepted image: the plain image of version 2 with the roll's records as sections.
+-- Every accepted roll is the roll of an accepted image: the plain image of version 2 with the roll's flags, and with its records as
+-- sections.
 -- Assumes nothing.
-use Prim.Native.Nat.{ℕ, zero, suc, _+_, _<_, _≤_}
+use Prim.Native.Nat.{ℕ, zero, suc, _+_, _^_, _<_, _≤_}
 use mathlib.Core.Path.{_≡_, refl, sym, ap, ap₂, subst, _∙_}
 use mathlib.Core.Bool.{Bool, true, false}
-use mathlib.Core.List.{List, [], _∷_, _++_, append-assoc, append-nil}
+use mathlib.Core.List.{List, [], _∷_, _++_, append-nil}
 use native.Mathlib.Omega.{arith}
 use borrow.Author.Tests.{ne-eqb, le-leb, eqb-true, not-false}
 use lib.Dec.{eqb}
 use lib.ListN.{length, take, drop, replicate, take-append-drop, length-take, length-drop}
 use lib.Seq.{drop-drop, drop-length}
-use Rattle.octets.specs.Bytes.{AreBytes, leBytes}
-use Rattle.octets.proofs.Value.{bytes-take, bytes-drop}
+use Rattle.octets.specs.Bytes.{AreBytes}
+use Rattle.octets.proofs.Value.{bytes-take, bytes-drop, leField-lt}
 use Rattle.eif.specs.Numbers.{placeCount, kernel, commandLine}
 use Rattle.eif.specs.Logic.{choose, either}
 use Rattle.eif.specs.Rules.{allowedIn, seen, orderFault, missing}
 use Rattle.eif.specs.Table.{filled}
 use Rattle.eif.specs.Reading.{verdictOf, blankSection, dataOf}
 use Rattle.eif.specs.Plan.{blankPlace, placeAt, plannedKind, plannedSize, packedAt, plainImage, joinFrom}
-use Rattle.eif.specs.Roll.{Record, recordHeadSize, headOf, rollOf, inRoll, recordFor, recordsIn, rollBytes, recordAt, recordSize, recordKind, imageSize, readRoll}
+use Rattle.eif.specs.Roll.{Record, recordHeadSize, headOf, flagsRecordSize, flagsRecord, rollOf, inRoll, recordFor, recordsIn, recordsOf, rollBytes, rollFlags, restOf, recordAt, recordSize, recordKind, imageSize, readRest, readRoll}
 use Rattle.eif.specs.declared.Plan.{Plan}
 use Rattle.eif.specs.declared.Place.{Place}
 use Rattle.eif.specs.declared.Section.{Section}
@@ -25,15 +26,15 @@ use Rattle.eif.specs.declared.Verdict.the-variants.{Accepted}
 use Rattle.eif_rules.proofs.Logic.{not-both, either-false}
 use Rattle.eif_rules.proofs.Types.{order-same, missing-same}
 use Rattle.eif_rules.proofs.Table.{filled-at, filled-none}
-use Rattle.plain_laws.proofs.Split.{le-split}
 use Rattle.plain_laws.proofs.Shape.{packed-suc, packed-zero, bytes-plain}
 use Rattle.plain_laws.proofs.PlanRules.{Planned}
-use Rattle.plain_laws.proofs.Written.{Fits, read-data}
+use Rattle.plain_laws.proofs.Written.{Fits, read-flags, read-data}
 use Rattle.plain_laws.proofs.Joined.{bytes-joined, piece-is, length-joined}
 use Rattle.plain_laws.specs.Packed.{packedSection}
 use Rattle.plain_laws.proofs.ReadBack.{plain-accepted, sections-back}
 use Rattle.roll_laws.proofs.RollRules.{Whole, roll→}
 use Rattle.roll_laws.proofs.Positions.{first-record, next-record, first-size, next-size}
+use Rattle.roll_laws.proofs.Flags.{head-split, flags-split, read-accepted}
 
 -- ---- the types of a roll
 
@@ -85,9 +86,9 @@ module _ (s : List ℕ) where
   abbrev rollPiece : ℕ → List ℕ
   rollPiece i = take (recordSize s i) (drop (recordAt s i + recordHeadSize) s)
 
-  module _ (n : ℕ) where
+  module _ (f n : ℕ) where
     abbrev rollPlan : Plan
-    rollPlan = record { version = 2; flags = 0; memory = 0; cpus = 0; count = n; places = filled rollPlace blankPlace placeCount n }
+    rollPlan = record { version = 2; flags = f; memory = 0; cpus = 0; count = n; places = filled rollPlace blankPlace placeCount n }
 
     abbrev rollData : List ℕ
     rollData = joinFrom rollPiece n 0
@@ -95,18 +96,19 @@ module _ (s : List ℕ) where
     abbrev pub rollImage : List ℕ
     rollImage = plainImage rollPlan rollData
 
-module _ (s : List ℕ) (w : AreBytes s) (n : ℕ) (a : Whole s n) where
+-- s is the rest of a roll with flags f
+module _ (f : ℕ) (f-fits : f < 2 ^ 16) (s : List ℕ) (w : AreBytes s) (n : ℕ) (a : Whole s n) where
   abbrev p : Plan
-  p = rollPlan s n
+  p = rollPlan s f n
 
   abbrev l : List Place
   l = filled (rollPlace s) blankPlace placeCount n
 
   abbrev d : List ℕ
-  d = rollData s n
+  d = rollData s f n
 
   abbrev image : List ℕ
-  image = rollImage s n
+  image = rollImage s f n
 
   place-is : (i : ℕ) → i < n → placeAt l i ≡ rollPlace s i
   place-is i h = filled-at (rollPlace s) blankPlace blankPlace placeCount n i h (a .few)
@@ -147,7 +149,7 @@ module _ (s : List ℕ) (w : AreBytes s) (n : ℕ) (a : Whole s n) where
       }
 
   roll-fits : Fits p
-  roll-fits = record { flags = omega arith; memory = omega arith; cpus = omega arith; section-flags = λ i h. rw (place-is i h) (omega arith) }
+  roll-fits = record { flags = f-fits; memory = omega arith; cpus = omega arith; section-flags = λ i h. rw (place-is i h) (omega arith) }
 
   bytes-d : AreBytes d
   bytes-d = bytes-joined (rollPiece s) n 0 (λ j. bytes-take (recordSize s j) (drop (recordAt s j + 10) s) (bytes-drop (recordAt s j + 10) s w))
@@ -164,26 +166,16 @@ module _ (s : List ℕ) (w : AreBytes s) (n : ℕ) (a : Whole s n) where
 
   -- ---- the bytes of the roll, taken apart
 
-  head-split : (i : ℕ) → i ≤ n → drop (recordAt s i) s ≡ headOf (recordSize s i) (recordKind s i) ++ drop (recordAt s i + 10) s
-  unfolding headOf
-  head-split i h =
-      let q = a .heads i h in
-      let o : ℕ = recordAt s i in
-      let e : o + 8 + 2 ≡ o + 10 = omega arith in
-      le-split s w 8 o (omega arith)
-      ∙ ap (λ (r : List ℕ). leBytes 8 (recordSize s i) ++ r) (le-split s w 2 (o + 8) (omega arith) ∙ ap (λ (m : ℕ). leBytes 2 (recordKind s i) ++ drop m s) e)
-      ∙ sym (append-assoc (leBytes 8 (recordSize s i)) (leBytes 2 (recordKind s i)) (drop (o + 10) s))
-
   record-split : (i : ℕ) → i < n → drop (recordAt s i) s ≡ headOf (recordSize s i) (recordKind s i) ++ (rollPiece s i ++ drop (recordAt s (suc i)) s)
   record-split i h =
-      head-split i (omega arith)
+      head-split s w (recordAt s i) (a .heads i (omega arith))
       ∙ ap (λ (r : List ℕ). headOf (recordSize s i) (recordKind s i) ++ r)
       (sym (take-append-drop (recordSize s i) (drop (recordAt s i + 10) s))
       ∙ ap (λ (r : List ℕ). rollPiece s i ++ r) (drop-drop (recordSize s i) (recordAt s i + 10) s ∙ ap (λ (m : ℕ). drop m s) (sym (next-record s i))))
 
   end-split : drop (recordAt s n) s ≡ headOf 0 0
   end-split =
-      head-split n (omega arith)
+      head-split s w (recordAt s n) (a .heads n (omega arith))
       ∙ ap₂ (λ (x : List ℕ) (y : List ℕ). x ++ y) (ap₂ headOf (a .end-size) (a .end-kind)) (ap (λ (m : ℕ). drop m s) (a .ends) ∙ drop-length s)
       ∙ append-nil (headOf 0 0)
 
@@ -218,13 +210,16 @@ module _ (s : List ℕ) (w : AreBytes s) (n : ℕ) (a : Whole s n) where
       (rolled m k (suc i) (λ j. f (suc j)) (omega arith) (omega arith)
       (λ j q. let y : i + suc j ≡ suc i + j = omega arith in subst (Matches (f (suc j))) y (g (suc j) (omega arith))))
 
-  pub roll-again : rollBytes image ≡ s
-  unfolding rollBytes
-  roll-again =
+  rest-again : rollOf (recordsOf image) ≡ s
+  rest-again =
       ap (λ (x : List Section). rollOf (recordsIn image x)) (sections-back p d roll-planned bytes-d roll-fits)
       ∙ rolled placeCount n 0 (packedSection l) (a .few) (omega arith)
       (λ j q. let z : j ≡ 0 + j = omega arith in subst (Matches (packedSection l j)) z (record { kind = kind-is j q; bytes = data-is j q }))
       ∙ ap (λ (m : ℕ). drop m s) (first-record s)
+
+  pub roll-again : rollBytes image ≡ flagsRecord f ++ s
+  unfolding rollBytes
+  roll-again = ap₂ (λ (x : ℕ) (r : List ℕ). flagsRecord x ++ r) (read-flags p d roll-planned f-fits) rest-again
 
 -- ---- the law
 
@@ -237,6 +232,16 @@ pub record ImageOf (t : List ℕ) : Type 0 where
 
 pub image-of-roll : (t : List ℕ) → AreBytes t → readRoll t .verdict ≡ Accepted → ImageOf t
 image-of-roll t w e =
-    let n : ℕ = readRoll t .count in
-    let a = roll→ t e in
-    record { image = rollImage t n; bytes = image-bytes t w n a; accepted = image-accepted t w n a; roll = roll-again t w n a }
+    let f : ℕ = rollFlags t in
+    let r : List ℕ = restOf t in
+    let n : ℕ = readRest f r .count in
+    let g = read-accepted t e in
+    let h = leField-lt 2 10 t w in
+    let v = bytes-drop flagsRecordSize t w in
+    let a = roll→ f r (g .1) in
+    record {
+      image = rollImage r f n;
+      bytes = image-bytes f h r v n a;
+      accepted = image-accepted f h r v n a;
+      roll = roll-again f h r v n a ∙ sym (flags-split t w (g .0));
+    }

@@ -1,6 +1,7 @@
 pub mod RollRules
 pub mod Prefix
 pub mod Positions
+pub mod Flags
 pub mod ImageOfRoll
 pub mod Order
 pub mod RollOfImage

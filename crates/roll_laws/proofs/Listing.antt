@@ -9,7 +9,7 @@ use lib.ListN.{length, take, drop, getD, replicate}
 use lib.Seq.{take-at, drop-at, drop-drop}
 use Rattle.eif.specs.Numbers.{placeCount}
 use Rattle.eif.specs.Table.{filled}
-use Rattle.eif.specs.Roll.{Record, recordHeadSize, rollOf, recordAt, recordSize, recordKind, listedAt, blankRecord, acceptedRoll}
+use Rattle.eif.specs.Roll.{Record, recordHeadSize, flagsRecordSize, rollOf, recordAt, recordSize, recordKind, listedAt, blankRecord, acceptedRoll}
 use Rattle.eif.specs.declared.RollRecord.{RollRecord}
 use Rattle.eif_rules.proofs.Table.{filled-none}
 use Rattle.roll_laws.specs.Listing.{listFrom, listingOf, foundIn}
@@ -31,7 +31,7 @@ found-from t (r ∷ rs) at e =
 
 -- ---- what reading gives
 
--- the records of a roll from record i on are as in a list
+-- the records of a roll's rest from record i on are as in a list
 pub record AreAt (t : List ℕ) (i : ℕ) (rs : List Record) : Type 0 where
   pub kind : (j : ℕ) → j < length rs → recordKind t (i + j) ≡ getD rs j blank .kind
   pub size : (j : ℕ) → j < length rs → recordSize t (i + j) ≡ length (getD rs j blank .bytes)
@@ -44,7 +44,7 @@ module _ (t : List ℕ) where
         size = λ j h. let z : suc i + j ≡ i + suc j = omega arith in ap (recordSize t) z ∙ a .size (suc j) (omega arith);
       }
 
-  first : (i at : ℕ) (r : Record) (rs : List Record) → AreAt t i (r ∷ rs) → recordAt t i ≡ at
+  first : (i at : ℕ) (r : Record) (rs : List Record) → AreAt t i (r ∷ rs) → flagsRecordSize + recordAt t i ≡ at
       → listedAt t i ≡ record { kind = r .kind; position = record { 0 = at + recordHeadSize }; length = record { 0 = length (r .bytes) } }
   first i at r rs a e =
       let z : i ≡ i + 0 = omega arith in
@@ -53,7 +53,7 @@ module _ (t : List ℕ) where
       let n = ap (recordSize t) z ∙ a .size 0 (omega arith) in
       λ u. record { kind = k u; position = record { 0 = q u }; length = record { 0 = n u } }
 
-  filled-from : (rs : List Record) (m i at : ℕ) (f : ℕ → RollRecord) → length rs ≤ m → ((j : ℕ) → f j ≡ listedAt t (i + j)) → recordAt t i ≡ at → AreAt t i rs
+  filled-from : (rs : List Record) (m i at : ℕ) (f : ℕ → RollRecord) → length rs ≤ m → ((j : ℕ) → f j ≡ listedAt t (i + j)) → flagsRecordSize + recordAt t i ≡ at → AreAt t i rs
       → filled f blankRecord m (length rs) ≡ listFrom at rs ++ replicate (m - length rs) blankRecord
   filled-from [] m i at f h g e a = filled-none f blankRecord m ∙ ap (λ (k : ℕ). replicate k blankRecord) (sym (sub-zero m))
   filled-from (r ∷ rs) zero i at f h g e a = absurd (omega arith)
@@ -64,10 +64,10 @@ module _ (t : List ℕ) where
       ap₂ (λ (x : RollRecord) (xs : List RollRecord). x ∷ xs) (g 0 ∙ ap (listedAt t) z ∙ first i at r rs a e)
       (filled-from rs m (suc i) (at + recordHeadSize + length (r .bytes)) (λ j. f (suc j)) (omega arith)
       (λ j. let y : i + suc j ≡ suc i + j = omega arith in g (suc j) ∙ ap (listedAt t) y)
-      (next-record t i ∙ ap₂ (λ (x y : ℕ). x + recordHeadSize + y) e s) (later i r rs a)
+      (omega (arith, next-record t i)) (later i r rs a)
       ∙ ap (λ (k : ℕ). listFrom (at + recordHeadSize + length (r .bytes)) rs ++ replicate k blankRecord) (sym n))
 
-  pub listing-is : (rs : List Record) → length rs ≤ placeCount → AreAt t 0 rs → listed t (length rs) ≡ listingOf rs
-  listing-is rs h a =
-      ap (acceptedRoll (length rs))
-      (filled-from rs placeCount 0 0 (listedAt t) h (λ j. let z : j ≡ 0 + j = omega arith in ap (listedAt t) z) (first-record t) a)
+  pub listing-is : (flags : ℕ) (rs : List Record) → length rs ≤ placeCount → AreAt t 0 rs → listed flags t (length rs) ≡ listingOf flags rs
+  listing-is flags rs h a =
+      ap (acceptedRoll flags (length rs))
+      (filled-from rs placeCount 0 flagsRecordSize (listedAt t) h (λ j. let z : j ≡ 0 + j = omega arith in ap (listedAt t) z) (ap (λ (n : ℕ). flagsRecordSize + n) (first-record t)) a)

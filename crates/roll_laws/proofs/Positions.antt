@@ -34,11 +34,11 @@ module _ (s : List ℕ) where
 -- ---- a record's head
 
 module _ (m k : ℕ) (y : List ℕ) where
-  head-size : m < 2 ^ 64 → leField 8 0 (headOf m k ++ y) ≡ m
+  pub head-size : m < 2 ^ 64 → leField 8 0 (headOf m k ++ y) ≡ m
   unfolding headOf
   head-size h = ap (leField 8 0) (append-assoc (leBytes 8 m) (leBytes 2 k) y) ∙ leField-at 8 m 0 [] (leBytes 2 k ++ y) refl h
 
-  head-kind : k < 2 ^ 16 → leField 2 8 (headOf m k ++ y) ≡ k
+  pub head-kind : k < 2 ^ 16 → leField 2 8 (headOf m k ++ y) ≡ k
   unfolding headOf
   head-kind h = ap (leField 2 8) (append-assoc (leBytes 8 m) (leBytes 2 k) y) ∙ leField-at 2 k 8 (leBytes 8 m) y refl h
 

@@ -1,4 +1,4 @@
--- The roll of every accepted image is accepted, and is shorter than the image.
+-- The rest of the roll of every accepted image is accepted, and the roll is shorter than the image.
 -- Assumes nothing.
 use Prim.Native.Nat.{ℕ, zero, suc, _+_, _-_, _<_, _≤_}
 use mathlib.Core.Path.{_≡_, refl, sym, ap, subst, _∙_}
@@ -16,14 +16,15 @@ use Rattle.eif.specs.Numbers.{sizeLimit, placeCount, kernel, commandLine}
 use Rattle.eif.specs.Logic.{choose}
 use Rattle.eif.specs.Rules.{seen, orderFault, missing}
 use Rattle.eif.specs.Table.{filled}
-use Rattle.eif.specs.Layout.{headerSize, sectionHeaderSize, versionOf, countOf, offsetAt, sizeAt, startAt, kindAt}
+use Rattle.eif.specs.Layout.{headerSize, sectionHeaderSize, versionOf, headerFlagsOf, countOf, offsetAt, sizeAt, startAt, kindAt}
 use Rattle.eif.specs.Reading.{verdictOf, sectionAt, blankSection, sectionsOf, dataOf}
-use Rattle.eif.specs.Roll.{Record, headOf, rollOf, inRoll, recordFor, recordsIn, recordsOf, rollBytes, recordAt, recordSize, recordKind, imageSize}
+use Rattle.eif.specs.Roll.{Record, headOf, flagsRecord, rollOf, inRoll, recordFor, recordsIn, recordsOf, rollBytes, recordAt, recordSize, recordKind, imageSize}
 use Rattle.eif.specs.declared.Section.{Section}
 use Rattle.eif.specs.declared.Verdict.the-variants.{Accepted}
 use Rattle.eif_rules.proofs.Logic.{both-true}
 use Rattle.eif_rules.proofs.Table.{filled-none, length-filled}
 use Rattle.eif_rules.proofs.Accept.{none-missing-of, order-at}
+use Rattle.eif_rules.proofs.Flags.{length-flags}
 use Rattle.plain_laws.proofs.WriteBack.{head, entry}
 use Rattle.plain_laws.proofs.Plainness.{start-inside}
 use Rattle.roll_laws.proofs.RollRules.{Whole}
@@ -269,4 +270,9 @@ module _ (s : List ℕ) (ok : verdictOf s ≡ Accepted) where
 
   pub shorter : length (rollBytes s) < length s
   unfolding rollBytes
-  shorter = let a = roll-le (recordsOf s) in let b = sum-small s ok in omega arith
+  shorter =
+      let a = roll-le (recordsOf s) in
+      let b = sum-small s ok in
+      let n = length-append (flagsRecord (headerFlagsOf s)) (rollOf (recordsOf s)) in
+      let m = length-flags (headerFlagsOf s) in
+      omega arith

@@ -1,4 +1,4 @@
--- A roll is accepted exactly when it meets every rule, said without an order of tests.
+-- The rest of a roll, behind its flags record, is accepted exactly when it meets every rule, said without an order of tests.
 -- Assumes nothing.
 use Prim.Native.Nat.{ℕ, zero, suc, _+_, _<_, _≤_}
 use mathlib.Core.Path.{_≡_, refl, sym, ap, subst, _∙_}
@@ -12,16 +12,15 @@ use lib.Dec.{eqb, ltb, leb}
 use lib.ListN.{length}
 use Rattle.eif.specs.Numbers.{sizeLimit, placeCount}
 use Rattle.eif.specs.Logic.{both, choose}
-use Rattle.eif.specs.Answers.{refuse}
 use Rattle.eif.specs.Rules.{orderFault, missing}
 use Rattle.eif.specs.Table.{filled}
-use Rattle.eif.specs.Roll.{recordAt, recordSize, recordKind, isEnd, headFault, bodyFault, Ending, ended, stopped, stop, endFrom, imageSize, rollFault, listedAt, blankRecord, acceptedRoll, refusedRoll, rollAnswerFor, readRoll}
+use Rattle.eif.specs.Roll.{recordAt, recordSize, recordKind, isEnd, headFault, bodyFault, Ending, ended, stopped, endFrom, imageSize, rollFault, endVerdict, listedAt, blankRecord, acceptedRoll, refusedRoll, rollAnswerFor, readRest}
 use Rattle.eif.specs.declared.RollReading.{RollReading}
 use Rattle.eif.specs.declared.Verdict.the-variants.{Accepted}
 use Rattle.eif_rules.proofs.Logic.{choose-zero}
 use Rattle.eif_rules.proofs.Verdicts.{never}
 
--- what an accepted roll of n records has
+-- what the accepted rest of a roll has, if it has n records
 pub record Whole (s : List ℕ) (n : ℕ) : Type 0 where
   pub few : n ≤ placeCount
   pub heads : (i : ℕ) → i ≤ n → recordAt s i + 10 ≤ length s
@@ -35,8 +34,8 @@ pub record Whole (s : List ℕ) (n : ℕ) : Type 0 where
   pub small : imageSize s n ≤ sizeLimit
 
 -- what reading it answers
-abbrev pub listed : List ℕ → ℕ → RollReading
-listed s n = acceptedRoll n (filled (listedAt s) blankRecord placeCount n)
+abbrev pub listed : ℕ → List ℕ → ℕ → RollReading
+listed flags s n = acceptedRoll flags n (filled (listedAt s) blankRecord placeCount n)
 
 -- ---- one record
 
@@ -90,7 +89,7 @@ record Ended (s : List ℕ) (i m n : ℕ) : Type 0 where
 module _ (s : List ℕ) where
   -- what follows a head without a fault
   abbrev afterHead : ℕ → ℕ → Bool → Ending
-  afterHead m i b = choose b (ended i) (choose (eqb (bodyFault s i) 0) (endFrom s m (suc i)) (stop (bodyFault s i) i))
+  afterHead m i b = choose b (ended i) (choose (eqb (bodyFault s i) 0) (endFrom s m (suc i)) (stopped (bodyFault s i) i))
 
   ended→ : (m i n : ℕ) → endFrom s m i ≡ ended n → Ended s i m n
   unfolding endFrom
@@ -199,20 +198,20 @@ module _ (s : List ℕ) (n : ℕ) where
         stops = eq-eqb _ _ (a .end-kind);
       }
 
-pub roll→ : (s : List ℕ) → readRoll s .verdict ≡ Accepted → Whole s (readRoll s .count)
-unfolding readRoll
-roll→ s e = go (endFrom s (suc placeCount) 0) refl e
+pub roll→ : (flags : ℕ) (s : List ℕ) → readRest flags s .verdict ≡ Accepted → Whole s (readRest flags s .count)
+unfolding readRest
+roll→ flags s e = go (endFrom s (suc placeCount) 0) refl e
   where
     fine : (n : ℕ) → endFrom s (suc placeCount) 0 ≡ ended n → (b : Bool) → eqb (rollFault s n) 0 ≡ b
-        → choose b (listed s n) (refusedRoll (refuse (rollFault s n) 0)) .verdict ≡ Accepted → Whole s (choose b (listed s n) (refusedRoll (refuse (rollFault s n) 0)) .count)
+        → choose b (listed flags s n) (refusedRoll (endVerdict s (rollFault s n) n)) .verdict ≡ Accepted → Whole s (choose b (listed flags s n) (refusedRoll (endVerdict s (rollFault s n) n)) .count)
     fine n q true z v = whole-of s n (ended→ s (suc placeCount) 0 n q) (eqb-true _ _ z)
     fine n q false z v = never _ v
 
-    go : (x : Ending) → endFrom s (suc placeCount) 0 ≡ x → rollAnswerFor s x .verdict ≡ Accepted → Whole s (rollAnswerFor s x .count)
+    go : (x : Ending) → endFrom s (suc placeCount) 0 ≡ x → rollAnswerFor flags s x .verdict ≡ Accepted → Whole s (rollAnswerFor flags s x .count)
     go (ended n) q v = fine n q (eqb (rollFault s n) 0) refl v
     go (stopped k l) q v = never _ v
 
-pub →roll : (s : List ℕ) (n : ℕ) → Whole s n → readRoll s ≡ listed s n
-unfolding readRoll
-→roll s n a =
-    ap (rollAnswerFor s) (→ended s (suc placeCount) 0 n (ended-of s n a)) ∙ simp (zero-fault s n (a .ends) (a .none-missing) (a .small))
+pub →roll : (flags : ℕ) (s : List ℕ) (n : ℕ) → Whole s n → readRest flags s ≡ listed flags s n
+unfolding readRest
+→roll flags s n a =
+    ap (rollAnswerFor flags s) (→ended s (suc placeCount) 0 n (ended-of s n a)) ∙ simp (zero-fault s n (a .ends) (a .none-missing) (a .small))

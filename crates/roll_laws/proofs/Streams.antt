@@ -13,7 +13,7 @@ use lib.Seq.{take-at}
 use Rattle.eif.specs.Numbers.{placeCount, kernel, ramdisk}
 use Rattle.eif.specs.Logic.{both, choose}
 use Rattle.eif.specs.Reading.{ramdiskIn, dataOf, sectionsOf, verdictOf}
-use Rattle.eif.specs.Roll.{Record, inRoll, recordFor, recordsIn, recordsOf, rollBytes, blankRecord, readRoll}
+use Rattle.eif.specs.Roll.{Record, flagsRecordSize, inRoll, recordFor, recordsIn, recordsOf, rollBytes, blankRecord, readRoll}
 use Rattle.eif.specs.Stream.{keeps, kept, sectionKind, streamSections, joined, streamOf}
 use Rattle.eif.specs.declared.RollReading.{RollReading}
 use Rattle.eif.specs.declared.RollRecord.{RollRecord}
@@ -22,7 +22,7 @@ use Rattle.eif.specs.declared.Stream.{Stream}
 use Rattle.eif.specs.declared.Stream.the-variants.{Whole, Boot, App}
 use Rattle.eif.specs.declared.Verdict.the-variants.{Accepted}
 use Rattle.roll_laws.specs.Listing.{listFrom, listingOf, foundIn, bytesAt, entriesOf, joinedAt, withoutHeads, streamInRoll}
-use Rattle.roll_laws.proofs.Demand3.{list-of-image}
+use Rattle.roll_laws.proofs.Demand3.{listing-of-roll, found-in-roll}
 
 -- ---- what is kept of records
 
@@ -122,12 +122,12 @@ module _ (s : List ℕ) (ok : verdictOf s ≡ Accepted) where
   length-list at [] = refl
   length-list at (r ∷ rs) = ap suc (length-list _ rs)
 
-  entries-are : entriesOf t ≡ listFrom 0 (recordsOf s)
+  -- the flags record is none of them
+  entries-are : entriesOf t ≡ listFrom flagsRecordSize (recordsOf s)
   entries-are =
-      let l = list-of-image s ok in
       let rs = recordsOf s in
-      ap (λ (r : RollReading). take (r .count) (r .records)) (l .reading)
-      ∙ take-at (listFrom 0 rs) (replicate (placeCount - length rs) blankRecord) (length rs) (length-list 0 rs)
+      ap (λ (r : RollReading). take (r .count) (r .records)) (listing-of-roll s ok)
+      ∙ take-at (listFrom flagsRecordSize rs) (replicate (placeCount - length rs) blankRecord) (length rs) (length-list flagsRecordSize rs)
 
   -- Each stream is what it keeps of the image's roll with the heads taken out.
   pub stream-in-roll : (stream : Stream) → streamOf s stream ≡ streamInRoll stream t
@@ -136,8 +136,8 @@ module _ (s : List ℕ) (ok : verdictOf s ≡ Accepted) where
       let rs = recordsOf s in
       sym
       (ap (λ (l : List RollRecord). joinedAt t (kept stream entryKind 0 l)) entries-are
-      ∙ joined-found t stream (kept stream entryKind 0 (listFrom 0 rs))
-      ∙ ap bytesOf (kept-entries t stream 0 (listFrom 0 rs) ∙ ap (kept stream recordKind 0) (list-of-image s ok .found))
+      ∙ joined-found t stream (kept stream entryKind 0 (listFrom flagsRecordSize rs))
+      ∙ ap bytesOf (kept-entries t stream 0 (listFrom flagsRecordSize rs) ∙ ap (kept stream recordKind 0) (found-in-roll s))
       ∙ kept-records s stream 0 (sectionsOf s))
 
   -- Whole is the image's roll with the heads taken out.
@@ -146,5 +146,5 @@ module _ (s : List ℕ) (ok : verdictOf s ≡ Accepted) where
   whole-is-roll =
       let rs = recordsOf s in
       sym
-      (ap (joinedAt t) entries-are ∙ joined-found t Whole (listFrom 0 rs) ∙ ap bytesOf (list-of-image s ok .found ∙ sym (all-kept s 0 (sectionsOf s)))
+      (ap (joinedAt t) entries-are ∙ joined-found t Whole (listFrom flagsRecordSize rs) ∙ ap bytesOf (found-in-roll s ∙ sym (all-kept s 0 (sectionsOf s)))
       ∙ kept-records s Whole 0 (sectionsOf s))

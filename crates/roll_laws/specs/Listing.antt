@@ -4,7 +4,7 @@ use Prim.Native.Nat.{ℕ, _+_, _-_}
 use mathlib.Core.List.{List, [], _∷_, _++_}
 use lib.ListN.{length, take, drop, replicate}
 use Rattle.eif.specs.Numbers.{placeCount}
-use Rattle.eif.specs.Roll.{Record, recordHeadSize, blankRecord, acceptedRoll, readRoll}
+use Rattle.eif.specs.Roll.{Record, recordHeadSize, flagsRecordSize, blankRecord, acceptedRoll, readRoll}
 use Rattle.eif.specs.Stream.{kept}
 use Rattle.eif.specs.declared.Stream.{Stream}
 use Rattle.eif.specs.declared.RollRecord.{RollRecord}
@@ -17,9 +17,9 @@ listFrom at (r ∷ rs) =
     record { kind = r .kind; position = record { 0 = at + recordHeadSize }; length = record { 0 = length (r .bytes) } }
     ∷ listFrom (at + recordHeadSize + length (r .bytes)) rs
 
--- the answer: the number of records, and their list from the roll's start, unused places blank
-abbrev pub listingOf : List Record → RollReading
-listingOf rs = acceptedRoll (length rs) (listFrom 0 rs ++ replicate (placeCount - length rs) blankRecord)
+-- the answer: the flags, the number of records, and their list from the end of the flags record on, unused places blank
+abbrev pub listingOf : ℕ → List Record → RollReading
+listingOf flags rs = acceptedRoll flags (length rs) (listFrom flagsRecordSize rs ++ replicate (placeCount - length rs) blankRecord)
 
 -- the type that a list gives, and the bytes of a roll that it points at
 abbrev pub foundIn : List ℕ → RollRecord → Record

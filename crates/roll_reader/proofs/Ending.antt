@@ -12,11 +12,11 @@ use lib.Dec.{eqb}
 use lib.ListN.{length}
 use Rattle.eif.specs.Numbers.{sizeLimit, placeCount, oldestVersion, imageTooLong, sectionMissing, bytesAfterEnd}
 use Rattle.eif.specs.Logic.{choose}
-use Rattle.eif.specs.Answers.{refuse}
+use Rattle.eif.specs.Answers.{refuse, refuseAt}
 use Rattle.eif.specs.Rules.{missing}
 use Rattle.eif.specs.Table.{filled}
 use Rattle.eif.specs.Layout.{headerSize, sectionHeaderSize}
-use Rattle.eif.specs.Roll.{recordHeadSize, endType, Ending, ended, stopped, stop, recordAt, recordKind, isEnd, listedAt, blankRecord, headFault, bodyFault, endFrom, imageSize, rollFault, refusedRoll, acceptedRoll, rollAnswerFor, readRoll}
+use Rattle.eif.specs.Roll.{recordHeadSize, flagsRecordSize, endType, Ending, ended, stopped, recordAt, recordKind, isEnd, endVerdict, listedAt, blankRecord, headFault, bodyFault, endFrom, imageSize, rollFault, refusedRoll, acceptedRoll, rollAnswerFor, readRest}
 use Rattle.eif.specs.declared.Refusal.{Refusal}
 use Rattle.eif.specs.declared.RollRecord.{RollRecord}
 use Rattle.eif.specs.declared.Verdict.the-variants.{Accepted, Refused}
@@ -32,11 +32,11 @@ module _ (s : List ℕ) (i : ℕ) (few : i ≤ placeCount) (so-far : endFrom s (
   more : suc placeCount - i ≡ suc (suc placeCount - (i + 1))
   more = omega arith
 
-  from-head : (k : ℕ) → k ≡ headFault s i → (k ≡ 0 → ⊥) → endFrom s (suc placeCount - i) i ≡ stop k i
+  from-head : (k : ℕ) → k ≡ headFault s i → (k ≡ 0 → ⊥) → endFrom s (suc placeCount - i) i ≡ stopped k i
   unfolding endFrom
   from-head k e h = rw (more, ← e) (simp (ne-eqb k 0 h))
 
-  pub walk-head : (k : ℕ) → k ≡ headFault s i → (k ≡ 0 → ⊥) → stoppedAt k i ≡ walkOf s
+  pub walk-head : (k : ℕ) → k ≡ headFault s i → (k ≡ 0 → ⊥) → stoppedAt k i (recordAt s i) ≡ walkOf s
   unfolding walkOf
   walk-head k e h = ap (walkFor s) (sym (from-head k e h) ∙ so-far)
 
@@ -53,7 +53,7 @@ module _ (s : List ℕ) (i : ℕ) (few : i ≤ placeCount) (so-far : endFrom s (
       walk-end e p q r = rw (p, q, r) (ap (walkFor s) (sym (from-end e) ∙ so-far))
 
     module _ (other : recordKind s i ≡ endType → ⊥) where
-      from-body : (k : ℕ) → k ≡ bodyFault s i → (k ≡ 0 → ⊥) → endFrom s (suc placeCount - i) i ≡ stop k i
+      from-body : (k : ℕ) → k ≡ bodyFault s i → (k ≡ 0 → ⊥) → endFrom s (suc placeCount - i) i ≡ stopped k i
       unfolding endFrom
       from-body k e h = rw (more, head, ← e) (simp (ne-eqb _ _ other, ne-eqb k 0 h))
 
@@ -65,7 +65,7 @@ module _ (s : List ℕ) (i : ℕ) (few : i ≤ placeCount) (so-far : endFrom s (
       walk-on e = sym (from-on e) ∙ so-far
 
   -- the refusal of a record by any rule
-  from-stop : (k : ℕ) → k ≡ recordFault s i → (k ≡ 0 → ⊥) → endFrom s (suc placeCount - i) i ≡ stop k i
+  from-stop : (k : ℕ) → k ≡ recordFault s i → (k ≡ 0 → ⊥) → endFrom s (suc placeCount - i) i ≡ stopped k i
   from-stop k e h =
       ⊎-elim
       (λ z.
@@ -76,7 +76,7 @@ module _ (s : List ℕ) (i : ℕ) (few : i ≤ placeCount) (so-far : endFrom s (
       (λ z. from-head k (e ∙ sym (by-head s i (headFault s i) z refl)) h)
       (zero-or (headFault s i))
 
-  pub walk-stop : (k : ℕ) → k ≡ recordFault s i → (k ≡ 0 → ⊥) → stoppedAt k i ≡ walkOf s
+  pub walk-stop : (k : ℕ) → k ≡ recordFault s i → (k ≡ 0 → ⊥) → stoppedAt k i (recordAt s i) ≡ walkOf s
   unfolding walkOf
   walk-stop k e h = ap (walkFor s) (sym (from-stop k e h) ∙ so-far)
 
@@ -157,29 +157,35 @@ module _ (s : List ℕ) (w : Walked) where
         records-are = ap (λ (x : Walked). x .records) e ∙ ap (filled (listedAt s) blankRecord placeCount) (sym c);
       }
 
-  refused-by : (r : Refusal) (x : Ending) → w ≡ walkFor s x → w .verdict ≡ Refused r → refusedRoll (Refused r) ≡ rollAnswerFor s x
+  refused-by : (flags : ℕ) (r : Refusal) (x : Ending) → w ≡ walkFor s x → w .verdict ≡ Refused r → refusedRoll (Refused r) ≡ rollAnswerFor flags s x
   unfolding stoppedWith endedAt
-  refused-by r (stopped number index) e v = ap refusedRoll (sym v ∙ ap (λ (x : Walked). x .verdict) e)
-  refused-by r (ended n) e v = never r (sym v ∙ ap (λ (x : Walked). x .verdict) e)
+  refused-by flags r (stopped number index) e v = ap refusedRoll (sym v ∙ ap (λ (x : Walked). x .verdict) e)
+  refused-by flags r (ended n) e v = never r (sym v ∙ ap (λ (x : Walked). x .verdict) e)
 
   module _ (walked : w ≡ walkOf s) where
     pub walk-ended : w .verdict ≡ Accepted → Ended s w
     unfolding walkOf
     walk-ended v = by-ending (endFrom s (suc placeCount) 0) refl walked v
 
-    pub read-stopped : (r : Refusal) → w .verdict ≡ Refused r → refusedRoll (Refused r) ≡ readRoll s
-    unfolding walkOf readRoll
-    read-stopped r v = refused-by r (endFrom s (suc placeCount) 0) walked v
+    pub read-stopped : (flags : ℕ) (r : Refusal) → w .verdict ≡ Refused r → refusedRoll (Refused r) ≡ readRest flags s
+    unfolding walkOf readRest
+    read-stopped flags r v = refused-by flags r (endFrom s (suc placeCount) 0) walked v
 
-    module _ (accepted : w .verdict ≡ Accepted) (fault : ℕ) (fault-is : fault ≡ rollFault s (w .count)) where
-      pub read-refused : (fault ≡ 0 → ⊥) → refusedRoll (refuse fault 0) ≡ readRoll s
-      unfolding readRoll
-      read-refused h =
+    module _ (flags : ℕ) (accepted : w .verdict ≡ Accepted) (fault : ℕ) (fault-is : fault ≡ rollFault s (w .count)) where
+      by-fault : (fault ≡ 0 → ⊥) → refusedRoll (endVerdict s fault (w .count)) ≡ readRest flags s
+      unfolding readRest
+      by-fault h =
           let x = walk-ended accepted in
           rw (x .ending, ← fault-is) (simp (ne-eqb fault 0 h))
 
-      pub read-accepted : fault ≡ 0 → acceptedRoll (w .count) (w .records) ≡ readRoll s
-      unfolding readRoll
+      pub read-more : fault ≡ bytesAfterEnd → refusedRoll (refuseAt fault 0 (flagsRecordSize + w .end + recordHeadSize)) ≡ readRest flags s
+      read-more e = rw (walk-ended accepted .end-at) (simp (eq-eqb _ _ e) at (by-fault (λ z. omega arith)))
+
+      pub read-refused : (fault ≡ bytesAfterEnd → ⊥) → (fault ≡ 0 → ⊥) → refusedRoll (refuse fault 0) ≡ readRest flags s
+      read-refused g h = simp (ne-eqb _ _ g) at (by-fault h)
+
+      pub read-accepted : fault ≡ 0 → acceptedRoll flags (w .count) (w .records) ≡ readRest flags s
+      unfolding readRest
       read-accepted h =
           let x = walk-ended accepted in
           rw (x .ending, ← fault-is, h, x .records-are) refl

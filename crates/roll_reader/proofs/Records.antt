@@ -1,4 +1,4 @@
--- The rules on one record of a roll, each from plain facts on what was read at the record's start.
+-- The rules on one record of a roll's rest, each from plain facts on what was read at the record's start.
 -- Assumes nothing.
 use Prim.Native.Nat.{ℕ, suc, _+_, _-_, _<_, _≤_}
 use mathlib.Core.Path.{_≡_, refl, sym, ap, _∙_}
@@ -12,7 +12,7 @@ use Rattle.octets.specs.Bytes.{leField}
 use Rattle.eif.specs.Numbers.{placeCount, ramdisk, wrongCount, recordCut, recordTypeWrong}
 use Rattle.eif.specs.Table.{filled}
 use Rattle.eif.specs.Rules.{orderFault, missing}
-use Rattle.eif.specs.Roll.{recordHeadSize, endType, recordAt, recordSize, recordKind, listedAt, headFault, bodyFault}
+use Rattle.eif.specs.Roll.{recordHeadSize, flagsRecordSize, endType, recordAt, recordSize, recordKind, listedAt, headFault, bodyFault}
 use Rattle.eif_rules.proofs.Logic.{choose-zero, zero-or}
 use Rattle.eif_rules.proofs.Table.{filled-at, length-filled}
 use Rattle.roll_reader.specs.Walk.{recordFault}
@@ -52,7 +52,7 @@ module _ (s : List ℕ) (i at : ℕ) (here : at ≡ recordAt s i) where
   record-next size e = omega (arith, size-here size e)
 
   pub listed-here : (kind size : ℕ) → kind ≡ leField 2 (at + 8) s → size ≡ leField 8 at s
-      → record { kind = kind; position = record { 0 = at + recordHeadSize }; length = record { 0 = size } } ≡ listedAt s i
+      → record { kind = kind; position = record { 0 = flagsRecordSize + at + recordHeadSize }; length = record { 0 = size } } ≡ listedAt s i
   listed-here kind size k e = rw (kind-here kind k, size-here size e, here) refl
 
   pub head-cut : length s < at + recordHeadSize → recordCut ≡ headFault s i

@@ -1,14 +1,14 @@
 -- The rules on one record together, and what the walk over a roll's records hands to the rules on the whole roll.
 -- Assumes nothing.
-use Prim.Native.Nat.{ℕ, suc}
+use Prim.Native.Nat.{ℕ, suc, _+_}
 use mathlib.Core.List.{List}
 use lib.Dec.{eqb}
 use lib.ListN.{replicate}
 use Rattle.eif.specs.Numbers.{placeCount, wrongCount}
 use Rattle.eif.specs.Logic.{choose}
-use Rattle.eif.specs.Answers.{refuse}
+use Rattle.eif.specs.Answers.{refuseAt}
 use Rattle.eif.specs.Table.{filled}
-use Rattle.eif.specs.Roll.{Ending, stopped, ended, recordAt, recordKind, listedAt, blankRecord, isEnd, headFault, bodyFault, endFrom}
+use Rattle.eif.specs.Roll.{flagsRecordSize, Ending, stopped, ended, recordAt, recordKind, listedAt, blankRecord, isEnd, headFault, bodyFault, endFrom}
 use Rattle.eif.specs.declared.Verdict.the-variants.{Accepted}
 use Rattle.roll_reader.specs.declared.Walked.{Walked}
 
@@ -18,19 +18,19 @@ recordFault s i =
     choose (eqb (headFault s i) 0) (choose (isEnd s i) 0 (bodyFault s i)) (headFault s i)
 
 -- a refusal, beside which all is zero
-unfoldable pub stoppedWith : ℕ → ℕ → Walked
-stoppedWith number index =
+unfoldable pub stoppedWith : ℕ → ℕ → ℕ → Walked
+stoppedWith number index position =
     record {
-      verdict = refuse number index;
+      verdict = refuseAt number index position;
       count = 0;
       end = 0;
       kinds = replicate placeCount 0;
       records = replicate placeCount blankRecord;
     }
 
--- the same at record i: 5 gives the index 0
-abbrev pub stoppedAt : ℕ → ℕ → Walked
-stoppedAt number i = stoppedWith number (choose (eqb number wrongCount) 0 i)
+-- the same at record i of the rest, which starts at a position of the rest: 5 gives the index 0
+abbrev pub stoppedAt : ℕ → ℕ → ℕ → Walked
+stoppedAt number i at = stoppedWith number (choose (eqb number wrongCount) 0 (suc i)) (flagsRecordSize + at)
 
 -- record n is the end record
 unfoldable pub endedAt : List ℕ → ℕ → Walked
@@ -45,7 +45,7 @@ endedAt s n =
 
 -- what the walk hands on, by where it ends
 abbrev pub walkFor : List ℕ → Ending → Walked
-walkFor s (stopped number index) = stoppedWith number index
+walkFor s (stopped number i) = stoppedAt number i (recordAt s i)
 walkFor s (ended n) = endedAt s n
 
 unfoldable pub walkOf : List ℕ → Walked

@@ -1,13 +1,17 @@
-// Reading a boot roll: its records in order, up to the end record or the first that a rule refuses, then the rules on the
-// whole. Every byte string, of any length, has an answer.
+// Reading a boot roll: its flags record, then the records of the rest in order, up to the end record or the first that a rule
+// refuses, then the rules on the whole. Every byte string, of any length, has an answer.
+//
+// `rest` is what follows the flags record. Places and starts of records count from there; indexes and positions in an answer count
+// from the roll's start.
 ghost use mathlib.Core.Path.{_≡_};
-ghost use Prim.Native.Nat.{_+_, _≤_};
+ghost use Prim.Native.Nat.{_+_, _^_, _<_, _≤_};
 ghost use lib.ListN.{length};
 ghost use Rattle.eif.specs.Numbers.{placeCount};
 ghost use Rattle.eif.specs.Table.{filled};
-ghost use Rattle.eif.specs.Roll.{recordAt, recordKind, recordHeadSize, rollFault, blankRecord, refusedRoll, readRoll};
+ghost use Rattle.eif.specs.Roll.{recordAt, recordKind, recordHeadSize, flagsRecordSize, flagsFault, rollFault, blankRecord, refusedRoll, readRest, readRoll};
 ghost use Rattle.roll_reader.specs.Walk.{recordFault, stoppedAt, walkOf};
 use eif::DataLength;
+use eif::FlagsRecord;
 use eif::Header;
 use eif::PLACES;
 use eif::RecordHead;
@@ -29,20 +33,39 @@ fn blank() -> RollRecord
     }
 }
 
+// ---- the flags record
+
+// Its rules 16, 17 and 16; 0: none applies.
+fn flags_fault(roll: &[u8]) -> u8
+    ensures { λ r. ⌜ r ≡ flagsFault (now (roll .entry)) ⌝ }
+{
+    if roll.len() < RecordHead::SIZE {
+        Refusal::RECORD_CUT
+    } else if octets::le16(roll, RecordHead::TYPE_AT) != FlagsRecord::TYPE {
+        Refusal::RECORD_TYPE_WRONG
+    } else if octets::le64(roll, RecordHead::LENGTH_AT) != FlagsRecord::LENGTH {
+        Refusal::RECORD_TYPE_WRONG
+    } else if roll.len() < FlagsRecord::SIZE {
+        Refusal::RECORD_CUT
+    } else {
+        0
+    }
+}
+
 // ---- one record
 
 // The rules on record i, whose head is whole, in their order: 17 and, unless it is the end record, 5, 16, 10 and 11; 0: none
 // applies. `kinds` has the types of the records before it.
-fn record_fault(roll: &[u8], kinds: &[u16], i: usize, at: usize) -> u8
+fn record_fault(rest: &[u8], kinds: &[u16], i: usize, at: usize) -> u8
     requires { ⌜ i ≤ placeCount ⌝ }
-    requires { ⌜ at ≡ recordAt (now roll) i ⌝ }
-    requires { ⌜ at + recordHeadSize ≤ length (now roll) ⌝ }
-    requires { ⌜ now kinds ≡ filled (recordKind (now roll)) 0 placeCount i ⌝ }
-    ensures { λ r. ⌜ r ≡ recordFault (now (roll .entry)) i ⌝ }
+    requires { ⌜ at ≡ recordAt (now rest) i ⌝ }
+    requires { ⌜ at + recordHeadSize ≤ length (now rest) ⌝ }
+    requires { ⌜ now kinds ≡ filled (recordKind (now rest)) 0 placeCount i ⌝ }
+    ensures { λ r. ⌜ r ≡ recordFault (now (rest .entry)) i ⌝ }
 {
-    let left = (roll.len() - at - RecordHead::SIZE) as u64;
-    let length = octets::le64(roll, at);
-    let kind = octets::le16(roll, at + RecordHead::TYPE_AT);
+    let left = (rest.len() - at - RecordHead::SIZE) as u64;
+    let length = octets::le64(rest, at);
+    let kind = octets::le16(rest, at + RecordHead::TYPE_AT);
     if SectionType::RAMDISK < kind {
         return Refusal::RECORD_TYPE_WRONG;
     }
@@ -74,18 +97,20 @@ struct Walked {
     records: [RollRecord; PLACES],
 }
 
-// A refusal at record i; 5 is about no one record.
-fn stopped(number: u8, i: usize) -> Walked
-    ensures { λ r. ⌜ r ≡ stoppedAt number i ⌝ }
+// A refusal at record i of the rest, which starts at `at` of the rest; 5 is about no one record.
+fn stopped(number: u8, i: usize, at: usize) -> Walked
+    requires { ⌜ i ≤ placeCount ⌝ }
+    requires { ⌜ flagsRecordSize + at < 2 ^ 64 ⌝ }
+    ensures { λ r. ⌜ r ≡ stoppedAt number i at ⌝ }
 {
     let none = blank();
     let index = if number == Refusal::WRONG_COUNT {
         0
     } else {
-        i as u64
+        (i + 1) as u64
     };
     Walked {
-        verdict: Verdict::refuse(number, index),
+        verdict: Verdict::refuse_at(number, index, (FlagsRecord::SIZE + at) as u64),
         count: 0,
         end: 0,
         kinds: [0; PLACES],
@@ -94,8 +119,9 @@ fn stopped(number: u8, i: usize) -> Walked
 }
 
 // Ends at the end record, at the first record that a rule refuses, or where no whole head is left.
-fn walk(roll: &[u8]) -> Walked
-    ensures { λ r. ⌜ r ≡ walkOf (now (roll .entry)) ⌝ }
+fn walk(rest: &[u8]) -> Walked
+    requires { ⌜ flagsRecordSize + length (now rest) < 2 ^ 64 ⌝ }
+    ensures { λ r. ⌜ r ≡ walkOf (now (rest .entry)) ⌝ }
 {
     let none = blank();
     let mut records = [none; PLACES];
@@ -103,14 +129,14 @@ fn walk(roll: &[u8]) -> Walked
     let mut at: usize = 0;
     let mut i: usize = 0;
     loop {
-        if roll.len() - at < RecordHead::SIZE {
-            return stopped(Refusal::RECORD_CUT, i);
+        if rest.len() - at < RecordHead::SIZE {
+            return stopped(Refusal::RECORD_CUT, i, at);
         }
-        let fault = record_fault(roll, &kinds, i, at);
+        let fault = record_fault(rest, &kinds, i, at);
         if fault != 0 {
-            return stopped(fault, i);
+            return stopped(fault, i, at);
         }
-        let kind = octets::le16(roll, at + RecordHead::TYPE_AT);
+        let kind = octets::le16(rest, at + RecordHead::TYPE_AT);
         if kind == RecordHead::END_TYPE {
             return Walked {
                 verdict: Verdict::Accepted,
@@ -120,11 +146,11 @@ fn walk(roll: &[u8]) -> Walked
                 records,
             };
         }
-        let length = octets::le64(roll, at);
+        let length = octets::le64(rest, at);
         kinds[i] = kind;
         records[i] = RollRecord {
             kind,
-            position: RollPosition((at + RecordHead::SIZE) as u64),
+            position: RollPosition((FlagsRecord::SIZE + at + RecordHead::SIZE) as u64),
             length: DataLength(length),
         };
         at = at + RecordHead::SIZE + length as usize;
@@ -136,14 +162,14 @@ fn walk(roll: &[u8]) -> Walked
 
 // The rules 18, 12 and 1 on a roll whose end record is record n and starts at `end`; 0: none applies.
 // Before each data an image has a section header where the roll has a record's head, so the image's size needs no sum.
-fn roll_fault(roll: &[u8], kinds: &[u16], n: usize, end: usize) -> u8
+fn roll_fault(rest: &[u8], kinds: &[u16], n: usize, end: usize) -> u8
     requires { ⌜ n ≤ placeCount ⌝ }
-    requires { ⌜ end ≡ recordAt (now roll) n ⌝ }
-    requires { ⌜ end + recordHeadSize ≤ length (now roll) ⌝ }
-    requires { ⌜ now kinds ≡ filled (recordKind (now roll)) 0 placeCount n ⌝ }
-    ensures { λ r. ⌜ r ≡ rollFault (now (roll .entry)) n ⌝ }
+    requires { ⌜ end ≡ recordAt (now rest) n ⌝ }
+    requires { ⌜ end + recordHeadSize ≤ length (now rest) ⌝ }
+    requires { ⌜ now kinds ≡ filled (recordKind (now rest)) 0 placeCount n ⌝ }
+    ensures { λ r. ⌜ r ≡ rollFault (now (rest .entry)) n ⌝ }
 {
-    if end + RecordHead::SIZE < roll.len() {
+    if end + RecordHead::SIZE < rest.len() {
         return Refusal::BYTES_AFTER_END;
     }
     if type_rules::lacks(&kinds[..n], eif::OLDEST_VERSION) {
@@ -163,29 +189,48 @@ fn refused(verdict: Verdict) -> RollReading
     let none = blank();
     RollReading {
         verdict,
+        flags: 0,
         count: 0,
         records: [none; PLACES],
     }
 }
 
-// The list of records that a roll holds, or the first refusal in the order of FORMAT.md, The boot roll.
-pub fn read(roll: &[u8]) -> RollReading
-    ensures { λ r. ⌜ r ≡ readRoll (now (roll .entry)) ⌝ }
+// The rest of a roll with these flags.
+fn read_rest(rest: &[u8], flags: u16) -> RollReading
+    requires { ⌜ flagsRecordSize + length (now rest) < 2 ^ 64 ⌝ }
+    ensures { λ r. ⌜ r ≡ readRest flags (now (rest .entry)) ⌝ }
 {
-    let walked = walk(roll);
+    let walked = walk(rest);
     let verdict = walked.verdict;
     let Verdict::Accepted = verdict else {
         return refused(verdict);
     };
     let kinds = walked.kinds;
-    let fault = roll_fault(roll, &kinds, walked.count, walked.end);
+    let fault = roll_fault(rest, &kinds, walked.count, walked.end);
+    if fault == Refusal::BYTES_AFTER_END {
+        let past = FlagsRecord::SIZE + walked.end + RecordHead::SIZE;
+        return refused(Verdict::refuse_at(fault, 0, past as u64));
+    }
     if fault != 0 {
         return refused(Verdict::refuse(fault, 0));
     }
     let records = walked.records;
     RollReading {
         verdict,
+        flags,
         count: walked.count as u64,
         records,
     }
+}
+
+// The flags and the list of records that a roll holds, or the first refusal in the order of FORMAT.md, The boot roll.
+pub fn read(roll: &[u8]) -> RollReading
+    ensures { λ r. ⌜ r ≡ readRoll (now (roll .entry)) ⌝ }
+{
+    let fault = flags_fault(roll);
+    if fault != 0 {
+        return refused(Verdict::refuse(fault, 0));
+    }
+    let flags = octets::le16(roll, RecordHead::SIZE);
+    read_rest(&roll[FlagsRecord::SIZE..], flags)
 }

@@ -1,10 +1,10 @@
 -- The sections of a staged view that is not refused: each has the base's type, and its data is the staged part. So their records and
 -- streams are those of the image written afresh.
 -- Assumes nothing.
-use Prim.Native.Nat.{ℕ, _+_, _-_, _<_, _≤_}
+use Prim.Native.Nat.{ℕ, _+_, _-_, _^_, _<_, _≤_}
 use mathlib.Core.Path.{_≡_, refl, sym, ap, ap₂, _∙_}
 use mathlib.Core.Bool.{Bool, true, false}
-use mathlib.Core.List.{List, []}
+use mathlib.Core.List.{List, [], _++_}
 use mathlib.Core.Logic.{⊎-elim}
 use native.Mathlib.Omega.{arith}
 use borrow.Author.Tests.{eq-eqb, ne-eqb, lt-ltb, le-ltb}
@@ -15,10 +15,10 @@ use Rattle.octets.proofs.Over.{le-or-lt}
 use Rattle.eif.specs.Numbers.{placeCount, sizeLimit}
 use Rattle.eif.specs.Logic.{choose}
 use Rattle.eif.specs.Table.{filled}
-use Rattle.eif.specs.Layout.{countOf, kindAt}
+use Rattle.eif.specs.Layout.{headerFlagsOf, countOf, kindAt}
 use Rattle.eif.specs.Reading.{verdictOf, blankSection, sectionAt, sectionsOf, readImage, dataOf}
 use Rattle.eif.specs.Plan.{plainSize, plainImage}
-use Rattle.eif.specs.Roll.{recordsIn, recordsOf}
+use Rattle.eif.specs.Roll.{Record, flagsRecord, rollOf, recordsIn, recordsOf, rollBytes}
 use Rattle.eif.specs.Stream.{streamSections, streamOf}
 use Rattle.eif.specs.declared.Reading.{Reading}
 use Rattle.eif.specs.declared.Section.{Section}
@@ -26,12 +26,14 @@ use Rattle.eif.specs.declared.Stream.{Stream}
 use Rattle.eif.specs.declared.Verdict.the-variants.{Accepted}
 use Rattle.eif_rules.proofs.Logic.{equal-or-not}
 use Rattle.eif_rules.proofs.Reading.{reading-accepted}
-use Rattle.eif_rules.proofs.Table.{filled-at}
+use Rattle.eif_rules.proofs.Table.{All, all-filled, filled-at, length-filled}
+use Rattle.eif_rules.proofs.Accept.{length-data}
+use Rattle.plain_laws.proofs.Written.{size-small, read-flags}
 use Rattle.plain_laws.proofs.WriteBack.{piece, head, entry}
 use Rattle.staged.specs.Staged.{stagedPlan, afresh}
-use Rattle.staged.specs.View.{moved, stagedSections, heldBy}
+use Rattle.staged.specs.View.{moved, stagedSections, heldBy, Holds}
 use Rattle.staged.proofs.Accept.{Stages}
-use Rattle.staged.proofs.Afresh.{part, parts, changedPlan, plan-is, afresh-is, fresh-count, fresh-kind, fresh-data}
+use Rattle.staged.proofs.Afresh.{part, parts, changedPlan, plan-is, afresh-is, part-replaced, size-kept, changed-planned, fresh-count, fresh-kind, fresh-data}
 use Rattle.staged.proofs.Same.{recordsBy, records-in, same-records, joinedBy, joined-in, same-stream, set-filled}
 
 -- ---- the data of a section by where it starts
@@ -115,6 +117,15 @@ module _ (s r : List ℕ) (k j : ℕ) (a : Stages s (length r) k j) where
   pub within : plainSize (changedPlan s r k ok (length r)) ≤ sizeLimit
   within = let e = ap plainSize (plan-is s r k ok (length r)) in let h = a .small in omega arith
 
+  -- the replacement is no longer than an image
+  replacement-small : length r ≤ sizeLimit
+  replacement-small =
+      let h = a .replaced in
+      let m = size-small (changedPlan s r k ok (length r)) (parts s r k ok) (changed-planned s r k ok h within) k h in
+      let e = size-kept s r k ok h k h in
+      let q = ap length (part-replaced s r k ok) in
+      omega arith
+
   abbrev image : List ℕ
   image = plainImage (changedPlan s r k ok (length r)) (parts s r k ok)
 
@@ -146,3 +157,50 @@ module _ (s r : List ℕ) (k j : ℕ) (a : Stages s (length r) k j) where
       ∙ ap (λ (l : List Section). joinedBy (dataOf image) (streamSections stream l)) fresh-sections
       ∙ joined-in image (streamSections stream (sectionsOf image))
       ∙ ap (λ (t : List ℕ). streamOf t stream) (sym (afresh-is s r k ok))
+
+  -- each is as long as the list says, and no longer than an image
+
+  holds-at : (i : ℕ) → i < countOf s → Holds (heldBy s r) (stagedAt s r k i)
+  holds-at i h = by (eqb i k)
+    where
+      by : (b : Bool) → Holds (heldBy s r) (choose b (moved (sectionAt s k) (length s) (length r)) (sectionAt s i))
+      by true = ap length (replaced-data s r k)
+      by false =
+          let q = entry s ok i h .ends in
+          ap length (held-inside s r (sectionAt s i) q) ∙ length-data s (sectionAt s i) q
+
+  small-at : (i : ℕ) → i < countOf s → stagedAt s r k i .length .0 ≤ sizeLimit
+  small-at i h = by (eqb i k)
+    where
+      by : (b : Bool) → choose b (moved (sectionAt s k) (length s) (length r)) (sectionAt s i) .length .0 ≤ sizeLimit
+      by true = replacement-small
+      by false = let q = entry s ok i h .ends in let m = head s ok .small in omega arith
+
+  blank-holds : Holds (heldBy s r) blankSection
+  blank-holds = ap length (held-inside s r blankSection (omega arith))
+
+  pub holds-all : All (Holds (heldBy s r)) listed
+  holds-all =
+      rw (sections-are s r k ok (a .replaced))
+      (all-filled (Holds (heldBy s r)) (stagedAt s r k) blankSection placeCount (countOf s) blank-holds holds-at)
+
+  pub small-all : All (λ (x : Section). x .length .0 ≤ sizeLimit) listed
+  small-all =
+      rw (sections-are s r k ok (a .replaced))
+      (all-filled (λ (x : Section). x .length .0 ≤ sizeLimit) (stagedAt s r k) blankSection placeCount (countOf s) (omega arith) small-at)
+
+  pub listed-long : length listed ≡ placeCount
+  listed-long = ap length (sections-are s r k ok (a .replaced)) ∙ length-filled (stagedAt s r k) blankSection placeCount (countOf s)
+
+  -- the flags of the image written afresh are the base's, which fit in two bytes
+  pub flags-are : readImage s .flags < 2 ^ 16 → headerFlagsOf (afresh s r k) ≡ readImage s .flags
+  flags-are h =
+      let e : readImage s .flags ≡ headerFlagsOf s = ap (λ (x : Reading). x .flags) (reading-accepted s ok) in
+      let g : headerFlagsOf s < 2 ^ 16 = omega arith in
+      ap headerFlagsOf (afresh-is s r k ok)
+      ∙ read-flags (changedPlan s r k ok (length r)) (parts s r k ok) (changed-planned s r k ok (a .replaced) within) g ∙ sym e
+
+  -- the roll of the image written afresh
+  pub roll-is : readImage s .flags < 2 ^ 16 → flagsRecord (readImage s .flags) ++ rollOf (recordsBy (heldBy s r) listed) ≡ rollBytes (afresh s r k)
+  unfolding rollBytes
+  roll-is h = ap₂ (λ (f : ℕ) (l : List Record). flagsRecord f ++ rollOf l) (sym (flags-are h)) records-are

@@ -78,3 +78,7 @@ stagedRollAnswer s r k room = writtenFor (stagedRollVerdict s r k room) (length 
 
 unfoldable pub stagedRollOutput : List ℕ → List ℕ → ℕ → List ℕ → List ℕ
 stagedRollOutput s r k d = outputFor (stagedRollVerdict s r k (length d)) (rollBytes (afresh s r k)) d
+
+-- how long that roll is
+unfoldable pub stagedRollLength : List ℕ → List ℕ → ℕ → Written
+stagedRollLength s r k = writtenFor (stagedVerdict s (length r) k k) (length (rollBytes (afresh s r k)))

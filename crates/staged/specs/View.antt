@@ -2,7 +2,8 @@
 -- the data of a section of such a list.
 -- Assumes nothing.
 use Prim.Native.Nat.{ℕ, _-_}
-use mathlib.Core.List.{List, _++_}
+use mathlib.Core.List.{List}
+use mathlib.Core.Path.{_≡_}
 use lib.Dec.{ltb}
 use lib.ListN.{length, getD, set, replicate}
 use Rattle.eif.specs.Numbers.{placeCount}
@@ -37,3 +38,7 @@ stagedView s size k j =
 unfoldable pub heldBy : List ℕ → List ℕ → Section → List ℕ
 heldBy s r x =
     choose (ltb (x .position .0) (length s)) (dataOf s x) (dataOf r (moved x (x .position .0 - length s) (x .length .0)))
+
+-- the data is as long as the section says
+abbrev pub Holds : (Section → List ℕ) → Section → Type 0
+Holds held x = length (held x) ≡ x .length .0

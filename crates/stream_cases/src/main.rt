@@ -28,6 +28,8 @@ fn refusal(r: Refusal) {
     number(r.number as u64);
     text(b" at ");
     number(r.index);
+    text(b" byte ");
+    number(r.position);
 }
 
 fn answer(verdict: Verdict) {
@@ -343,6 +345,35 @@ fn before_kernel() {
     copy_few(b"a ramdisk before the kernel", &image, Stream::Boot, 0);
 }
 
+// Two bytes at a position; not sealed.
+fn damaged(label: &[u8], at: usize, value: u16) {
+    let mut image = [0u8; 633];
+    put_ordinary(&mut image);
+    octets::put_be16(&mut image, at, value);
+    copy_few(label, &image, Stream::Whole, 0);
+}
+
+// An offset one too far on, and a type that is not allowed, at a first, an inner and the last section.
+fn at_a_section() {
+    damaged(b"20 first", 34, 549);
+    damaged(b"20 inner", 50, 582);
+    damaged(b"20 last", 66, 617);
+    damaged(b"9 first", 548, 6);
+    damaged(b"9 inner", 581, 6);
+    damaged(b"9 last", 616, 6);
+}
+
+fn one_more() {
+    let mut image = [0u8; 634];
+    put_ordinary(&mut image);
+    case_images::seal(&mut image);
+    length(
+        b"one byte after the last section, length",
+        &image,
+        Stream::App,
+    );
+}
+
 fn main() {
     ordinary();
     command_line_first();
@@ -355,4 +386,6 @@ fn main() {
     signed();
     not_sealed();
     before_kernel();
+    at_a_section();
+    one_more();
 }

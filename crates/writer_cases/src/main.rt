@@ -25,6 +25,8 @@ fn refusal(r: Refusal) {
     number(r.number as u64);
     text(b" at ");
     number(r.index);
+    text(b" byte ");
+    number(r.position);
 }
 
 // ---- plans
@@ -199,6 +201,7 @@ fn one_at_a_time() {
     refused(b"metadata in version 3, last", types(3, 1, 2, 5));
     refused(b"ramdisk first", types(2, 3, 1, 2));
     refused(b"ramdisk before the kernel", types(2, 2, 3, 1));
+    refused(b"ramdisk last, no kernel", types(3, 2, 4, 3));
     refused(b"kernel twice", types(2, 1, 1, 2));
     refused(b"command line twice, last", types(2, 1, 2, 2));
     refused(

@@ -15,15 +15,17 @@
 mod digests;
 mod images;
 mod layout;
+mod positions;
 mod rolls;
 
 pub use digests::{digest_cases, hex, register_cases, DigestCase};
 pub use images::{
     command_line_first, image_cases, image_of_length, stream_cases, two_sections, worked_image,
-    zero_image, zero_image_start, ImageCase, StreamCase,
+    zero_image, zero_image_start, Answer, ImageCase, StreamCase, ACCEPTED,
 };
 pub use layout::{
     crc32, crc32_then_zeros, put, put_number, seal, section_end, Layout, Section, CHECKSUM_AT,
     COUNT_AT, HEADER, MAX_SECTIONS, OFFSETS_AT, SECTION_HEADER, SIZES_AT, VERSION_AT,
 };
+pub use positions::{located_images, located_plans, located_rolls, PlanCase};
 pub use rolls::{record, roll_cases, roll_of, RollCase, Row, RECORD_HEADER, WORKED_ROLL};

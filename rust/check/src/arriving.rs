@@ -1,7 +1,7 @@
 //! Images that arrive in pieces, and states that no run reaches, held to the whole reader, to the twin and to
 //! the states that FORMAT.md defines.
 
-use crate::compare::{pair, same, twin_reading, Input};
+use crate::compare::{parts, same, twin_reading, Input};
 use crate::{any_image, Call, Rng, Tally};
 use eif::raw::{self, Arriving};
 use eif_cases::{put, CHECKSUM_AT, HEADER, MAX_SECTIONS, OFFSETS_AT, SECTION_HEADER};
@@ -139,18 +139,18 @@ fn compare_end(rng: &mut Rng, input: &Input, state: Arriving, mut rust: eif::Arr
     compare_ended(rng, input, finished);
 
     let whole = eif::read(input.bytes).map(|image| (*image).clone());
-    let whole = whole.map_err(pair);
+    let whole = whole.map_err(parts);
     same(
         input,
         "end in Rust",
-        rust.finish().map_err(pair),
+        rust.finish().map_err(parts),
         whole.clone(),
     );
     same(input, "piece after the end in Rust", rust.feed(b"more"), 0);
     same(
         input,
         "end again in Rust",
-        rust.finish().map_err(pair),
+        rust.finish().map_err(parts),
         whole,
     );
     same(input, "state in Rust", rust.into(), finished.state);

@@ -41,24 +41,27 @@ pub(crate) fn same<T: PartialEq + Debug>(input: &Input, what: &str, library: T, 
     );
 }
 
-/// A refusal as number and index.
-pub(crate) fn pair(refusal: Refusal) -> (u8, u64) {
-    (refusal.number(), refusal.index())
+/// A refusal's number, index and position.
+pub(crate) type Parts = (u8, u64, u64);
+
+pub(crate) fn parts(refusal: Refusal) -> Parts {
+    (refusal.number(), refusal.index(), refusal.position())
 }
 
-fn twin_pair(refusal: twin::Refusal) -> (u8, u64) {
-    (refusal.number, refusal.index)
+pub(crate) fn twin_parts(refusal: twin::Refusal) -> Parts {
+    (refusal.number, refusal.index, refusal.position)
 }
 
 fn twin_answer(answer: Result<u64, twin::Refusal>) -> Answer {
-    match answer.map_err(twin_pair) {
+    match answer.map_err(twin_parts) {
         Ok(length) => Answer {
             length,
             ..Answer::default()
         },
-        Err((number, index)) => Answer {
+        Err((number, index, position)) => Answer {
             number,
             index,
+            position,
             ..Answer::default()
         },
     }
@@ -103,6 +106,7 @@ pub(crate) fn twin_reading(answer: &Result<twin::Reading, twin::Refusal>) -> Rea
             return Reading {
                 number: refusal.number,
                 index: refusal.index,
+                position: refusal.position,
                 first_ramdisk: 32,
                 ..Reading::default()
             }
@@ -129,6 +133,7 @@ fn twin_roll_reading(answer: &Result<Vec<twin::Record>, twin::Refusal>) -> RollR
             return RollReading {
                 number: refusal.number,
                 index: refusal.index,
+                position: refusal.position,
                 ..RollReading::default()
             }
         }
@@ -150,14 +155,15 @@ fn twin_roll_reading(answer: &Result<Vec<twin::Record>, twin::Refusal>) -> RollR
 }
 
 fn twin_registers(answer: Result<[[u8; 48]; 3], twin::Refusal>) -> RegistersAnswer {
-    match answer.map_err(twin_pair) {
+    match answer.map_err(twin_parts) {
         Ok(registers) => RegistersAnswer {
             registers: registers.map(Digest),
             ..RegistersAnswer::default()
         },
-        Err((number, index)) => RegistersAnswer {
+        Err((number, index, position)) => RegistersAnswer {
             number,
             index,
+            position,
             ..RegistersAnswer::default()
         },
     }
@@ -193,9 +199,9 @@ fn compare_output(
     assert!(same_bytes, "{what}: other output bytes, for {input}");
     let expected = match answer.number {
         0 => Ok(answer.length as usize),
-        number => Err((number, answer.index)),
+        number => Err((number, answer.index, answer.position)),
     };
-    same(input, what, rust_answer.map_err(pair), expected);
+    same(input, what, rust_answer.map_err(parts), expected);
     answer.number
 }
 
@@ -236,7 +242,7 @@ fn compare_length(
         c,
         twin_answer(twin.map(|length| length as u64)),
     );
-    same(input, what, rust.map_err(pair), twin.map_err(twin_pair));
+    same(input, what, rust.map_err(parts), twin.map_err(twin_parts));
     c.number
 }
 
@@ -293,10 +299,10 @@ fn compare_registers(input: &Input, tally: &mut Tally) {
     same(input, "registers", answer, twin_answer);
     let expected = match answer.number {
         0 => Ok(answer.registers),
-        number => Err((number, answer.index)),
+        number => Err((number, answer.index, answer.position)),
     };
     let rust = eif::registers(input.bytes).map(|registers| registers.0);
-    same(input, "registers", rust.map_err(pair), expected);
+    same(input, "registers", rust.map_err(parts), expected);
     tally.add(Call::Registers, answer.number);
 }
 
@@ -319,7 +325,7 @@ fn compare_image_view(input: &Input, twin: &Result<twin::Reading, twin::Refusal>
             let twin_ramdisks = (reading.ramdisk_count(), reading.first_ramdisk());
             same(input, "ramdisks", ramdisks, twin_ramdisks);
         }
-        (Err(refusal), Err(twin)) => same(input, "refusal", pair(refusal), twin_pair(*twin)),
+        (Err(refusal), Err(twin)) => same(input, "refusal", parts(refusal), twin_parts(*twin)),
         (view, _) => panic!("the Rust interface has {view:?}, the twin {twin:?}, for {input}"),
     }
 }
@@ -537,16 +543,17 @@ pub fn compare_message(ordinal: u64, message: &Message, tally: &mut Tally) {
     same(input, "begun", twin_state(state), twin);
     for piece in &message.pieces {
         let fed = raw::sha384_update(state, piece);
-        let twin_answer = twin.update(piece).map_err(twin_pair);
+        let twin_answer = twin.update(piece).map_err(twin_parts);
         let expected = twin_answer.err().unwrap_or_default();
-        same(input, "update", (fed.number, fed.index), expected);
+        let answer = (fed.number, fed.index, fed.position);
+        same(input, "update", answer, expected);
         same(input, "reserved", fed.reserved, [0; 7]);
         same(input, "state", twin_state(fed.state), twin);
         if fed.number != 0 {
             same(input, "state beside a refusal", fed.state, state);
         }
         state = fed.state;
-        let rust_answer = rust.update(piece).map_err(pair);
+        let rust_answer = rust.update(piece).map_err(parts);
         same(input, "update", rust_answer, twin_answer);
         same(input, "state", rust.clone().into(), state);
         tally.add(Call::Update, fed.number);
@@ -580,7 +587,7 @@ pub fn compare_roll(ordinal: u64, roll: &[u8], tally: &mut Tally) {
             let view: Vec<&[u8]> = (0..count).map(|i| view.record_data(i)).collect();
             same(input, "record data", view, data);
         }
-        (Err(refusal), Err(twin)) => same(input, "refusal", pair(refusal), twin_pair(twin)),
+        (Err(refusal), Err(twin)) => same(input, "refusal", parts(refusal), twin_parts(twin)),
         (view, twin) => panic!("the Rust interface has {view:?}, the twin {twin:?}, for {input}"),
     }
 }

@@ -64,6 +64,7 @@ fn any_reading(rng: &mut Rng, image: &[u8]) -> Reading {
     if rng.once_in(2) {
         reading.version = rng.next() as u16;
         reading.index = rng.next();
+        reading.position = rng.next();
         reading.ramdisk_mark = rng.next() as u32;
         reading.ramdisk_count = rng.next() as u32;
         reading.first_ramdisk = rng.next() as u32;

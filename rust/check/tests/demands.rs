@@ -1,7 +1,9 @@
 //! The demands, tried on generated images: round trips, and what a roll tells of its image.
 
-use eif::{Image, RollRecord, SectionType, Stream, StreamPosition};
-use eif_cases::{record, seal, Layout, Section};
+use eif::{
+    Arriving, Image, Reading, Refusal, Roll, RollRecord, SectionType, Stream, StreamPosition,
+};
+use eif_cases::{record, seal, Layout, Section, RECORD_HEADER};
 use eif_check::{accepted_layout, accepted_plan, any_image, any_image_of, any_roll, Rng};
 use std::io::Read;
 
@@ -116,15 +118,16 @@ fn a_byte_outside_the_sections_is_refused() {
         let mut rng = Rng::of_input(13, ordinal);
         let mut layout = accepted_layout(&mut rng);
         let index = rng.below(layout.sections.len() + 1);
-        let (mut image, place) = match layout.sections.get_mut(index) {
+        let (mut image, place, position) = match layout.sections.get_mut(index) {
             Some(section) => {
                 section.gap = 1;
-                (any_image_of(&mut rng, &layout), index)
+                (any_image_of(&mut rng, &layout), index, 28 + 8 * index)
             }
             None => {
                 let mut image = any_image_of(&mut rng, &layout);
+                let end = image.len();
                 image.push(rng.next() as u8);
-                (image, 0)
+                (image, 0, end)
             }
         };
         if rng.once_in(2) {
@@ -132,7 +135,16 @@ fn a_byte_outside_the_sections_is_refused() {
         }
         let refusal = eif::read(&image).unwrap_err();
         assert_eq!((refusal.number(), refusal.index()), (20, place as u64));
+        assert_eq!(refusal.position(), position as u64);
     }
+}
+
+/// Where each record of an accepted roll starts, the end record too.
+fn record_starts(roll: &Roll) -> Vec<u64> {
+    let head = RECORD_HEADER as u64;
+    let records = roll.records().iter();
+    let starts = records.map(|record| record.position.0 - head);
+    starts.chain([roll.bytes().len() as u64 - head]).collect()
 }
 
 #[test]
@@ -147,11 +159,20 @@ fn a_roll_lists_its_image() {
             .map(|(i, r)| (r.section_type.0, view.record_data(i)))
             .collect();
         assert_eq!(list, listed(&image));
+        let starts = record_starts(&view);
         for cut in 0..roll.len() {
-            assert_eq!(eif::read_roll(&roll[..cut]).unwrap_err().number(), 16);
+            let refusal = eif::read_roll(&roll[..cut]).unwrap_err();
+            assert_eq!(refusal.number(), 16);
+            // The last record that starts where the roll was cut or before it.
+            let index = starts.iter().rposition(|&start| start <= cut as u64);
+            let index = index.expect("the first starts at 0");
+            assert_eq!(refusal.index(), index as u64);
+            assert_eq!(refusal.position(), starts[index]);
         }
         let longer = [&roll[..], &[0]].concat();
-        assert_eq!(eif::read_roll(&longer).unwrap_err().number(), 18);
+        let refusal = eif::read_roll(&longer).unwrap_err();
+        assert_eq!((refusal.number(), refusal.index()), (18, 0));
+        assert_eq!(refusal.position(), roll.len() as u64);
     }
 }
 
@@ -301,6 +322,13 @@ fn a_stream_copied_in_pieces_is_the_stream() {
     }
 }
 
+fn arrived(image: &[u8]) -> Result<Reading, Refusal> {
+    let mut arriving = Arriving::new();
+    arriving.feed(image);
+    arriving.finish()
+}
+
+/// Number, index and position.
 #[test]
 fn a_refused_image_gives_one_refusal_everywhere() {
     for ordinal in 0..TIMES {
@@ -309,6 +337,9 @@ fn a_refused_image_gives_one_refusal_everywhere() {
             continue;
         };
         let mut out = [0xaa; 64];
+        assert_eq!(arrived(&image), Err(refusal));
+        assert_eq!(eif::registers(&image), Err(refusal));
+        assert_eq!(eif::roll_length(&image), Err(refusal));
         assert_eq!(eif::write_roll(&image, &mut out), Err(refusal));
         for stream in Stream::ALL {
             assert_eq!(eif::stream_length(&image, stream), Err(refusal));
@@ -338,5 +369,6 @@ fn a_roll_has_at_most_32_records() {
     ] {
         let refusal = eif::read_roll(&[&records[..], &last].concat()).unwrap_err();
         assert_eq!((refusal.number(), refusal.index()), (number, index));
+        assert_eq!(refusal.position(), records.len() as u64);
     }
 }

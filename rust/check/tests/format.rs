@@ -1,15 +1,15 @@
 //! The examples of docs/FORMAT.md through the library.
 
-use eif::raw::{self, Answer};
+use eif::raw;
 use eif::{DataLength, Place, Plan, Refusal, SectionType, Stream, StreamPosition};
 use eif_cases::{
-    command_line_first, image_cases, roll_cases, stream_cases, two_sections, worked_image,
-    WORKED_ROLL,
+    command_line_first, image_cases, roll_cases, stream_cases, two_sections, worked_image, Answer,
+    ACCEPTED, WORKED_ROLL,
 };
 use std::io::Read;
 
-fn pair(refusal: Refusal) -> (u8, u64) {
-    (refusal.number(), refusal.index())
+fn parts(refusal: Refusal) -> Answer {
+    (refusal.number(), refusal.index(), refusal.position())
 }
 
 fn worked_plan() -> Plan {
@@ -67,7 +67,7 @@ fn lengths_are_told_before_writing() {
         Ok(&worked_image()[..])
     );
     let short = eif::write_to_vec(&worked_plan(), b"K");
-    assert_eq!(short.map_err(pair), Err((15, 0)));
+    assert_eq!(short.map_err(parts), Err((15, 0, 0)));
     assert_eq!(eif::roll_length(&worked_image()), Ok(42));
     assert_eq!(
         eif::roll_to_vec(&worked_image()).as_deref(),
@@ -79,14 +79,14 @@ fn lengths_are_told_before_writing() {
 fn a_roll_does_not_fit_41_bytes() {
     let mut out = [0xaa; 41];
     let answer = eif::write_roll(&worked_image(), &mut out);
-    assert_eq!(answer.map_err(pair), Err((14, 0)));
+    assert_eq!(answer.map_err(parts), Err((14, 0, 0)));
     assert_eq!(out, [0xaa; 41]);
 }
 
 #[test]
 fn rolls() {
     for case in roll_cases() {
-        let answer = eif::read_roll(&case.roll).map_err(pair).map(|roll| {
+        let answer = eif::read_roll(&case.roll).map_err(parts).map(|roll| {
             let records = roll.records().iter();
             let rows = records.map(|r| (r.section_type.0, r.position.0, r.length.0));
             rows.collect::<Vec<_>>()
@@ -99,12 +99,13 @@ fn rolls() {
 fn images() {
     for case in image_cases() {
         let reading = raw::read(&case.image);
-        let answer = (reading.number, reading.index);
-        assert_eq!(answer, (case.number, case.index), "{}", case.name);
-        if case.number != 0 {
+        let (number, index, position) = (reading.number, reading.index, reading.position);
+        assert_eq!((number, index, position), case.answer, "{}", case.name);
+        if case.answer != ACCEPTED {
             let refused = raw::Reading {
-                number: case.number,
-                index: case.index,
+                number,
+                index,
+                position,
                 first_ramdisk: 32,
                 ..raw::Reading::default()
             };
@@ -123,7 +124,7 @@ fn stream_positions() {
             assert_eq!(eif::copy_stream(&image, stream, end, &mut out), Ok(0));
             let past = StreamPosition(length + 1);
             let answer = eif::copy_stream(&image, stream, past, &mut out);
-            assert_eq!(answer.map_err(pair), Err((19, 0)));
+            assert_eq!(answer.map_err(parts), Err((19, 0, 0)));
             assert_eq!(out, [0xaa; 8]);
         }
     }
@@ -144,7 +145,7 @@ fn check_copies(bytes: &[u8], copy: impl Fn(StreamPosition, &mut [u8]) -> Result
     }
     let past = StreamPosition(bytes.len() as u64 + 1);
     let answer = copy(past, &mut [0; 16]);
-    assert_eq!(answer.map_err(pair), Err((19, 0)));
+    assert_eq!(answer.map_err(parts), Err((19, 0, 0)));
 }
 
 #[test]
@@ -202,7 +203,8 @@ fn sections_of_a_stream_are_borrowed_from_the_bytes() {
 
 #[test]
 fn a_refused_image_has_no_stream_sections() {
-    for case in image_cases().iter().filter(|case| case.number != 0) {
+    let cases = image_cases();
+    for case in cases.iter().filter(|case| case.answer != ACCEPTED) {
         let reading = raw::read(&case.image);
         let none = raw::StreamSections::default();
         assert_eq!(raw::whole_sections(reading), none, "{}", case.name);
@@ -241,9 +243,9 @@ fn parts_by_name_and_by_index() {
 
 #[test]
 fn lengths_beside_a_refusal_are_zero() {
-    let refused = |number| Answer {
+    let refused = |number| raw::Answer {
         number,
-        ..Answer::default()
+        ..raw::Answer::default()
     };
     let mut out = [0xaa; 41];
     let image = worked_image();

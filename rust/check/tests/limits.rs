@@ -4,18 +4,18 @@
 //! takes as much as it says.
 
 use eif::{Arriving, DataLength, Place, Plan, Refusal, SectionType, MAX_IMAGE_LENGTH};
-use eif_cases::{put, record, zero_image, zero_image_start, RECORD_HEADER};
+use eif_cases::{put, record, zero_image, zero_image_start, Answer, RECORD_HEADER};
 use eif_check::{compare_image, Rng, Tally};
 use eif_twin as twin;
 
 /// What a plan and an image of an empty command line and a kernel have beside the kernel's data.
 const BESIDE: usize = 548 + 2 * 12;
 
-fn number(refusal: Refusal) -> (u8, u64) {
-    (refusal.number(), refusal.index())
+fn parts(refusal: Refusal) -> Answer {
+    (refusal.number(), refusal.index(), refusal.position())
 }
 
-const TOO_LONG: (u8, u64) = (1, 0);
+const TOO_LONG: Answer = (1, 0, 0);
 
 #[test]
 fn read() {
@@ -26,7 +26,7 @@ fn read() {
     assert_eq!(lengths, [0, (MAX_IMAGE_LENGTH - BESIDE) as u64]);
     assert!(twin::read(&longest).is_ok());
     let longer = zero_image(MAX_IMAGE_LENGTH + 1);
-    assert_eq!(eif::read(&longer).map_err(number).unwrap_err(), TOO_LONG);
+    assert_eq!(eif::read(&longer).map_err(parts).unwrap_err(), TOO_LONG);
 }
 
 /// Feeds zeros until so many bytes were taken.
@@ -50,7 +50,7 @@ fn arriving() {
         DataLength((MAX_IMAGE_LENGTH - BESIDE) as u64)
     );
     feed_zeros(&mut longer, MAX_IMAGE_LENGTH + 1);
-    assert_eq!(longer.finish().map_err(number), Err(TOO_LONG));
+    assert_eq!(longer.finish().map_err(parts), Err(TOO_LONG));
 }
 
 /// A long file's magic is wrong before its end, and its answer is 1 all the same. Bytes past the limit are
@@ -59,9 +59,9 @@ fn arriving() {
 fn arriving_past_the_limit() {
     let mut arriving = Arriving::new();
     feed_zeros(&mut arriving, MAX_IMAGE_LENGTH);
-    assert_eq!(arriving.clone().finish().map_err(number), Err((3, 0)));
+    assert_eq!(arriving.clone().finish().map_err(parts), Err((3, 0, 0)));
     arriving.feed(&[0]);
-    assert_eq!(arriving.clone().finish().map_err(number), Err(TOO_LONG));
+    assert_eq!(arriving.clone().finish().map_err(parts), Err(TOO_LONG));
     for bits in [31, 32, 33, 63] {
         // As if so many bytes more had come.
         let mut state = eif::raw::Arriving::from(arriving.clone());
@@ -69,7 +69,7 @@ fn arriving_past_the_limit() {
         let mut later = Arriving::from(state);
         assert_eq!(later.feed(&[0; 600]), 600);
         assert_eq!(later.taken(), (1 << bits) + 599);
-        assert_eq!(later.finish().map_err(number), Err(TOO_LONG));
+        assert_eq!(later.finish().map_err(parts), Err(TOO_LONG));
     }
 }
 
@@ -89,10 +89,10 @@ fn write() {
     let kernel = MAX_IMAGE_LENGTH - BESIDE;
     assert_eq!(eif::plan_length(&plan(kernel)), Ok(MAX_IMAGE_LENGTH));
     let longer = eif::plan_length(&plan(kernel + 1));
-    assert_eq!(longer.map_err(number), Err(TOO_LONG));
+    assert_eq!(longer.map_err(parts), Err(TOO_LONG));
     let mut out = [0xaa; 600];
     let longer = eif::write(&plan(kernel + 1), &[], &mut out);
-    assert_eq!(longer.map_err(number), Err(TOO_LONG));
+    assert_eq!(longer.map_err(parts), Err(TOO_LONG));
     assert_eq!(out, [0xaa; 600]);
 
     let mut image = vec![0; MAX_IMAGE_LENGTH];
@@ -120,7 +120,7 @@ fn rolls() {
     assert_eq!(eif::read_roll(&longest).unwrap().records().len(), 2);
     let longer = roll(kernel + 1);
     assert_eq!(
-        eif::read_roll(&longer).map_err(number).unwrap_err(),
+        eif::read_roll(&longer).map_err(parts).unwrap_err(),
         TOO_LONG
     );
     assert!(twin::read_roll(&longest).is_ok());

@@ -97,12 +97,13 @@ fn a_refused_image_has_registers_of_zeros() {
     let mut refused = 0;
     for case in image_cases() {
         let answer = raw::registers(&case.image);
-        let verdict = (answer.number, answer.index);
-        assert_eq!(verdict, (case.number, case.index), "{}", case.name);
+        let verdict = (answer.number, answer.index, answer.position);
+        assert_eq!(verdict, case.answer, "{}", case.name);
         match eif::registers(&case.image) {
             Ok(Registers(registers)) => assert_eq!(registers, answer.registers),
             Err(refusal) => {
-                assert_eq!((refusal.number(), refusal.index()), verdict);
+                let parts = (refusal.number(), refusal.index(), refusal.position());
+                assert_eq!(parts, verdict);
                 let zeros = raw::RegistersAnswer::default().registers;
                 assert_eq!(answer.registers, zeros, "{}", case.name);
                 refused += 1;

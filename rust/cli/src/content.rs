@@ -15,8 +15,8 @@ pub enum Content<'a> {
 pub struct Neither {
     /// The image reader's refusal.
     pub image: Refusal,
-    /// The roll reader's refusal, where the file does not look like an image.
-    roll: Option<Refusal>,
+    /// The roll reader's refusal as lines, where the file does not look like an image.
+    roll: Option<String>,
 }
 
 /// What an input holds, whose bytes were kept where it may be a roll.
@@ -31,19 +31,23 @@ pub fn of(arrived: &Arrived) -> Result<Content<'_>, Neither> {
     match eif::read_roll(&arrived.bytes) {
         Ok(roll) => Ok(Content::Roll(roll)),
         Err(refusal) => {
-            let roll = Some(refusal);
+            let roll = Some(roll_lines(&refusal, &arrived.bytes));
             Err(Neither { image, roll })
         }
     }
+}
+
+/// A roll's refusal and what stands at its position.
+fn roll_lines(refusal: &Refusal, roll: &[u8]) -> String {
+    let place = words::place("    ", refusal, refusal.place_in_roll(roll));
+    format!("  as a boot roll: {refusal}\n{place}")
 }
 
 impl Neither {
     /// The refusals, as lines.
     pub fn lines(&self, name: &OsStr) -> Vec<u8> {
         let mut lines = words::refusal(name, &self.image);
-        if let Some(refusal) = &self.roll {
-            lines.extend_from_slice(format!("  as a boot roll: {refusal}\n").as_bytes());
-        }
+        lines.extend_from_slice(self.roll.as_deref().unwrap_or_default().as_bytes());
         lines
     }
 }

@@ -16,6 +16,7 @@ pub fn refused(name: &OsStr, refusal: &Refusal) -> Object {
     on_file(name, false)
         .put("number", refusal.number())
         .put("index", refusal.index())
+        .put("position", refusal.position())
         .put("meaning", json::string(refusal.reason().meaning()))
 }
 

@@ -1,4 +1,5 @@
-//! Words that subcommands share. What a refusal means and what to do about it are the library's words.
+//! Words that subcommands share. What a refusal means, what stands at its position and what to do about it
+//! are the library's words.
 
 use eif::Refusal;
 use std::ffi::OsStr;
@@ -21,9 +22,18 @@ pub fn about(name: &OsStr, text: &str) -> Vec<u8> {
     [&shown(name)[..], b": ", text.as_bytes()].concat()
 }
 
-/// A refusal and what to do about it, two lines.
+/// An image's refusal, what stands at its position and what to do about it, a line for each.
 pub fn refusal(name: &OsStr, refusal: &Refusal) -> Vec<u8> {
-    about(name, &format!("{refusal}\n{}", advice(refusal)))
+    let place = place("  ", refusal, refusal.place_in_image());
+    about(name, &format!("{refusal}\n{place}{}", advice(refusal)))
+}
+
+/// The line on what stands at a refusal's position, where its number has a place in the file:
+/// `byte 44: the table's offset entry of section 2`.
+pub fn place(indent: &str, refusal: &Refusal, place: Option<String>) -> String {
+    let position = refusal.position();
+    let line = place.map(|place| format!("{indent}byte {position}: {place}\n"));
+    line.unwrap_or_default()
 }
 
 /// The line on what to do about a refusal.

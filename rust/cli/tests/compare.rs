@@ -210,7 +210,8 @@ fn a_padded_image_is_refused() {
     for words in ["compare a b", "compare b a"] {
         let ended = folder.eif(words);
         assert_eq!(ended.status, 1);
-        let refused = "b: refused 20 at 2: section not packed, or bytes after the last section\n";
+        let refused =
+            "b: refused 20 at 2 byte 44: section not packed, or bytes after the last section\n";
         assert!(ended.text().starts_with(refused), "{}", ended.text());
     }
 }
@@ -250,10 +251,12 @@ fn a_refused_file_is_no_match() {
         let ended = folder.eif(words);
         assert_eq!(ended.status, 1);
         assert!(
-            ended.text().starts_with("cut: refused 2 at 0: "),
+            ended.text().starts_with("cut: refused 2 at 0 byte 0: "),
             "{}",
             ended.text()
         );
-        assert!(ended.text().contains("as a boot roll: refused 16 at 3: "));
+        assert!(ended
+            .text()
+            .contains("as a boot roll: refused 16 at 3 byte 54: "));
     }
 }

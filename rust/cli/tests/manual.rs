@@ -63,7 +63,7 @@ fn run_shown(name: &str) -> usize {
 
 #[test]
 fn the_manual_shows_what_is_printed() {
-    assert_eq!(run_shown("docs/MANUAL.md"), 9);
+    assert_eq!(run_shown("docs/MANUAL.md"), 10);
 }
 
 #[test]
@@ -89,6 +89,7 @@ fn citations_of_the_format_name_its_sections() {
         "rust/eif/src/arriving.rs",
         "rust/eif/src/image.rs",
         "rust/eif/src/numbers.rs",
+        "rust/eif/src/place.rs",
         "rust/eif/src/plan.rs",
         "rust/eif/src/refusal.rs",
         "rust/eif/src/registers.rs",

@@ -98,12 +98,12 @@ fn a_plan_that_is_refused_leaves_nothing() {
     for (options, refusal) in [
         (
             "--format 4",
-            "refused 12 at 0: kernel or command line missing, or metadata missing in version 4",
+            "refused 12 at 0 byte 0: kernel or command line missing, or metadata missing in version 4",
         ),
-        ("--format 7", "refused 4 at 0: version not 2, 3 or 4"),
+        ("--format 7", "refused 4 at 0 byte 0: version not 2, 3 or 4"),
         (
             "--format 3 --metadata metadata",
-            "refused 9 at 2: type not allowed in this version",
+            "refused 9 at 2 byte 0: type not allowed in this version",
         ),
     ] {
         let ended = folder.eif(&format!("{words} {options}"));
@@ -113,7 +113,7 @@ fn a_plan_that_is_refused_leaves_nothing() {
     let ended = folder.eif(&format!("{words} {many}"));
     ended.complains(
         1,
-        "new.eif: refused 5 at 0: number of sections not 2 to 32\n",
+        "new.eif: refused 5 at 0 byte 0: number of sections not 2 to 32\n",
     );
     assert_eq!(folder.names(), before);
 }
@@ -125,7 +125,7 @@ fn large_a_part_without_end() {
     folder.pack("image", &["old"], "");
     let before = folder.names();
     let words = "pack --kernel kernel --cmdline quiet --ramdisk /dev/zero --output new.eif";
-    let refusal = format!("new.eif: refused 1 at 0: {}\n", Reason::ImageTooLong);
+    let refusal = format!("new.eif: refused 1 at 0 byte 0: {}\n", Reason::ImageTooLong);
     folder.eif(words).complains(1, &refusal);
     assert_eq!(folder.names(), before);
 }
@@ -256,7 +256,9 @@ fn a_refused_image_gives_no_bytes() {
     let folder = Folder::new();
     folder.put("image", &worked_image()[..585]);
     let names = folder.names();
-    let refusal = "image: refused 7 at 2: offset + 12 + size is more than the file length\n  \
+    let refusal =
+        "image: refused 7 at 2 byte 44: offset + 12 + size is more than the file length\n  \
+                   byte 44: the table's offset entry of section 2\n  \
                    what to do: compare the sizes of both files and fetch it again\n";
     for words in ["roll image", "extract image 0", "stream image whole"] {
         folder.eif(words).complains(1, refusal);

@@ -78,7 +78,9 @@ fn several_files_are_named() {
     };
     let both = named("a") + &named("b");
     folder.eif("registers a b").says(0, &both);
-    let refused = "cut: refused 7 at 2: offset + 12 + size is more than the file length\n  \
+    let refused =
+        "cut: refused 7 at 2 byte 44: offset + 12 + size is more than the file length\n  \
+                   byte 44: the table's offset entry of section 2\n  \
                    what to do: compare the sizes of both files and fetch it again\n";
     let all = named("a") + refused + &named("b");
     folder.eif("registers a cut b").says(1, &all);
@@ -94,7 +96,7 @@ fn a_roll_is_no_image() {
     folder.eif("roll image --output roll").says(0, "");
     let ended = folder.eif("registers roll");
     assert_eq!(ended.status, 1);
-    assert!(ended.text().starts_with("roll: refused 2 at 0: "));
+    assert!(ended.text().starts_with("roll: refused 2 at 0 byte 0: "));
 }
 
 /// The keys and values that `nitro-cli describe-eif` prints.
@@ -123,10 +125,11 @@ fn json_is_read_back() {
     assert_eq!(ended.status, 1);
     assert_eq!(image.keys().join(" "), "file accepted Measurements");
     check_measurements(image, &by_script(&folder, "image"));
-    let keys = "file accepted number index meaning";
+    let keys = "file accepted number index position meaning";
     assert_eq!(refused.keys().join(" "), keys);
     assert_eq!(*refused.get("number"), Value::Number(7));
     assert_eq!(*refused.get("index"), Value::Number(2));
+    assert_eq!(*refused.get("position"), Value::Number(44));
 }
 
 #[test]

@@ -6,8 +6,8 @@ use common::json::{parse, Value};
 use common::{Ended, Folder};
 use eif::{Reason, MAX_IMAGE_LENGTH};
 use eif_cases::{
-    image_cases, image_of_length, put_number, seal, worked_image, zero_image_start, Layout,
-    Section, OFFSETS_AT,
+    image_cases, image_of_length, located_images, located_rolls, put_number, roll_cases, seal,
+    worked_image, zero_image_start, Answer, Layout, Section, ACCEPTED, OFFSETS_AT,
 };
 use std::process::Command;
 
@@ -71,7 +71,9 @@ fn a_roll_is_shown() {
 fn a_refusal_says_what_to_do() {
     let folder = packed();
     damaged(&folder);
-    let refused = "damaged.eif: refused 13 at 0: checksum differs\n  what to do: fetch it again\n";
+    let refused = "damaged.eif: refused 13 at 0 byte 544: checksum differs\n  \
+                   byte 544: the checksum\n  \
+                   what to do: fetch it again\n";
     folder.eif("show damaged.eif").says(1, refused);
     let both = folder.eif("show damaged.eif packed.eif");
     both.says(1, &format!("{refused}{SHOWN}"));
@@ -82,7 +84,15 @@ fn a_refusal_says_what_to_do() {
 fn a_padded_image_is_refused() {
     let folder = packed();
     let image = folder.get("packed.eif");
-    for (at, index) in [(601, 3), (image.len(), 0)] {
+    for (at, index, byte, place) in [
+        (601, 3, 52, "the table's offset entry of section 3"),
+        (
+            image.len(),
+            0,
+            image.len(),
+            "the first byte after the last section",
+        ),
+    ] {
         let mut padded = image.clone();
         padded.splice(at..at, vec![0; 1 << 20]);
         for place in (0..5).map(|section| OFFSETS_AT + 8 * section) {
@@ -94,10 +104,10 @@ fn a_padded_image_is_refused() {
         seal(&mut padded);
         folder.put("padded.eif", padded);
         let meaning = "section not packed, or bytes after the last section";
-        let line = format!("padded.eif: refused 20 at {index}: {meaning}\n");
+        let line = format!("padded.eif: refused 20 at {index} byte {byte}: {meaning}\n");
         folder.eif("check padded.eif").says(1, &line);
         let advice = "do not use it; fetch it again, and if the answer stays, tell the builder";
-        let shown = format!("{line}  what to do: {advice}\n");
+        let shown = format!("{line}  byte {byte}: {place}\n  what to do: {advice}\n");
         folder.eif("show padded.eif").says(1, &shown);
         for words in [
             "roll padded.eif",
@@ -118,13 +128,43 @@ fn a_file_that_may_be_a_cut_roll_is_told_so() {
     let ended = folder.eif("show cut");
     let lines: Vec<&str> = ended.text().lines().collect();
     assert_eq!(ended.status, 1);
-    assert_eq!(
-        lines[0],
-        "cut: refused 2 at 0: image shorter than 548 bytes"
-    );
-    let as_roll =
-        "  as a boot roll: refused 16 at 4: roll ends inside a record, or before its end record";
-    assert_eq!(lines[2], as_roll);
+    let expected = "\
+cut: refused 2 at 0 byte 0: image shorter than 548 bytes
+  byte 0: the start of the file
+  what to do: fetch it again
+  as a boot roll: refused 16 at 4 byte 87: roll ends inside a record, or before its end record
+    byte 87: the start of record 4";
+    assert_eq!(lines, expected.lines().collect::<Vec<_>>());
+}
+
+/// What stands where a roll is refused.
+#[test]
+fn every_number_of_the_roll_reader_is_told() {
+    let folder = Folder::new();
+    for case in roll_cases().into_iter().chain(located_rolls()) {
+        folder.put("roll", &case.roll);
+        let Err((number, index, position)) = case.answer else {
+            assert_eq!(folder.eif("show roll").status, 0);
+            continue;
+        };
+        let meaning = Reason::from_number(number).expect("a reason").meaning();
+        let place = match number {
+            12 => "the start of the roll".to_string(),
+            5 => "the start of record 32".to_string(),
+            18 => "the first byte after the end record".to_string(),
+            16 if position == case.roll.len() as u64 => {
+                format!("the end of the roll, where record {index} should start")
+            }
+            _ => format!("the start of record {index}"),
+        };
+        let lines = format!(
+            "  as a boot roll: refused {number} at {index} byte {position}: {meaning}\n    \
+             byte {position}: {place}\n"
+        );
+        let ended = folder.eif("show roll");
+        assert_eq!(ended.status, 1);
+        assert!(ended.text().ends_with(&lines), "{}", ended.text());
+    }
 }
 
 /// The object that `eif show --json` prints for a file.
@@ -159,11 +199,12 @@ fn json_of_a_refusal_is_read_back() {
     let folder = packed();
     damaged(&folder);
     let refused = object(&folder, "damaged.eif", 1);
-    let keys = "file accepted number index meaning";
+    let keys = "file accepted number index position meaning";
     assert_eq!(refused.keys().join(" "), keys);
     assert_eq!(*refused.get("accepted"), Value::Truth(false));
     assert_eq!(*refused.get("number"), Value::Number(13));
     assert_eq!(*refused.get("index"), Value::Number(0));
+    assert_eq!(*refused.get("position"), Value::Number(544));
     let meaning = Value::Text("checksum differs".into());
     assert_eq!(*refused.get("meaning"), meaning);
 }
@@ -212,21 +253,36 @@ fn json_carries_the_largest_numbers_and_any_name() {
 #[test]
 fn every_number_of_the_reader_is_told() {
     let folder = Folder::new();
-    for case in image_cases() {
+    for case in image_cases().into_iter().chain(located_images()) {
         folder.put("case.eif", &case.image);
         let ended = folder.eif("check case.eif");
-        let (number, index) = (case.number, case.index);
-        if number == 0 {
+        if case.answer == ACCEPTED {
             ended.says(0, "case.eif: accepted\n");
             continue;
         }
+        let (number, index, position) = case.answer;
         let reason = Reason::from_number(number).expect("a reason");
         let (meaning, advice) = (reason.meaning(), reason.advice());
-        let line = format!("case.eif: refused {number} at {index}: {meaning}\n");
+        let line = format!("case.eif: refused {number} at {index} byte {position}: {meaning}\n");
         ended.says(1, &line);
         let shown = folder.eif("show case.eif");
-        let lines = format!("{line}  what to do: {advice}\n");
+        let place = place(case.answer);
+        let lines = format!("{line}  byte {position}: {place}\n  what to do: {advice}\n");
         assert!(shown.text().starts_with(&lines), "{}", shown.text());
+    }
+}
+
+/// What stands at the position of an image's refusal.
+fn place((number, index, position): Answer) -> String {
+    match (number, position) {
+        (3, 0) => "the magic".to_string(),
+        (_, 0) => "the start of the file".to_string(),
+        (_, 4) => "the version".to_string(),
+        (_, 26) => "the number of sections".to_string(),
+        (_, 28..=283) => format!("the table's offset entry of section {index}"),
+        (_, 544) => "the checksum".to_string(),
+        (20, _) => "the first byte after the last section".to_string(),
+        _ => format!("section {index}'s own header"),
     }
 }
 
@@ -244,7 +300,7 @@ fn the_longest_image_and_one_byte_more() {
 }
 
 fn too_long() -> String {
-    format!("refused 1 at 0: {}", Reason::ImageTooLong)
+    format!("refused 1 at 0 byte 0: {}", Reason::ImageTooLong)
 }
 
 /// With less memory than the image has bytes.
@@ -279,7 +335,7 @@ fn input_without_end_ends() {
 fn check_is_quiet_when_told() {
     let folder = packed();
     damaged(&folder);
-    let lines = "packed.eif: accepted\ndamaged.eif: refused 13 at 0: checksum differs\n";
+    let lines = "packed.eif: accepted\ndamaged.eif: refused 13 at 0 byte 544: checksum differs\n";
     folder.eif("check packed.eif damaged.eif").says(1, lines);
     folder
         .eif("check --quiet packed.eif damaged.eif")

@@ -86,7 +86,7 @@ fn a_file_that_cannot_be_read() {
 fn an_empty_file() {
     let folder = with_good();
     folder.put("empty", b"");
-    let refused = "empty: refused 2 at 0: image shorter than 548 bytes\n";
+    let refused = "empty: refused 2 at 0 byte 0: image shorter than 548 bytes\n";
     folder.eif("check empty").says(1, refused);
     folder
         .eif("check /dev/null")
@@ -327,5 +327,8 @@ fn standard_input_that_is_closed() {
     command.args(["-c", script, env!("CARGO_BIN_EXE_eif")]);
     command.stdin(Stdio::null()).current_dir(folder.path(""));
     let ended: Ended = command.output().unwrap().into();
-    ended.says(1, "-: refused 2 at 0: image shorter than 548 bytes\n");
+    ended.says(
+        1,
+        "-: refused 2 at 0 byte 0: image shorter than 548 bytes\n",
+    );
 }

@@ -4,7 +4,8 @@
 mod common;
 
 use common::{repository_text, Folder};
-use eif::{Reason, SectionType};
+use eif::{Reason, Refusal, SectionType};
+use eif_cases::{located_images, located_rolls};
 use std::process::Command;
 
 /// `(NAME, VALUE)` of each `#define` of the header with a value.
@@ -158,10 +159,10 @@ fn one_version() {
     assert!(page.contains(&format!("\"eif {version}\"")), "docs/eif.1");
 }
 
-/// The rows of the manual's table of answer numbers, cell by cell.
-fn manual_rows() -> Vec<Vec<String>> {
+/// The rows of one of the manual's tables, cell by cell, by how its heading begins.
+fn manual_rows(heading: &str) -> Vec<Vec<String>> {
     let manual = repository_text("docs/MANUAL.md");
-    let (_, rest) = manual.split_once("| no. | meaning |").expect("the table");
+    let (_, rest) = manual.split_once(heading).expect("the table");
     let rows = rest
         .lines()
         .skip(2)
@@ -175,7 +176,7 @@ fn manual_rows() -> Vec<Vec<String>> {
 
 #[test]
 fn the_manual_has_the_same_words() {
-    let rows = manual_rows();
+    let rows = manual_rows("| no. | meaning |");
     assert_eq!(rows.len(), Reason::ALL.len());
     for (row, reason) in rows.iter().zip(Reason::ALL) {
         let [number, meaning, _, advice] = &row[..] else {
@@ -185,6 +186,46 @@ fn the_manual_has_the_same_words() {
         assert_eq!(meaning, reason.meaning());
         assert_eq!(advice, reason.advice());
     }
+}
+
+/// Which of the manual's rows has the words on what stands at a refusal's position.
+fn row_with(rows: &[Vec<String>], refusal: &Refusal, place: Option<String>) -> usize {
+    let index = match (refusal.number(), refusal.position()) {
+        // A roll's 33rd record.
+        (5, 320..) => 32,
+        _ => refusal.index(),
+    };
+    let place = place.expect("a place");
+    let number = refusal.number().to_string();
+    let same = |row: &Vec<String>| {
+        let mut numbers = row[0].split(", ");
+        let words = row[1].replace("section N", &format!("section {index}"));
+        let words = words.replace("record N", &format!("record {index}"));
+        numbers.any(|known| known == number) && words == place
+    };
+    let found = rows.iter().position(same);
+    found.unwrap_or_else(|| panic!("{refusal}: {place}: not in docs/MANUAL.md"))
+}
+
+/// Every row is met but for those of numbers that no small file gets.
+#[test]
+fn the_manual_has_the_same_places() {
+    let images = manual_rows("| an image refused by |");
+    let mut met = vec![false; images.len()];
+    for case in located_images() {
+        let refusal = eif::read(&case.image).expect_err("refused");
+        met[row_with(&images, &refusal, refusal.place_in_image())] = true;
+    }
+    let unmet = images.iter().zip(met).filter(|(_, met)| !met);
+    assert!(unmet.map(|(row, _)| &row[0]).eq(["21"]));
+
+    let rolls = manual_rows("| a roll refused by |");
+    let mut met = vec![false; rolls.len()];
+    for case in located_rolls() {
+        let refusal = eif::read_roll(&case.roll).expect_err("refused");
+        met[row_with(&rolls, &refusal, refusal.place_in_roll(&case.roll))] = true;
+    }
+    assert!(met.into_iter().all(|met| met));
 }
 
 /// The options in a text, each once, in order.

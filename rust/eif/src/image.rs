@@ -76,7 +76,7 @@ pub(crate) fn data_at(image: &[u8], position: FilePosition, length: DataLength) 
 impl Reading {
     /// The reading that a reader answered, or its refusal.
     pub(crate) fn accepted(answer: raw::Reading) -> Result<Reading, Refusal> {
-        Refusal::check(answer.number, answer.index)?;
+        Refusal::check(answer.number, answer.index, answer.position)?;
         let used = answer.sections.into_iter();
         let used = used.take(usize::from(answer.count));
         Ok(Reading {

@@ -16,8 +16,8 @@
 //! | [`write_roll`], [`roll_length`], [`roll_to_vec`], [`read_roll`] | the boot roll |
 //!
 //! Every call takes any bytes and any numbers. A [`Refusal`] has the first answer number that applies,
-//! in the order that FORMAT.md gives for the call, and then no byte of an output buffer has changed. An
-//! accepted call changes only the bytes that it reports.
+//! in the order that FORMAT.md gives for the call, and says where; then no byte of an output buffer has
+//! changed. An accepted call changes only the bytes that it reports.
 //!
 //! # Example
 //!
@@ -69,8 +69,8 @@
 //! // A damaged image is refused.
 //! bytes[560] ^= 1;
 //! let refusal = eif::read(&bytes).unwrap_err();
-//! assert_eq!(refusal.number(), 13);
-//! assert_eq!(refusal.to_string(), "refused 13 at 0: checksum differs");
+//! assert_eq!((refusal.number(), refusal.position()), (13, 544));
+//! assert_eq!(refusal.to_string(), "refused 13 at 0 byte 544: checksum differs");
 //! # Ok::<(), Box<dyn std::error::Error>>(())
 //! ```
 //!
@@ -84,6 +84,7 @@
 mod arriving;
 mod image;
 mod numbers;
+mod place;
 mod plan;
 pub mod raw;
 mod refusal;

@@ -45,6 +45,8 @@ pub struct Reading {
     pub count: u16,
     /// The index beside a refusal.
     pub index: u64,
+    /// Where what is at fault stands, beside a refusal.
+    pub position: u64,
     /// The header's default_mem.
     pub default_mem: u64,
     /// The header's default_cpus.
@@ -89,6 +91,8 @@ pub struct Answer {
     pub reserved: [u8; 7],
     /// The index beside a refusal.
     pub index: u64,
+    /// Where what is at fault stands, beside a refusal.
+    pub position: u64,
     /// The length, 0 beside a refusal.
     pub length: u64,
 }
@@ -119,6 +123,8 @@ pub struct RollReading {
     pub reserved: [u8; 7],
     /// The index beside a refusal.
     pub index: u64,
+    /// Where what is at fault stands, beside a refusal.
+    pub position: u64,
     /// How many records there are, the end record not counted.
     pub count: u64,
     /// The records in order, then zeros.
@@ -158,6 +164,8 @@ pub struct Sha384Fed {
     pub reserved: [u8; 7],
     /// Always 0.
     pub index: u64,
+    /// Always 0.
+    pub position: u64,
     /// The state after the piece; beside a refusal the state as it was.
     pub state: Sha384,
 }
@@ -172,6 +180,8 @@ pub struct RegistersAnswer {
     pub reserved: [u8; 7],
     /// The index beside a refusal.
     pub index: u64,
+    /// Where what is at fault stands, beside a refusal.
+    pub position: u64,
     /// Registers 0, 1 and 2, all zero beside a refusal.
     pub registers: [Digest; REGISTERS],
 }
@@ -223,19 +233,20 @@ const _: () = {
     assert!(size_of::<DataLength>() == 8 && size_of::<StreamPosition>() == 8);
     assert!(size_of::<Section>() == 2 + 2 + 4 + 8 + 8);
     assert!(size_of::<RollRecord>() == 2 + 2 + 4 + 8 + 8);
-    assert!(size_of::<Answer>() == 1 + 7 + 8 + 8);
-    assert!(size_of::<Reading>() == 1 + 1 + 3 * 2 + 3 * 8 + 4 * 4 + MAX_SECTIONS * 24);
-    assert!(offset_of!(Reading, sections) == 48);
-    assert!(size_of::<RollReading>() == 1 + 7 + 8 + 8 + MAX_SECTIONS * 24);
+    assert!(size_of::<Answer>() == 1 + 7 + 8 + 8 + 8);
+    assert!(size_of::<Reading>() == 1 + 1 + 3 * 2 + 4 * 8 + 4 * 4 + MAX_SECTIONS * 24);
+    assert!(offset_of!(Reading, position) == 16 && offset_of!(Reading, sections) == 56);
+    assert!(size_of::<RollReading>() == 1 + 7 + 8 + 8 + 8 + MAX_SECTIONS * 24);
+    assert!(offset_of!(RollReading, records) == 32);
     assert!(size_of::<StreamSections>() == 8 + MAX_SECTIONS * 24);
     assert!(align_of::<StreamSections>() == 8 && offset_of!(StreamSections, sections) == 8);
     assert!(size_of::<Sha384>() == 8 * 8 + 128 + 8);
     assert!(offset_of!(Sha384, block) == 64 && offset_of!(Sha384, total) == 192);
-    assert!(size_of::<Sha384Fed>() == 1 + 7 + 8 + size_of::<Sha384>());
-    assert!(offset_of!(Sha384Fed, state) == 16);
+    assert!(size_of::<Sha384Fed>() == 1 + 7 + 8 + 8 + size_of::<Sha384>());
+    assert!(offset_of!(Sha384Fed, state) == 24);
     assert!(size_of::<Digest>() == DIGEST_LENGTH && align_of::<Digest>() == 1);
-    assert!(size_of::<RegistersAnswer>() == 1 + 7 + 8 + REGISTERS * DIGEST_LENGTH);
-    assert!(offset_of!(RegistersAnswer, registers) == 16);
+    assert!(size_of::<RegistersAnswer>() == 1 + 7 + 8 + 8 + REGISTERS * DIGEST_LENGTH);
+    assert!(offset_of!(RegistersAnswer, registers) == 24);
     assert!(size_of::<Arriving>() == 8 + HEADER_LENGTH + SECTION_HEADERS_LENGTH + 4 + 8);
     assert!(offset_of!(Arriving, header) == 8 && offset_of!(Arriving, section_headers) == 556);
     assert!(offset_of!(Arriving, checksum) == 940 && offset_of!(Arriving, ended) == 944);
@@ -522,7 +533,7 @@ pub fn sha384_finish(state: Sha384) -> Digest {
 impl Answer {
     /// The length, or the refusal.
     pub(crate) fn accepted(self) -> Result<u64, crate::Refusal> {
-        crate::Refusal::check(self.number, self.index).map(|()| self.length)
+        crate::Refusal::check(self.number, self.index, self.position).map(|()| self.length)
     }
 
     /// The length of a part of a slice, or the refusal.

@@ -107,16 +107,20 @@ impl fmt::Display for Reason {
 /// A refusal: the first answer number that applies, and where.
 ///
 /// ```
-/// let refusal = eif::read(&[0; 547]).unwrap_err();
-/// assert_eq!(refusal.reason(), eif::Reason::ImageTooShort);
-/// assert_eq!((refusal.number(), refusal.index()), (2, 0));
-/// assert_eq!(refusal.to_string(), "refused 2 at 0: image shorter than 548 bytes");
-/// assert_eq!(refusal.reason().advice(), "fetch it again");
+/// // The right magic, and version 0.
+/// let mut image = [0; 548];
+/// image[..4].copy_from_slice(b".eif");
+/// let refusal = eif::read(&image).unwrap_err();
+/// assert_eq!(refusal.reason(), eif::Reason::WrongVersion);
+/// assert_eq!((refusal.number(), refusal.index(), refusal.position()), (4, 0, 4));
+/// assert_eq!(refusal.to_string(), "refused 4 at 0 byte 4: version not 2, 3 or 4");
+/// assert_eq!(refusal.place_in_image().as_deref(), Some("the version"));
 /// ```
 #[derive(Clone, Copy, Debug, PartialEq, Eq, Hash)]
 pub struct Refusal {
     reason: Reason,
     index: u64,
+    position: u64,
 }
 
 impl Refusal {
@@ -125,12 +129,17 @@ impl Refusal {
     /// # Panics
     ///
     /// Where the table above has no such number, which the library does not answer.
-    pub(crate) fn check(number: u8, index: u64) -> Result<(), Refusal> {
-        match (number, Reason::from_number(number)) {
-            (0, _) => Ok(()),
-            (_, Some(reason)) => Err(Refusal { reason, index }),
+    pub(crate) fn check(number: u8, index: u64, position: u64) -> Result<(), Refusal> {
+        let reason = match (number, Reason::from_number(number)) {
+            (0, _) => return Ok(()),
+            (_, Some(reason)) => reason,
             (_, None) => panic!("the archive answers {number}, which this crate does not know"),
-        }
+        };
+        Err(Refusal {
+            reason,
+            index,
+            position,
+        })
     }
 
     /// Why.
@@ -148,12 +157,21 @@ impl Refusal {
     pub fn index(&self) -> u64 {
         self.index
     }
+
+    /// Where what is at fault stands (FORMAT.md, Positions): a position in the image, or in the roll where a
+    /// roll was read, from its start; 0 where the number has no place there.
+    /// [`place_in_image`](Refusal::place_in_image) and [`place_in_roll`](Refusal::place_in_roll) say in words
+    /// what that is.
+    pub fn position(&self) -> u64 {
+        self.position
+    }
 }
 
 impl fmt::Display for Refusal {
     fn fmt(&self, f: &mut fmt::Formatter<'_>) -> fmt::Result {
-        let (number, index) = (self.number(), self.index);
-        write!(f, "refused {number} at {index}: {}", self.reason)
+        let (number, index, position) = (self.number(), self.index, self.position);
+        let meaning = self.reason;
+        write!(f, "refused {number} at {index} byte {position}: {meaning}")
     }
 }
 
@@ -165,13 +183,13 @@ mod tests {
 
     #[test]
     fn numbers_and_reasons_agree() {
-        assert_eq!(Refusal::check(0, 0), Ok(()));
+        assert_eq!(Refusal::check(0, 0, 0), Ok(()));
         assert!(Reason::ALL.windows(2).all(|pair| pair[0] < pair[1]));
         for &reason in Reason::ALL {
-            let refusal = Refusal::check(reason as u8, 7).unwrap_err();
+            let refusal = Refusal::check(reason as u8, 7, 84).unwrap_err();
             assert_eq!(refusal.reason(), reason);
             assert_eq!(refusal.number(), reason as u8);
-            assert_eq!(refusal.index(), 7);
+            assert_eq!((refusal.index(), refusal.position()), (7, 84));
         }
     }
 }

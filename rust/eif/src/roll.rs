@@ -67,7 +67,7 @@ pub fn roll_to_vec(image: &[u8]) -> Result<Vec<u8>, Refusal> {
 /// The first of 16, 17, 5, 10, 11, 18, 12 and 1 that applies, in the order of reading a roll.
 pub fn read_roll(roll: &[u8]) -> Result<Roll<'_>, Refusal> {
     let reading = raw::roll_read(roll);
-    Refusal::check(reading.number, reading.index)?;
+    Refusal::check(reading.number, reading.index, reading.position)?;
     let used = reading.records.into_iter().take(reading.count as usize);
     Ok(Roll {
         bytes: roll,

@@ -59,7 +59,7 @@ impl Sha384 {
     pub fn update(&mut self, piece: &[u8]) -> Result<(), Refusal> {
         let fed = raw::sha384_update(self.0, piece);
         self.0 = fed.state;
-        Refusal::check(fed.number, fed.index)
+        Refusal::check(fed.number, fed.index, fed.position)
     }
 
     /// The digest of all pieces taken, joined.

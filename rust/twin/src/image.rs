@@ -90,15 +90,15 @@ pub fn read(image: &[u8]) -> Result<Reading, Refusal> {
     }
     let version = u16_at(image, VERSION_AT);
     if !known_version(version) {
-        return refuse(4, 0);
+        return refuse_at(4, 0, VERSION_AT);
     }
     let count = usize::from(u16_at(image, COUNT_AT));
     if !(2..=MAX_SECTIONS).contains(&count) {
-        return refuse(5, 0);
+        return refuse_at(5, 0, COUNT_AT);
     }
     let sections = read_sections(image, version, count)?;
     if checksum(image) != u32_at(image, CHECKSUM_AT) {
-        return refuse(13, 0);
+        return refuse_at(13, 0, CHECKSUM_AT);
     }
     Ok(Reading {
         version,
@@ -113,41 +113,49 @@ pub fn read(image: &[u8]) -> Result<Reading, Refusal> {
 fn read_sections(image: &[u8], version: u16, count: usize) -> Result<Vec<Section>, Refusal> {
     let mut sections = Vec::with_capacity(count);
     let mut seen = Seen::default();
-    let mut end = HEADER as u64;
+    let mut end = HEADER;
     for index in 0..count {
-        let offset = u64_at(image, OFFSETS_AT + 8 * index);
-        let size = u64_at(image, SIZES_AT + 8 * index);
-        if offset < end {
-            return refuse(6, index);
+        let section = read_section(image, index, end)?;
+        if !allowed(section.kind, version) {
+            return refuse_at(9, index, end);
         }
-        if offset != end {
-            return refuse(20, index);
-        }
-        // A sum that does not fit 64 bits is past the end of the file too.
-        let position = offset.checked_add(SECTION_HEADER as u64);
-        end = match position.and_then(|position| position.checked_add(size)) {
-            Some(end) if end <= image.len() as u64 => end,
-            _ => return refuse(7, index),
-        };
-        let header = &image[offset as usize..][..SECTION_HEADER];
-        if u64_at(header, 4) != size {
-            return refuse(8, index);
-        }
-        let kind = u16_at(header, 0);
-        if !allowed(kind, version) {
-            return refuse(9, index);
-        }
-        seen.add(kind, index)?;
-        sections.push(Section {
-            kind,
-            flags: u16_at(header, 2),
-            position: offset as usize + SECTION_HEADER,
-            length: size as usize,
-        });
+        seen.add(section.kind, index, end)?;
+        end = section.position + section.length;
+        sections.push(section);
     }
-    seen.complete(version)?;
-    if end != image.len() as u64 {
-        return refuse(20, 0);
+    seen.complete(version, COUNT_AT)?;
+    if end != image.len() {
+        return refuse_at(20, 0, end);
     }
     Ok(sections)
+}
+
+/// A section by rules 6, 20, 7 and 8. Where none refuses it, it starts where the one before it ends.
+fn read_section(image: &[u8], index: usize, end_before: usize) -> Result<Section, Refusal> {
+    let entry = OFFSETS_AT + 8 * index;
+    let offset = u64_at(image, entry);
+    let size = u64_at(image, SIZES_AT + 8 * index);
+    if offset < end_before as u64 {
+        return refuse_at(6, index, entry);
+    }
+    if offset != end_before as u64 {
+        return refuse_at(20, index, entry);
+    }
+    // A sum that does not fit 64 bits is past the end of the file too.
+    let end = offset
+        .checked_add(SECTION_HEADER as u64)
+        .and_then(|position| position.checked_add(size));
+    if end.map_or(true, |end| end > image.len() as u64) {
+        return refuse_at(7, index, entry);
+    }
+    let header = &image[end_before..][..SECTION_HEADER];
+    if u64_at(header, 4) != size {
+        return refuse_at(8, index, end_before);
+    }
+    Ok(Section {
+        kind: u16_at(header, 0),
+        flags: u16_at(header, 2),
+        position: end_before + SECTION_HEADER,
+        length: size as usize,
+    })
 }

@@ -8,7 +8,8 @@
 //! use eif_twin::{read_roll, Refusal};
 //!
 //! // Ten zero bytes are an end record with nothing before it: kernel and command line are missing.
-//! assert_eq!(read_roll(&[0; 10]), Err(Refusal { number: 12, index: 0 }));
+//! let refusal = Refusal { number: 12, index: 0, position: 0 };
+//! assert_eq!(read_roll(&[0; 10]), Err(refusal));
 //! ```
 #![forbid(unsafe_code)]
 #![deny(missing_docs)]

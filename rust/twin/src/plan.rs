@@ -46,9 +46,9 @@ pub fn plan_length(plan: &Plan) -> Result<usize, Refusal> {
         if !allowed(place.kind, plan.version) {
             return refuse(9, index);
         }
-        seen.add(place.kind, index)?;
+        seen.add(place.kind, index, 0)?;
     }
-    seen.complete(plan.version)?;
+    seen.complete(plan.version, 0)?;
 
     let sum: u128 = places.iter().map(|place| u128::from(place.length)).sum();
     let total = (HEADER + SECTION_HEADER * count) as u128 + sum;

@@ -58,27 +58,27 @@ pub fn read_roll(roll: &[u8]) -> Result<Vec<Record>, Refusal> {
     let mut seen = Seen::default();
     let mut at = 0;
     loop {
-        let index = records.len();
-        let Some(header) = roll.get(at..at + RECORD_HEADER) else {
-            return refuse(16, index);
+        let (index, start) = (records.len(), at);
+        let Some(header) = roll.get(start..start + RECORD_HEADER) else {
+            return refuse_at(16, index, start);
         };
         let length = u64::from_le_bytes(header[..8].try_into().unwrap());
         let kind = u16::from_le_bytes(header[8..].try_into().unwrap());
         if kind > RAMDISK || (kind == 0 && length != 0) {
-            return refuse(17, index);
+            return refuse_at(17, index, start);
         }
         at += RECORD_HEADER;
         if kind == 0 {
             break;
         }
         if index == MAX_SECTIONS {
-            return refuse(5, 0);
+            return refuse_at(5, 0, start);
         }
         if length > (roll.len() - at) as u64 {
-            return refuse(16, index);
+            return refuse_at(16, index, start);
         }
         let length = length as usize;
-        seen.add(kind, index)?;
+        seen.add(kind, index, start)?;
         records.push(Record {
             kind,
             position: at,
@@ -87,10 +87,10 @@ pub fn read_roll(roll: &[u8]) -> Result<Vec<Record>, Refusal> {
         at += length;
     }
     if at < roll.len() {
-        return refuse(18, 0);
+        return refuse_at(18, 0, at);
     }
     // A roll has no metadata, so the rule is that of the first version.
-    seen.complete(2)?;
+    seen.complete(2, 0)?;
     let sections: usize = records.iter().map(|r| SECTION_HEADER + r.length).sum();
     if HEADER + sections > MAX_IMAGE {
         return refuse(1, 0);

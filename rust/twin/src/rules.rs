@@ -33,12 +33,20 @@ pub struct Refusal {
     pub number: u8,
     /// Index of the section or record, 0 where the number has none.
     pub index: u64,
+    /// Where in the file, or in the roll, what is at fault stands, 0 where the number has no place there.
+    pub position: u64,
 }
 
+/// A refusal that has no place in a file.
 pub(crate) fn refuse<T>(number: u8, index: usize) -> Result<T, Refusal> {
+    refuse_at(number, index, 0)
+}
+
+pub(crate) fn refuse_at<T>(number: u8, index: usize, position: usize) -> Result<T, Refusal> {
     Err(Refusal {
         number,
         index: index as u64,
+        position: position as u64,
     })
 }
 
@@ -60,14 +68,14 @@ pub(crate) fn allowed(kind: u16, version: u16) -> bool {
 pub(crate) struct Seen([bool; 6]);
 
 impl Seen {
-    /// Takes one section more, or refuses it by 10 or 11.
-    pub(crate) fn add(&mut self, kind: u16, index: usize) -> Result<(), Refusal> {
+    /// Takes one section more, which stands at this position, or refuses it by 10 or 11.
+    pub(crate) fn add(&mut self, kind: u16, index: usize, position: usize) -> Result<(), Refusal> {
         if kind == RAMDISK {
             if !self.has(KERNEL) {
-                return refuse(10, index);
+                return refuse_at(10, index, position);
             }
         } else if self.has(kind) {
-            return refuse(11, index);
+            return refuse_at(11, index, position);
         }
         self.0[usize::from(kind)] = true;
         Ok(())
@@ -77,13 +85,13 @@ impl Seen {
         self.0[usize::from(kind)]
     }
 
-    /// Refuses by 12 where a type that must be there is not.
-    pub(crate) fn complete(&self, version: u16) -> Result<(), Refusal> {
+    /// Refuses by 12, at this position, where a type that must be there is not.
+    pub(crate) fn complete(&self, version: u16, position: usize) -> Result<(), Refusal> {
         let metadata = version < 4 || self.has(METADATA);
         if self.has(KERNEL) && self.has(COMMAND_LINE) && metadata {
             Ok(())
         } else {
-            refuse(12, 0)
+            refuse_at(12, 0, position)
         }
     }
 }

@@ -1,12 +1,22 @@
 //! The examples of docs/FORMAT.md through the twin.
 
 use eif_cases::{
-    image_cases, roll_cases, stream_cases, two_sections, worked_image, zero_image, WORKED_ROLL,
+    image_cases, located_images, located_plans, located_rolls, roll_cases, stream_cases,
+    two_sections, worked_image, zero_image, Answer, ACCEPTED, WORKED_ROLL,
 };
 use eif_twin::*;
 
+/// A refusal that has no place in a file.
 fn refused(number: u8, index: u64) -> Refusal {
-    Refusal { number, index }
+    Refusal {
+        number,
+        index,
+        position: 0,
+    }
+}
+
+fn parts(refusal: Refusal) -> Answer {
+    (refusal.number, refusal.index, refusal.position)
 }
 
 fn worked_plan() -> Plan {
@@ -95,25 +105,49 @@ fn a_roll_does_not_fit_41_bytes() {
 
 #[test]
 fn rolls() {
-    for case in roll_cases() {
+    for case in roll_cases().into_iter().chain(located_rolls()) {
         let answer = read_roll(&case.roll)
             .map(|records| {
                 let row = |r: &Record| (r.kind, r.position as u64, r.length as u64);
                 records.iter().map(row).collect::<Vec<_>>()
             })
-            .map_err(|refusal| (refusal.number, refusal.index));
+            .map_err(parts);
         assert_eq!(answer, case.answer, "{}", case.name);
     }
 }
 
 #[test]
 fn images() {
-    for case in image_cases() {
-        let answer = match read(&case.image) {
-            Ok(_) => (0, 0),
-            Err(refusal) => (refusal.number, refusal.index),
+    for case in image_cases().into_iter().chain(located_images()) {
+        let answer = read(&case.image).map_or_else(parts, |_| ACCEPTED);
+        assert_eq!(answer, case.answer, "{}", case.name);
+    }
+}
+
+/// Every place past the sections is that of another kernel, and the count is theirs.
+#[test]
+fn plans() {
+    for case in located_plans() {
+        let other = Place {
+            kind: 1,
+            ..Place::default()
         };
-        assert_eq!(answer, (case.number, case.index), "{}", case.name);
+        let mut places = [other; 32];
+        for (place, &(kind, length)) in places.iter_mut().zip(&case.sections) {
+            *place = Place {
+                kind,
+                flags: 0,
+                length,
+            };
+        }
+        let plan = Plan {
+            version: case.version,
+            count: case.sections.len() as u16,
+            places,
+            ..worked_plan()
+        };
+        let answer = write(&plan, &vec![7; case.data], &mut vec![7; case.room]);
+        assert_eq!(answer.map_err(parts), Err(case.answer), "{}", case.name);
     }
 }
 

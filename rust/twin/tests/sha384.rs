@@ -23,6 +23,7 @@ fn the_total_is_limited() {
     let refused = Err(Refusal {
         number: 29,
         index: 0,
+        position: 0,
     });
     for (total, length, answer) in [
         (limit, 0, Ok(())),
@@ -55,6 +56,7 @@ fn image_registers() {
     let refused = Refusal {
         number: 2,
         index: 0,
+        position: 0,
     };
     assert_eq!(registers(&[]), Err(refused));
 }

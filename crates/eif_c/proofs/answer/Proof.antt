@@ -5,4 +5,4 @@ use Rattle.eif_c.proofs.answer.Statement.{statement}
 use Rattle.eif_c.proofs.answer.Tie as tie
 
 pub answer-spec : {M : Type 1} → statement M
-answer-spec = tie.close (tie.spec (λ c κs. search needs) (λ c κs. search needs) (λ c. cc))
+answer-spec = tie.close (tie.spec (λ c κs. search needs) (λ c κs. search needs) (λ c κs. search needs) (λ c. cc))

@@ -3,19 +3,21 @@
 use Prim.Native.Nat.{ℕ, _<_, _≤_}
 use mathlib.Core.Path.{_≡_, sym, ap, ap₂, _∙_}
 use mathlib.Core.List.{List}
+use native.Mathlib.Omega.{arith}
 use borrow.Author.Needs.{needs}
 use denote.Ref.{now}
 use lib.ListN.{length, take, getD}
 use lib.Seq.{length-take-le}
-use Rattle.eif.specs.Numbers.{placeCount}
-use Rattle.eif.specs.Answers.{refuse}
+use Rattle.eif.specs.Numbers.{placeCount, notPacked}
+use Rattle.eif.specs.Answers.{refuse, refuseAt, indexOf}
 use Rattle.eif.specs.Rules.{firstFault, missing}
 use Rattle.eif.specs.Table.{filled}
 use Rattle.eif.specs.Layout.{View, viewFrom, version, count, start}
-use Rattle.eif.specs.Reading.{headerRule, sectionRule, section, blankSection, sections, blankReading}
+use Rattle.eif.specs.Reading.{headerRule, sectionRule, section, blankSection, sections, located, blankReading}
 use Rattle.eif.specs.declared.Verdict.the-variants.{Accepted}
 use Rattle.eif_rules.proofs.Table.{filled-at, length-filled}
 use Rattle.eif_rules.proofs.View.{header}
+use Rattle.eif_rules.proofs.Position.{walk-index}
 use Rattle.eif_rules.proofs.Reading.{read-header, read-walk}
 use Rattle.type_rules.specs.Kinds.{kindIn}
 use Rattle.type_rules.proofs.Parts.{missing-part}
@@ -69,24 +71,31 @@ module _ (c : tie.After-walk) where
 
 returns : tie.Need-returns
 returns c =
-    let a = c .before .before .before .before .before .before .args in
-    let e = c .before .before .before .header-fault .ensures (now (a .heads)) in
-    c .refused .ensures ∙ ap blankReading (c .before .refuse .ensures) ∙ ap (λ (n : ℕ). blankReading (refuse n 0)) e
-    ∙ read-header (viewFrom (now (a .header)) (now (a .heads)) (a .size)) (λ z. c .before .before .if1 .taken (e ∙ z))
+    let a = c .before .before .before .before .before .args in
+    let v = viewFrom (now (a .header)) (now (a .heads)) (a .size) in
+    let e = c .before .before .header-fault .ensures (now (a .heads)) in
+    c .refused-in .ensures ∙ ap (λ (n : ℕ). blankReading (located (v .header) (refuse n 0))) e
+    ∙ read-header v (λ z. c .before .if1 .taken (e ∙ z))
+
+refused-in-requires-2 : tie.Need-refused-in-requires-2
+refused-in-requires-2 c κs =
+    let w = c .before .before .before .before .before in
+    let b = walk-index placeCount (omega arith) (sectionRule (file w)) (w .before .be162 .result) 0 (omega (arith, few (w .before))) in
+    omega (arith, b, ap indexOf (sym (w .walk .ensures .0) ∙ c .before .verdict .given .1))
 
 returns-2 : tie.Need-returns-2
 returns-2 c =
-    let w = c .before .before .before .before .before in
-    let t = c .before .enum-told2 .given in
-    c .refused2 .ensures ∙ ap blankReading (t .1) ∙ read-walk (file w) (clean (w .before)) (t .0 .0) (sym (walked w) ∙ t .1)
+    let w = c .before .before .before .before .before .before in
+    let t = c .before .before .verdict .given in
+    c .refused-in2 .ensures ∙ read-walk (file w) (clean (w .before)) (t .0 .0) (sym (walked w) ∙ t .1)
 
 returns-3 : tie.Need-returns-3
 returns-3 c =
-    let g = c .before .before .before in
+    let g = c .before .before in
     let w = g .before .before .before .before .before .before in
     let t = g .before .before .enum-told .given .1 in
-    c .refused3 .ensures ∙ ap blankReading (c .before .refuse2 .ensures)
-    ∙ incomplete (file w) (clean (w .before)) (sym (walked w) ∙ t) (sym (g .lacks .ensures ∙ lacking w t) ∙ c .before .before .if2 .taken)
+    c .refused-in3 .ensures
+    ∙ incomplete (file w) (clean (w .before)) (sym (walked w) ∙ t) (sym (g .lacks .ensures ∙ lacking w t) ∙ c .before .if2 .taken)
 
 returns-4 : tie.Need-returns-4
 returns-4 c =
@@ -95,7 +104,7 @@ returns-4 c =
     let w = g .before .before .before .before .before .before in
     let t = g .before .before .enum-told .given .1 in
     let e = ended w t in
-    c .refused4 .ensures ∙ ap blankReading (c .before .refuse3 .ensures)
+    c .refused .ensures ∙ ap blankReading (c .before .refuse-at .ensures) ∙ ap (λ (n : ℕ). blankReading (refuseAt notPacked 0 n)) e
     ∙ with-tail (file w) (clean (w .before)) (sym (walked w) ∙ t) (sym (g .lacks .ensures ∙ lacking w t) ∙ h .if2 .left) (rw e at (c .before .before .if3 .taken))
 
 returns-5 : tie.Need-returns-5
@@ -115,19 +124,17 @@ judge-spec =
     (tie.spec
     (λ c κs. search needs)
     (λ c κs. search needs)
-    (λ c κs. search needs)
     returns
     (λ c κs. search needs)
     (λ c κs. search needs)
     (λ c. search needs)
     (λ c κs. (header (view c) (clean c) .whole, few c))
     (λ c. search needs)
-    (λ c. search needs)
-    (λ c κs. search needs)
+    refused-in-requires-2
     returns-2
+    (λ c. search needs)
     (λ c. rw (room (c .before .before .before .before) (c .enum-told .given .1)) (few (c .before .before .before .before .before)))
     (λ c. sym (length-take-le _ _ (rw (room (c .before .before .before .before .before) (c .before .enum-told .given .1)) (few (c .before .before .before .before .before .before)))))
-    (λ c κs. search needs)
     (λ c κs. search needs)
     (λ c κs. search needs)
     returns-3

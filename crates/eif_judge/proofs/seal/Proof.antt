@@ -16,7 +16,7 @@ returns c =
 returns-2 : tie.Need-returns-2
 returns-2 c =
     let a = c .before .before .before .before .before .args in
-    c .refused .ensures ∙ ap blankReading (c .before .refuse .ensures)
+    c .refused .ensures ∙ ap blankReading (c .before .refuse-at .ensures)
     ∙ sealed-off (a .reading) (a .stored) (a .computed) (c .before .before .before .enum-told .given .1) (c .before .before .if1 .taken)
 
 returns-3 : tie.Need-returns-3

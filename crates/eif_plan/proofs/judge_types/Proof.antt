@@ -29,7 +29,7 @@ returns c =
     let t = c .before .before .type-fault in
     let f = typeFault (a .version) (kindIn l) in
     c .refuse .ensures
-    ∙ types-stop (a .version) (kindIn l) (length l) (record { number = t .result; index = i })
+    ∙ types-stop (a .version) (kindIn l) (length l) (record { number = t .result; index = i; position = 0 })
     (walk-stop f i (length l) (t .result) (omega arith) (c .before .if1 .taken) (sym (t .ensures)) ∙ c .before .before .before .before .loop .inv .1)
 
 loop-again : tie.Need-loop-again Inv-loop μ-loop

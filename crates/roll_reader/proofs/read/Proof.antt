@@ -1,77 +1,58 @@
--- `roll_reader::read` meets its contract: the answer follows from what the walk hands on and from the rules on the whole roll.
+-- `roll_reader::read` meets its contract: the flags record's refusal, or what its flags and the rest answer.
 -- Assumes nothing.
-use mathlib.Core.Path.{ap, _∙_}
-use denote.Ref.{now}
-use Rattle.eif.specs.Roll.{refusedRoll}
-use Rattle.eif.specs.declared.Verdict.{Verdict}
-use Rattle.roll_reader.proofs.Ending.{walk-ended, read-stopped, read-refused, read-accepted}
+use Prim.Native.Nat.{ℕ, _≤_}
+use mathlib.Core.Path.{_≡_, sym, ap, _∙_}
+use mathlib.Core.List.{List}
+use native.Mathlib.Omega.{arith}
 use borrow.Author.Needs.{needs}
+use denote.Ref.{now}
+use lib.ListN.{length, length-take, length-drop}
+use Rattle.eif.specs.Roll.{flagsRecordSize, flagsFault, refusedRoll}
+use Rattle.eif_rules.proofs.Flags.{flags-zero}
+use Rattle.roll_reader.proofs.Flags.{read-flags-refused, read-on}
 use Rattle.roll_reader.proofs.read.Statement.{statement}
 use Rattle.roll_reader.proofs.read.Tie as tie
 
-walk-requires : tie.Need-walk-requires
-walk-requires c κs = search needs
+-- the flags record has no fault
+module _ (c : tie.After-le16) where
+  abbrev roll : List ℕ
+  roll = now (c .before .before .before .before .args .roll)
 
-enum-told : tie.Need-enum-told
-enum-told c = search needs
+  clean : flagsFault roll ≡ 0
+  clean = sym (c .before .before .flags-fault .ensures) ∙ c .before .if1 .left
 
-enum-told-2 : tie.Need-enum-told-2
-enum-told-2 c = search needs
-
-refused-requires : tie.Need-refused-requires
-refused-requires c κs = search needs
+  fits : flagsRecordSize ≤ length roll
+  fits = flags-zero roll clean .whole
 
 returns : tie.Need-returns
 returns c =
-    let w = c .before .before .before .walk in
-    let t = c .before .enum-told2 .given in
-    c .refused .ensures ∙ ap refusedRoll (t .1)
-    ∙ read-stopped (now (c .before .before .before .before .before .args .roll)) (w .result) (w .ensures) (t .0 .0) (t .1)
+    let q = c .before .before .before in
+    c .refused .ensures ∙ ap refusedRoll (c .before .refuse .ensures)
+    ∙ read-flags-refused (now (q .before .before .args .roll)) (q .flags-fault .result) (q .flags-fault .ensures) (c .before .before .if1 .taken)
 
-slice-aggregate-roll-fault : tie.Need-slice-aggregate-roll-fault
-slice-aggregate-roll-fault c = search needs
+sub-read-rest : tie.Need-sub-read-rest
+sub-read-rest c = fits c
 
-roll-fault-requires : tie.Need-roll-fault-requires
-roll-fault-requires c κs =
-    let w = c .before .before .before .before .walk in
-    let x = walk-ended (now (c .before .before .before .before .before .before .args .roll)) (w .result) (w .ensures) (c .before .before .enum-told .given .1) in
-    (x .few, (x .end-at, (x .whole, x .kinds-are)))
+part-read-rest-start : tie.Need-part-read-rest-start
+part-read-rest-start c = let h = fits c in search needs
 
-refuse-requires : tie.Need-refuse-requires
-refuse-requires c κs = search needs
-
-refused-requires-2 : tie.Need-refused-requires-2
-refused-requires-2 c κs = search needs
+read-rest-requires : tie.Need-read-rest-requires
+read-rest-requires c κs = let h = fits (c .before) in simp (length-take, length-drop) (omega arith)
 
 returns-2 : tie.Need-returns-2
-returns-2 c =
-    let q = c .before .before .before in
-    let w = q .before .before .before .before .before .walk in
-    let s = now (q .before .before .before .before .before .before .before .args .roll) in
-    c .refused2 .ensures ∙ ap refusedRoll (c .before .refuse .ensures)
-    ∙ read-refused s (w .result) (w .ensures) (q .before .before .before .enum-told .given .1) (q .roll-fault .result) (q .roll-fault .ensures) (c .before .before .if1 .taken)
-
-returns-3 : tie.Need-returns-3
-returns-3 c =
-    let q = c .before .before in
-    let w = q .before .before .before .before .before .walk in
-    let s = now (q .before .before .before .before .before .before .before .args .roll) in
-    let t = q .before .before .before .enum-told .given .1 in
-    ap (λ (v : Verdict). record { verdict = v; count = w .result .count; records = w .result .records }) t
-    ∙ read-accepted s (w .result) (w .ensures) t (q .roll-fault .result) (q .roll-fault .ensures) (c .before .if1 .left)
+returns-2 c = let q = c .before .before in c .read-rest .ensures ∙ read-on (roll q) (clean q) (q .le16 .result) (q .le16 .ensures)
 
 pub read-spec : {M : Type 1} → statement M
 read-spec =
     tie.close
     (tie.spec
-    walk-requires
-    enum-told
-    enum-told-2
-    refused-requires
+    (λ c κs. search needs)
+    (λ c κs. search needs)
+    (λ c κs. search needs)
     returns
-    slice-aggregate-roll-fault
-    roll-fault-requires
-    refuse-requires
-    refused-requires-2
-    returns-2
-    returns-3)
+    (λ c κs. search needs)
+    sub-read-rest
+    part-read-rest-start
+    (λ c. search needs)
+    read-rest-requires
+    returns-2)

@@ -20,7 +20,7 @@ use Rattle.roll_reader.proofs.record_fault.Tie as tie
 
 module _ (c : tie.After-le16) where
   abbrev roll : List ℕ
-  roll = now (c .before .before .before .before .args .roll)
+  roll = now (c .before .before .before .before .args .rest)
 
   abbrev i : ℕ
   i = c .before .before .before .before .args .i

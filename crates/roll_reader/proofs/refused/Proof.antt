@@ -13,7 +13,7 @@ blank-requires c κs = search needs
 
 returns : tie.Need-returns
 returns c =
-    ap (λ (x : RollRecord). record { verdict = c .before .args .verdict; count = 0; records = replicate placeCount x }) (c .blank .ensures)
+    ap (λ (x : RollRecord). record { verdict = c .before .args .verdict; flags = 0; count = 0; records = replicate placeCount x }) (c .blank .ensures)
 
 pub refused-spec : {M : Type 1} → statement M
 refused-spec = tie.close (tie.spec blank-requires returns)

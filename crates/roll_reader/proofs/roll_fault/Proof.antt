@@ -18,7 +18,7 @@ use Rattle.roll_reader.proofs.roll_fault.Tie as tie
 
 module _ (c : tie.After-lacks) where
   abbrev roll : List ℕ
-  roll = now (c .before .before .before .before .before .args .roll)
+  roll = now (c .before .before .before .before .before .args .rest)
 
   abbrev n : ℕ
   n = c .before .before .before .before .before .args .n
@@ -34,12 +34,12 @@ add-if1 c = search needs
 returns : tie.Need-returns
 returns c =
     let p = c .before .before .before in
-    roll-more (now (p .args .roll)) (p .args .n) (omega arith)
+    roll-more (now (p .args .rest)) (p .args .n) (omega arith)
 
 slice-aggregate-lacks : tie.Need-slice-aggregate-lacks
 slice-aggregate-lacks c =
     let p = c .before .before .before .before in
-    kept-length (now (p .args .roll)) (now (p .args .kinds)) (p .args .n) (p .pre .0) (p .pre .1 .1 .1)
+    kept-length (now (p .args .rest)) (now (p .args .kinds)) (p .args .n) (p .pre .0) (p .pre .1 .1 .1)
 
 lacks-requires : tie.Need-lacks-requires
 lacks-requires c κs = search needs

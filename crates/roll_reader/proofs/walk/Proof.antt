@@ -13,7 +13,7 @@ use Rattle.eif.specs.Numbers.{placeCount, recordCut}
 use Rattle.eif.specs.Table.{filled}
 use Rattle.eif.specs.Roll.{recordHeadSize, endType, recordAt, recordKind, listedAt, blankRecord, headFault, bodyFault, endFrom}
 use Rattle.eif_rules.proofs.Table.{length-filled, filled-next}
-use Rattle.roll_reader.specs.Walk.{recordFault}
+use Rattle.roll_reader.specs.Walk.{recordFault, stoppedAt}
 use Rattle.roll_reader.proofs.Records.{kind-here, record-next, listed-here, head-cut, head-clean, by-body, body-fits}
 use Rattle.roll_reader.proofs.Ending.{walk-head, walk-end, walk-stop, walk-on}
 use Rattle.roll_reader.proofs.walk.Statement.{statement}
@@ -32,7 +32,7 @@ abbrev μ-loop : tie.MeasureT-loop
 
 module _ (c : tie.At-loop Inv-loop μ-loop) where
   abbrev roll : List ℕ
-  roll = now (c .before .before .before .args .roll)
+  roll = now (c .before .before .before .args .rest)
 
   abbrev i : ℕ
   i = c .loop .i
@@ -99,7 +99,7 @@ stopped-requires c κs = search needs
 returns : tie.Need-returns Inv-loop μ-loop
 returns c =
     let q = c .before .before in
-    c .stopped .ensures
+    c .stopped .ensures ∙ ap (stoppedAt recordCut (i q)) (here q)
     ∙ walk-head (roll q) (i q) (q .loop .inv .0) (q .loop .inv .5) recordCut (head-cut (roll q) (i q) (at q) (here q) (omega arith)) (λ z. omega arith)
 
 slice-aggregate-record-fault : tie.Need-slice-aggregate-record-fault Inv-loop μ-loop
@@ -119,7 +119,7 @@ returns-2 : tie.Need-returns-2 Inv-loop μ-loop
 returns-2 c =
     let r = c .before .before in
     let q = r .before .before .before in
-    c .stopped2 .ensures
+    c .stopped2 .ensures ∙ ap (stoppedAt (r .record-fault .result) (i q)) (here q)
     ∙ walk-stop (roll q) (i q) (q .loop .inv .0) (q .loop .inv .5) (r .record-fault .result) (r .record-fault .ensures) (c .before .if2 .taken)
 
 add-le16 : tie.Need-add-le16 Inv-loop μ-loop
@@ -142,9 +142,6 @@ mul-kinds c = omega (arith, free c)
 
 array-write-kinds : tie.Need-array-write-kinds Inv-loop μ-loop
 array-write-kinds c = free c
-
-add-t11 : tie.Need-add-t11 Inv-loop μ-loop
-add-t11 c = omega (arith, inside c)
 
 mul-records : tie.Need-mul-records Inv-loop μ-loop
 mul-records c = omega (arith, free c)
@@ -200,7 +197,8 @@ walk-spec =
     le64-requires
     mul-kinds
     array-write-kinds
-    add-t11
+    (λ c. omega (arith, inside c))
+    (λ c. omega (arith, inside c))
     mul-records
     array-set-from-records
     add-at

@@ -2,6 +2,7 @@
 use Prim.Native.Nat.{ℕ}
 use mathlib.Core.Path.{sym, ap₂, _∙_}
 use mathlib.Core.List.{List}
+use native.Mathlib.Omega.{arith}
 use borrow.Author.Needs.{needs}
 use denote.Ref.{now}
 use Rattle.eif.specs.declared.Verdict.{Verdict}
@@ -22,12 +23,19 @@ roll-size-requires c κs =
     let w = c .before .before .before in
     bounded (now (w .before .before .args .image)) (w .read .result) (w .read .ensures) (c .enum-told .given .1)
 
+add-whole : tie.Need-add-whole
+add-whole c =
+    let w = c .before .before .before .before in
+    let e = c .roll-size .ensures in
+    let b = bounded (now (w .before .before .args .image)) (w .read .result) (w .read .ensures) (c .before .enum-told .given .1) in
+    omega arith
+
 returns-2 : tie.Need-returns-2
 returns-2 c =
     let w = c .before .before .before .before in
     let s = now (w .before .before .args .image) in
     let t = c .before .enum-told .given .1 in
-    ap₂ (λ (v : Verdict) (m : ℕ). written v m) t (c .roll-size .ensures ∙ length-is s (w .read .result) (w .read .ensures) t)
+    ap₂ (λ (v : Verdict) (m : ℕ). written v m) t (length-is s (w .read .result) (w .read .ensures) t (c .roll-size .result) (c .roll-size .ensures))
     ∙ length-accepted s (accepted s (w .read .result) (w .read .ensures) t)
 
 pub length-spec : {M : Type 1} → statement M
@@ -39,4 +47,5 @@ length-spec =
     (λ c. search needs)
     returns
     roll-size-requires
+    add-whole
     returns-2)

@@ -4,7 +4,6 @@ use Prim.Native.Nat.{ℕ, suc, _+_, _-_, _≤_}
 use mathlib.Core.Path.{_≡_, refl, sym, ap, ap₂, _∙_}
 use mathlib.Core.List.{List}
 use native.Mathlib.Omega.{arith}
-use native.Mathlib.Nat.{zero-add}
 use native.Mathlib.Numerals.{add-one}
 use borrow.Author.Needs.{needs}
 use denote.Ref.{now}
@@ -13,7 +12,7 @@ use Rattle.octets.specs.Over.{over}
 use Rattle.octets.proofs.Over.{length-over}
 use Rattle.eif.specs.Numbers.{placeCount}
 use Rattle.eif.specs.Reading.{blankSection}
-use Rattle.eif.specs.Roll.{headOf, endType}
+use Rattle.eif.specs.Roll.{headOf, endType, flagsRecordSize}
 use Rattle.roll_writer.specs.Write.{partOf, rollFor, sizeFor}
 use Rattle.roll_writer.proofs.Steps.{size-step, size-end, inside-at, roll-over, roll-end}
 use Rattle.roll_writer.proofs.put_roll.Statement.{statement}
@@ -22,14 +21,14 @@ use Rattle.roll_writer.proofs.put_roll.Tie as tie
 abbrev Inv-loop : tie.InvT-loop
 Inv-loop out₀ image sections at₀ i₀ out at i =
     (i ≤ placeCount) × (length out ≡ length out₀)
-    × (at + sizeFor (drop i sections) ≡ sizeFor sections)
-    × (over out at (rollFor image (drop i sections)) ≡ over out₀ 0 (rollFor image sections))
+    × (at + sizeFor (drop i sections) ≡ flagsRecordSize + sizeFor sections)
+    × (over out at (rollFor image (drop i sections)) ≡ over out₀ flagsRecordSize (rollFor image sections))
 
 abbrev μ-loop : tie.MeasureT-loop
 μ-loop out₀ image sections at₀ i₀ out at i = placeCount - i
 
 loop-holds : tie.Need-loop-holds Inv-loop μ-loop
-loop-holds c = (omega arith, refl, zero-add (sizeFor (c .before .before .args .t3)), refl)
+loop-holds c = (omega arith, refl, refl, refl)
 
 put-record-requires : tie.Need-put-record-requires Inv-loop μ-loop
 put-record-requires c κs =

@@ -15,7 +15,8 @@ usage: eif check [--quiet] FILE..
 
 Reads each image and prints one line for it, as
     FILE: accepted
-    FILE: refused 13 at 0: checksum differs
+    FILE: refused 13 at 0 byte 544: checksum differs
+eif show says of such a file what stands at that byte and what to do.
 
   --quiet   print nothing; the exit status tells
 

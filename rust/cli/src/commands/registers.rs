@@ -18,8 +18,8 @@ Computes the registers of each image, as the platform measures it: three lines
     PCR1 HEX   of the stream boot: kernel, command line, first ramdisk
     PCR2 HEX   of the stream app: the other ramdisks
 each in the order in which they stand in the file. Where several files are named,
-FILE and a colon stand before each line. Of a file that is refused: the answer
-number, where, what it means and what to do.
+FILE and a colon stand before each line. Of a file that is refused: what eif show
+says of it.
 
   --json    one object for each file, one a line, with the keys that nitro-cli
             describe-eif prints; the manual lists them

@@ -19,7 +19,9 @@ usage: eif show [--json] FILE..
 Shows each file: of an image its header fields and a row for each section in file
 order (index, type, offset of the section in the file, size of its data); of a
 boot roll a row for each record (index, type, position of its data, size). Of a
-file that is refused: the answer number, where, what it means and what to do.
+file that is refused: the answer number, the index of the section or record, the
+byte at which the fault is, what the number means, what stands at that byte, and
+what to do.
 
   --json    one object for each file, one a line; the manual lists the keys
 
