@@ -137,11 +137,7 @@ fn register(state: State) -> [u8; 48]
 }
 
 // The registers 0, 1 and 2 of sections of a base, or of a replacement.
-fn step_over<'a>(
-    base: &'a [u8],
-    replacement: &'a [u8],
-    all: [Section; PLACES],
-) -> [[u8; 48]; 3]
+fn step_over<'a>(base: &'a [u8], replacement: &'a [u8], all: [Section; PLACES]) -> [[u8; 48]; 3]
     ensures { λ r. ⌜ r ≡ stepRegisters (heldBy (now (base .entry)) (now (replacement .entry))) all ⌝ }
 {
     let whole = eif_streams::sections(all, Stream::Whole);
@@ -149,7 +145,14 @@ fn step_over<'a>(
     let app = eif_streams::sections(all, Stream::App);
     let both = hash_both(base, replacement, whole, boot);
     let others = app.sections;
-    let app_end = take_sections(sha384::new(), base, replacement, others, 0, app.count as usize);
+    let app_end = take_sections(
+        sha384::new(),
+        base,
+        replacement,
+        others,
+        0,
+        app.count as usize,
+    );
     let whole_end = both.whole;
     let boot_end = both.boot;
     let zeroth = register(whole_end);
@@ -190,11 +193,7 @@ pub fn registers(image: &[u8]) -> Measurement
 }
 
 // The registers of the image written afresh with a replacement for one section, from where the data lies; or the refusal, and all zero.
-pub fn registers_staged<'a>(
-    base: &'a [u8],
-    replacement: &'a [u8],
-    replaced: u64,
-) -> Measurement
+pub fn registers_staged<'a>(base: &'a [u8], replacement: &'a [u8], replaced: u64) -> Measurement
     ensures { λ r. ⌜ r ≡ stagedRegisters (now (base .entry)) (now (replacement .entry)) replaced ⌝ }
 {
     let view = staged_view::judge(base, replacement.len() as u64, replaced, replaced);

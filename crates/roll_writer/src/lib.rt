@@ -91,7 +91,11 @@ fn put_record<'a>(
     if in_roll(x.kind) {
         let count = x.length.0 as usize;
         put_head(out, at, x.length.0, x.kind);
-        octets::copy(out, at + RecordHead::SIZE, staged_view::held(base, replacement, x));
+        octets::copy(
+            out,
+            at + RecordHead::SIZE,
+            staged_view::held(base, replacement, x),
+        );
         at + RecordHead::SIZE + count
     } else {
         at
@@ -99,12 +103,7 @@ fn put_record<'a>(
 }
 
 // The roll of sections, over what follows the flags record.
-fn put_roll<'a>(
-    out: &mut [u8],
-    base: &'a [u8],
-    replacement: &'a [u8],
-    sections: [Section; PLACES],
-)
+fn put_roll<'a>(out: &mut [u8], base: &'a [u8], replacement: &'a [u8], sections: [Section; PLACES])
     requires { ⌜ All (Holds (heldBy (now base) (now replacement))) sections ⌝ }
     requires { ⌜ flagsRecordSize + sizeFor sections ≤ length (now out) ⌝ }
     ensures { λ _. ⌜ now (out .exit) ≡ over (now (out .entry)) flagsRecordSize (rollFor (heldBy (now (base .entry)) (now (replacement .entry))) sections) ⌝ }
