@@ -33,7 +33,7 @@ then-choose : (b : Bool) (n i p : ℕ) (v w : Verdict) → andThen (choose b (re
 then-choose true n i p v w = refl
 then-choose false n i p v w = refl
 
-first-append : (a b : List Rule) → firstThatApplies (a ++ b) ≡ andThen (firstThatApplies a) (firstThatApplies b)
+pub first-append : (a b : List Rule) → firstThatApplies (a ++ b) ≡ andThen (firstThatApplies a) (firstThatApplies b)
 unfolding firstThatApplies
 first-append [] b = refl
 first-append (r ∷ rs) b =
