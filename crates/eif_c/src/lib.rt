@@ -5,6 +5,7 @@
 mod arrival;
 mod measure;
 mod sections;
+mod staging;
 
 ghost use mathlib.Core.Path.{_≡_};
 ghost use mathlib.Core.List.{map};

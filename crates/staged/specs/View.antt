@@ -4,7 +4,7 @@
 use Prim.Native.Nat.{ℕ, _-_}
 use mathlib.Core.List.{List}
 use mathlib.Core.Path.{_≡_}
-use lib.Dec.{ltb}
+use lib.Dec.{ltb, eqb}
 use lib.ListN.{length, getD, set, replicate}
 use Rattle.eif.specs.Numbers.{placeCount}
 use Rattle.eif.specs.Logic.{choose}
@@ -14,6 +14,7 @@ use Rattle.eif.specs.declared.Section.{Section}
 use Rattle.eif.specs.declared.Verdict.{Verdict}
 use Rattle.staged.specs.Staged.{stagedVerdict}
 use Rattle.staged.specs.declared.Staged.{Staged}
+use Rattle.staged.specs.declared.StagedPart.{StagedPart}
 
 -- a section with its data at another position, and of another length
 abbrev pub moved : Section → ℕ → ℕ → Section
@@ -42,3 +43,14 @@ heldBy s r x =
 -- the data is as long as the section says
 abbrev pub Holds : (Section → List ℕ) → Section → Type 0
 Holds held x = length (held x) ≡ x .length .0
+
+-- ---- where the data of section j lies, of a view with section k replaced by so many bytes
+
+abbrev pub placeFor : Verdict → ℕ → ℕ → ℕ → StagedPart
+placeFor verdict inReplacement start size =
+    record { verdict = verdict; «in_replacement» = beside verdict inReplacement 0; start = beside verdict start 0; length = record { 0 = beside verdict size 0 } }
+
+unfoldable pub stagedPlace : List ℕ → ℕ → ℕ → ℕ → StagedPart
+stagedPlace s size k j =
+    let x = getD (readImage s .sections) j blankSection in
+    placeFor (stagedVerdict s size k j) (choose (eqb j k) 1 0) (choose (eqb j k) 0 (x .position .0)) (choose (eqb j k) size (x .length .0))

@@ -8,7 +8,7 @@ ghost use lib.ListN.{length};
 ghost use Rattle.eif.specs.Numbers.{sizeLimit, placeCount};
 ghost use Rattle.eif.specs.Plan.{plainSize, placeOf, planOf};
 ghost use Rattle.staged.specs.Staged.{withPlace, stagedVerdict, shownPart};
-ghost use Rattle.staged.specs.View.{moved, blankStaged, stagedView, heldBy};
+ghost use Rattle.staged.specs.View.{moved, blankStaged, stagedView, heldBy, stagedPlace};
 use eif::DataLength;
 use eif::FilePosition;
 use eif::PLACES;
@@ -19,6 +19,7 @@ use eif::Refusal;
 use eif::Section;
 use eif::Verdict;
 use staged::Staged;
+use staged::StagedPart;
 
 // ---- the image written afresh
 
@@ -47,9 +48,9 @@ fn places_of(sections: [Section; PLACES]) -> [Place; PLACES]
 }
 
 // Whether the image of a reading, with another length of one section, is over the limit.
-fn too_long(reading: Reading, replaced: usize, size: u64) -> bool
+fn too_long(reading: Reading, replaced: usize, given: u64) -> bool
     requires { ⌜ (replaced < placeCount) × (reading .count ≤ placeCount) ⌝ }
-    ensures { λ r. ⌜ r ≡ ltb sizeLimit (plainSize (withPlace (planOf reading) replaced size)) ⌝ }
+    ensures { λ r. ⌜ r ≡ ltb sizeLimit (plainSize (withPlace (planOf reading) replaced given)) ⌝ }
 {
     let sections = reading.sections;
     let mut places = places_of(sections);
@@ -57,7 +58,7 @@ fn too_long(reading: Reading, replaced: usize, size: u64) -> bool
     places[replaced] = Place {
         kind: old.kind,
         flags: old.flags,
-        length: DataLength(size),
+        length: DataLength(given),
     };
     let plan = Plan {
         version: reading.version,
@@ -123,7 +124,8 @@ pub fn judge(base: &[u8], size: u64, replaced: u64, shown: u64) -> Staged
         return refused(Verdict::refuse(Refusal::IMAGE_TOO_LONG, 0));
     }
     let mut sections = reading.sections;
-    sections[k] = moved_to(sections[k], base.len() as u64, size);
+    let old = sections[k];
+    sections[k] = moved_to(old, base.len() as u64, size);
     Staged {
         verdict,
         flags: reading.flags,
@@ -160,11 +162,44 @@ pub fn section<'a>(base: &'a [u8], replacement: &'a [u8], replaced: u64, shown: 
     let Verdict::Accepted = verdict else {
         return &base[..0];
     };
-    if shown == replaced {
+    if replaced == shown {
         return replacement;
     }
     let sections = view.sections;
     let at = shown as usize;
     let x = sections[at];
     eif_streams::section_data(base, x)
+}
+
+// Where that data lies, for a replacement of so many bytes: in the replacement, or at a position of the base.
+pub fn place(base: &[u8], size: u64, replaced: u64, shown: u64) -> StagedPart
+    ensures { λ r. ⌜ r ≡ stagedPlace (now (base .entry)) size replaced shown ⌝ }
+{
+    let view = judge(base, size, replaced, shown);
+    let verdict = view.verdict;
+    let Verdict::Accepted = verdict else {
+        return StagedPart {
+            verdict,
+            in_replacement: 0,
+            start: 0,
+            length: DataLength(0),
+        };
+    };
+    if shown == replaced {
+        return StagedPart {
+            verdict,
+            in_replacement: 1,
+            start: 0,
+            length: DataLength(size),
+        };
+    }
+    let sections = view.sections;
+    let at = shown as usize;
+    let x = sections[at];
+    StagedPart {
+        verdict,
+        in_replacement: 0,
+        start: x.position.0,
+        length: DataLength(x.length.0),
+    }
 }

@@ -80,8 +80,8 @@ returns-4 c =
     ∙ over-limit (file z) (got z) (got-is z) (a .size) (a .replaced) (a .shown) (ok z) (z .before .if1 .left) (z .if2 .left)
     (sym (c .before .before .if3 .taken) ∙ c .before .before .before .too-long .ensures)
 
-array-copy-out-moved-to : tie.Need-array-copy-out-moved-to
-array-copy-out-moved-to c =
+array-copy-out-old : tie.Need-array-copy-out-old
+array-copy-out-old c =
     let z = c .before .before .before in
     let n = few z in
     omega (arith, z .before .if1 .left)
@@ -121,7 +121,7 @@ judge-spec =
     (λ c κs. search needs)
     returns-4
     (λ c. search needs)
-    array-copy-out-moved-to
+    array-copy-out-old
     (λ c κs. search needs)
     (λ c. search needs)
     array-set-from-sections

@@ -52,7 +52,7 @@ module _ (c : tie.Else1) where
 returns-2 : tie.Need-returns-2
 returns-2 c =
     let w = c .before .before .before in
-    sym (shown-replaced (base w) (given w) (k w) (j w) (sym (verdict-is w) ∙ c .before .enum-told .given .1) (c .if1 .taken))
+    sym (shown-replaced (base w) (given w) (k w) (j w) (sym (verdict-is w) ∙ c .before .enum-told .given .1) (sym (c .if1 .taken)))
 
 mul-x : tie.Need-mul-x
 mul-x c =
@@ -70,7 +70,7 @@ returns-3 c =
     c .section-data .ensures
     ∙ ap (λ (l : List Section). dataOf (base v) (getD l (j v) blankSection))
     (view-sections (base v) (length (given v)) (k v) (j v) (v .judge .result) (v .judge .ensures) (told e))
-    ∙ listed-kept (base v) (given v) (k v) (j v) (accepted e) (e .if1 .left)
+    ∙ listed-kept (base v) (given v) (k v) (j v) (accepted e) (λ q. e .if1 .left (sym q))
 
 pub section-spec : {M : Type 1} → statement M
 section-spec =

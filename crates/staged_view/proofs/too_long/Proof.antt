@@ -22,8 +22,8 @@ returns c =
     let start = c .before .before .before .before in
     let a = start .args in
     ap (λ (n : ℕ). eqb n 0)
-    (c .image-size .ensures ∙ ap (λ (l : List Place). imageSize (withPlace (planWith (a .reading) l) (a .replaced) (a .size))) (c .before .before .places-of .ensures))
-    ∙ size-tells (withPlace (planOf (a .reading)) (a .replaced) (a .size)) (start .pre .1)
+    (c .image-size .ensures ∙ ap (λ (l : List Place). imageSize (withPlace (planWith (a .reading) l) (a .replaced) (a .given))) (c .before .before .places-of .ensures))
+    ∙ size-tells (withPlace (planOf (a .reading)) (a .replaced) (a .given)) (start .pre .1)
 
 pub too-long-spec : {M : Type 1} → statement M
 too-long-spec =
