@@ -70,11 +70,14 @@ extern "C" {
 #define EIF_HEADER_LENGTH 548
 #define EIF_SECTION_HEADER_LENGTH 12
 
-/* Length of a roll record's head, which stands before its data. A roll has a head and the data for
- * each section of type 1, 2 or 3, and one head more, its end record. */
+/* Length of a roll record's head, which stands before its data, and of the flags record, a roll's first.
+ * A roll has the flags record, a head and the data for each section of type 1, 2 or 3, and one head more,
+ * its end record. */
 #define EIF_RECORD_HEAD_LENGTH 10
+#define EIF_FLAGS_RECORD_LENGTH 12
 
-/* The most sections of an image, and the most records of a roll beside its end record. */
+/* The most sections of an image, and the most records of a roll beside its flags record and its end
+ * record. */
 #define EIF_MAX_SECTIONS 32
 
 /* How many registers an image has. */
@@ -140,7 +143,8 @@ static inline const char *eif_meaning(uint8_t number) {
     case EIF_OUTPUT_TOO_SHORT: return "output buffer too short";
     case EIF_DATA_LENGTH_DIFFERS: return "data length differs from the plan's sum of lengths";
     case EIF_RECORD_CUT: return "roll ends inside a record, or before its end record";
-    case EIF_RECORD_TYPE_WRONG: return "roll record of type above 3, or type 0 with a length not 0";
+    case EIF_RECORD_TYPE_WRONG:
+        return "roll does not begin with its flags, or record of type above 3, or type 0 with a length not 0";
     case EIF_BYTES_AFTER_END: return "bytes after the end record";
     case EIF_PAST_STREAM_END: return "stream position past the stream's end";
     case EIF_NOT_PACKED: return "section not packed, or bytes after the last section";
@@ -167,6 +171,21 @@ static inline const char *eif_section_name(uint16_t type) {
     case EIF_SIGNATURE: return "signature";
     case EIF_METADATA: return "metadata";
     default: return "unknown type";
+    }
+}
+
+/* The processor that an image is for, the lowest bit of its header's flags (FORMAT.md, The header). */
+enum eif_architecture {
+    EIF_X86_64 = 0,
+    EIF_AARCH64 = 1
+};
+
+/* The name of an architecture. */
+static inline const char *eif_architecture_name(uint16_t architecture) {
+    switch (architecture) {
+    case EIF_X86_64: return "x86_64";
+    case EIF_AARCH64: return "aarch64";
+    default: return "unknown architecture";
     }
 }
 
@@ -234,7 +253,8 @@ typedef struct eif_reading {
     uint32_t ramdisk_count; /* the number of ones in the mark */
     uint32_t first_ramdisk; /* the lowest one in the mark; EIF_NO_RAMDISK where there is none, so also
                              * beside a refusal, where the mark is 0 */
-    uint32_t reserved_after;
+    uint16_t architecture;  /* the lowest bit of flags: EIF_X86_64 or EIF_AARCH64; 0 beside a refusal */
+    uint16_t reserved_after;
     eif_section sections[EIF_MAX_SECTIONS]; /* in file order, then zeros */
 } eif_reading;
 
@@ -316,11 +336,13 @@ typedef struct eif_roll_record {
     eif_data_length length;
 } eif_roll_record;
 
-/* What a roll lists. The end record is not listed. */
+/* What a roll holds. Flags record and end record are not listed. */
 typedef struct eif_roll_reading {
     uint8_t number; /* EIF_ACCEPTED, or one of 1, 5, 10 to 12 and 16 to 18 */
-    uint8_t reserved[7];
-    uint64_t index;
+    uint8_t reserved;
+    uint16_t flags; /* of the image's header; their lowest bit is an enum eif_architecture */
+    uint32_t reserved_after;
+    uint64_t index; /* the flags record is record 0 */
     uint64_t position; /* in the roll, of what is at fault */
     uint64_t count;
     eif_roll_record records[EIF_MAX_SECTIONS]; /* in order, then zeros */
@@ -423,7 +445,9 @@ EIF_MUST_USE eif_answer eif_roll_write(const uint8_t *image, size_t image_length
                                        size_t out_length);
 
 /* Reads a boot roll, which is accepted exactly when it is the roll of some accepted image.
- * Refusals: for each record 16 (head cut), 17, 5, 16 (data cut), 10, 11; then 18, 12, 1. */
+ * Refusals: for the flags record 16 (head cut), 17, 16 (data cut); for each record after it 16 (head
+ * cut), 17, 5, 16 (data cut), 10, 11; then 18, 12, 1. A roll that was written before rolls had flags is
+ * refused by 17 at 0. */
 EIF_MUST_USE eif_roll_reading eif_roll_read(const uint8_t *roll, size_t roll_length);
 
 #ifdef __cplusplus

@@ -15,6 +15,7 @@ typedef char layout_of_plan[sizeof(eif_plan) == 544 ? 1 : -1];
 typedef char layout_of_plan_places[offsetof(eif_plan, places) == 32 ? 1 : -1];
 typedef char layout_of_reading[sizeof(eif_reading) == 56 + 32 * 24 ? 1 : -1];
 typedef char layout_of_reading_position[offsetof(eif_reading, position) == 16 ? 1 : -1];
+typedef char layout_of_reading_architecture[offsetof(eif_reading, architecture) == 52 ? 1 : -1];
 typedef char layout_of_reading_sections[offsetof(eif_reading, sections) == 56 ? 1 : -1];
 typedef char layout_of_arriving[sizeof(eif_arriving) == 8 + 548 + 384 + 4 + 8 ? 1 : -1];
 typedef char layout_of_arriving_header[offsetof(eif_arriving, header) == 8 ? 1 : -1];
@@ -39,9 +40,10 @@ typedef char layout_of_registers[sizeof(eif_registers_answer) == 168 ? 1 : -1];
 typedef char layout_of_registers_values[offsetof(eif_registers_answer, registers) == 24 ? 1 : -1];
 typedef char layout_of_roll_record[sizeof(eif_roll_record) == 24 ? 1 : -1];
 typedef char layout_of_roll_reading[sizeof(eif_roll_reading) == 32 + 32 * 24 ? 1 : -1];
+typedef char layout_of_roll_flags[offsetof(eif_roll_reading, flags) == 2 ? 1 : -1];
 typedef char layout_of_roll_records[offsetof(eif_roll_reading, records) == 32 ? 1 : -1];
 
-enum { IMAGE_LENGTH = 585, ROLL_LENGTH = 41 };
+enum { IMAGE_LENGTH = 585, ROLL_LENGTH = 53 };
 
 static int failures = 0;
 
@@ -166,7 +168,7 @@ static void try_roll_reading(const uint8_t *roll, size_t length) {
     soil(0xee);
     other = eif_roll_read(roll, length);
     check(memcmp(&one, &other, sizeof one) == 0, "equal roll readings by memcmp");
-    check(zero(one.reserved, sizeof one.reserved), "reserved of a roll reading");
+    check(one.reserved == 0 && one.reserved_after == 0, "reserved of a roll reading");
     for (unsigned i = 0; i < EIF_MAX_SECTIONS; i++) {
         check(one.records[i].reserved == 0, "reserved of a record");
         check(one.records[i].reserved_after == 0, "reserved after a record");
@@ -241,6 +243,7 @@ static void try_words(void) {
     check(strcmp(eif_meaning(255), "unknown number") == 0, "meaning of 255");
     check(strcmp(eif_section_name(EIF_COMMAND_LINE), "command line") == 0, "name of 2");
     check(strcmp(eif_section_name(0), "unknown type") == 0, "name of 0");
+    check(strcmp(eif_architecture_name(EIF_AARCH64), "aarch64") == 0, "name of an architecture");
     check(strcmp(EIF_VERSION, "") != 0, "version");
 }
 

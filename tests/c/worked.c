@@ -7,7 +7,7 @@
 #include <stdio.h>
 #include <string.h>
 
-enum { IMAGE_LENGTH = 586, ROLL_LENGTH = 42, STAYS = 0xaa };
+enum { IMAGE_LENGTH = 586, ROLL_LENGTH = 54, STAYS = 0xaa };
 
 static eif_stream_position at(uint64_t value) {
     eif_stream_position position;
@@ -16,6 +16,7 @@ static eif_stream_position at(uint64_t value) {
 }
 
 static const uint8_t expected_roll[ROLL_LENGTH] = {
+    0x02, 0, 0, 0, 0, 0, 0, 0, 0x00, 1, 0x00, 0,
     0x01, 0, 0, 0, 0, 0, 0, 0, 0x01, 0, 0x4b,
     0x01, 0, 0, 0, 0, 0, 0, 0, 0x02, 0, 0x61,
     0x00, 0, 0, 0, 0, 0, 0, 0, 0x03, 0,
@@ -112,6 +113,7 @@ static void try_read(const uint8_t *image) {
     eif_reading reading = eif_read(image, IMAGE_LENGTH);
     check(refused(reading, EIF_ACCEPTED, 0, 0), "read");
     check(reading.version == 2 && reading.flags == 0, "version and flags");
+    check(reading.architecture == EIF_X86_64, "architecture");
     check(reading.default_mem == 0 && reading.default_cpus == 0, "default_mem and default_cpus");
     check(reading.count == 3, "count");
     check(reading.ramdisk_mark == 4 && reading.ramdisk_count == 1, "ramdisk mark and count");
@@ -296,12 +298,12 @@ static void try_file_order(void) {
 }
 
 static void try_roll(const uint8_t *image) {
-    static const uint64_t positions[3] = {10, 21, 32};
-    uint8_t out[50];
+    static const uint64_t positions[3] = {22, 33, 44};
+    uint8_t out[62];
     check(is(eif_roll_length(image, IMAGE_LENGTH), EIF_ACCEPTED, ROLL_LENGTH), "roll's length");
     check(is(eif_roll_length(image, 547), EIF_IMAGE_TOO_SHORT, 0), "roll's length, 547 bytes");
     memset(out, STAYS, sizeof out);
-    check(is(eif_roll_write(image, IMAGE_LENGTH, out, 41), EIF_OUTPUT_TOO_SHORT, 0), "roll, 41");
+    check(is(eif_roll_write(image, IMAGE_LENGTH, out, 53), EIF_OUTPUT_TOO_SHORT, 0), "roll, 53");
     check(stays(out, 0, sizeof out), "output of a refused roll");
     check(is(eif_roll_write(image, IMAGE_LENGTH, out, sizeof out), EIF_ACCEPTED, ROLL_LENGTH),
           "roll");
@@ -310,7 +312,7 @@ static void try_roll(const uint8_t *image) {
 
     eif_roll_reading reading = eif_roll_read(expected_roll, ROLL_LENGTH);
     check(reading.number == EIF_ACCEPTED && reading.index == 0 && reading.position == 0, "roll read");
-    check(reading.count == 3, "roll's count");
+    check(reading.flags == 0 && reading.count == 3, "roll's flags and count");
     for (unsigned i = 0; i < EIF_MAX_SECTIONS; i++) {
         eif_roll_record record = reading.records[i];
         check(record.type == (i < 3 ? i + 1 : 0), "type of a record");
@@ -319,8 +321,33 @@ static void try_roll(const uint8_t *image) {
     }
 
     eif_roll_reading cut = eif_roll_read(expected_roll, ROLL_LENGTH - 1);
-    check(cut.number == EIF_RECORD_CUT && cut.index == 3 && cut.position == 32 && cut.count == 0,
+    check(cut.number == EIF_RECORD_CUT && cut.index == 4 && cut.position == 44 && cut.count == 0,
           "roll cut");
+    eif_roll_reading old = eif_roll_read(expected_roll + EIF_FLAGS_RECORD_LENGTH,
+                                         ROLL_LENGTH - EIF_FLAGS_RECORD_LENGTH);
+    check(old.number == EIF_RECORD_TYPE_WRONG && old.index == 0 && old.position == 0,
+          "roll without its flags record");
+}
+
+/* Flags join the roll, and their lowest bit is the architecture. */
+static void try_flags(void) {
+    static const uint8_t data[1] = {'k'};
+    static const uint8_t record[EIF_FLAGS_RECORD_LENGTH] = {2, 0, 0, 0, 0, 0, 0, 0, 0, 1, 0x03, 0x12};
+    uint8_t image[573], roll[64];
+    eif_plan plan;
+    memset(&plan, 0, sizeof plan);
+    plan.version = 2;
+    plan.flags = 0x1203;
+    plan.count = 2;
+    put_place(&plan, 0, EIF_KERNEL, 1);
+    put_place(&plan, 1, EIF_COMMAND_LINE, 0);
+    check(is(eif_write(plan, data, 1, image, sizeof image), EIF_ACCEPTED, 573), "image with flags");
+    eif_reading reading = eif_read(image, sizeof image);
+    check(reading.flags == 0x1203 && reading.architecture == EIF_AARCH64, "flags of an image");
+    eif_answer written = eif_roll_write(image, sizeof image, roll, sizeof roll);
+    check(is(written, EIF_ACCEPTED, 43), "roll with flags");
+    check(memcmp(roll, record, sizeof record) == 0, "flags record");
+    check(eif_roll_read(roll, 43).flags == 0x1203, "flags of a roll");
 }
 
 /* Whether a digest begins with these 8 bytes. */
@@ -388,6 +415,7 @@ int main(void) {
     try_registers(image);
     try_sha384();
     try_roll(image);
+    try_flags();
     if (failures != 0) {
         return 1;
     }

@@ -10,6 +10,7 @@ use eif::Place;
 use eif::Plan;
 use eif::RecordHead;
 use eif::Refusal;
+use eif::RollReading;
 use eif::RollRecord;
 use eif::SectionType;
 use eif::Verdict;
@@ -88,11 +89,9 @@ fn list(records: [RollRecord; PLACES]) {
     }
 }
 
-// The verdict, the flags, the count and the list.
-fn read_whole(label: &[u8], roll: &[u8]) {
-    let reading = roll_reader::read(roll);
+// The verdict, the flags and the count.
+fn head_line(label: &[u8], reading: RollReading) {
     let verdict = reading.verdict;
-    let records = reading.records;
     text(label);
     text(b": ");
     answer(verdict);
@@ -101,25 +100,24 @@ fn read_whole(label: &[u8], roll: &[u8]) {
     text(b", ");
     number(reading.count);
     text(b" records");
-    list(records);
+}
+
+// These and the list, or its last place alone.
+fn shown(label: &[u8], roll: &[u8], last: bool) {
+    let reading = roll_reader::read(roll);
+    let records = reading.records;
+    head_line(label, reading);
+    if last {
+        text(b", last");
+        listed(records[PLACES - 1]);
+    } else {
+        list(records);
+    }
     text(b"\n");
 }
 
-// The verdict, the flags, the count and the list's last place.
-fn read_whole_last(label: &[u8], roll: &[u8]) {
-    let reading = roll_reader::read(roll);
-    let verdict = reading.verdict;
-    let records = reading.records;
-    text(label);
-    text(b": ");
-    answer(verdict);
-    text(b", flags ");
-    number(reading.flags as u64);
-    text(b", ");
-    number(reading.count);
-    text(b" records, last");
-    listed(records[PLACES - 1]);
-    text(b"\n");
+fn read_whole(label: &[u8], roll: &[u8]) {
+    shown(label, roll, false);
 }
 
 // A record at a position of a roll; what would lie past the roll is left out.
@@ -139,24 +137,22 @@ fn put_flags(roll: &mut [u8]) {
 const REST: usize = 340;
 
 // A rest of a roll, behind a flags record.
-fn read(label: &[u8], rest: &[u8]) {
+fn framed(label: &[u8], rest: &[u8], last: bool) {
     if REST < rest.len() {
         return;
     }
     let mut roll = [0u8; FlagsRecord::SIZE + REST];
     put_flags(&mut roll);
     octets::copy(&mut roll, FlagsRecord::SIZE, rest);
-    read_whole(label, &roll[0..FlagsRecord::SIZE + rest.len()]);
+    shown(label, &roll[0..FlagsRecord::SIZE + rest.len()], last);
+}
+
+fn read(label: &[u8], rest: &[u8]) {
+    framed(label, rest, false);
 }
 
 fn read_last(label: &[u8], rest: &[u8]) {
-    if REST < rest.len() {
-        return;
-    }
-    let mut roll = [0u8; FlagsRecord::SIZE + REST];
-    put_flags(&mut roll);
-    octets::copy(&mut roll, FlagsRecord::SIZE, rest);
-    read_whole_last(label, &roll[0..FlagsRecord::SIZE + rest.len()]);
+    framed(label, rest, true);
 }
 
 // 42 bytes that FORMAT.md, The boot roll, prints: what follows the flags record.
@@ -311,20 +307,35 @@ fn inner() {
 
 // ---- neighbours of the flags record
 
-fn flags_rows() {
+fn no_flags() {
     let none = [0u8; 0];
     let zeros = [0u8; 10];
     let worked = WORKED;
     read_whole(b"no bytes", &none);
     read_whole(b"ten zero bytes, no flags record", &zeros);
     read_whole(b"no flags record", &worked);
+}
+
+fn whole_roll() -> [u8; 54]
+    ensures { λ r. ⌜ length r ≡ 54 ⌝ }
+{
+    let worked = WORKED;
     let mut roll = [0u8; 54];
     put_flags(&mut roll);
     octets::copy(&mut roll, FlagsRecord::SIZE, &worked);
+    roll
+}
+
+fn cut_flags() {
+    let roll = whole_roll();
     read_whole(b"nine bytes of a flags record", &roll[0..9]);
     read_whole(b"its data cut", &roll[0..11]);
     read_whole(b"a lone flags record", &roll[0..12]);
     read(b"a second flags record", &roll);
+}
+
+fn every_flag() {
+    let mut roll = whole_roll();
     octets::put_le16(&mut roll, RecordHead::SIZE, 65535);
     read_whole(b"every flag", &roll);
 }
@@ -640,7 +651,9 @@ fn byte_moved() {
 fn main() {
     rows();
     inner();
-    flags_rows();
+    no_flags();
+    cut_flags();
+    every_flag();
     flags_length();
     many();
     ramdisk_alone();

@@ -35,7 +35,7 @@ pub fn measure(length: usize) {
     row("roll write", length, times);
     let times = compare(
         || eif::read_roll(black_box(roll)).map_or(0, |roll| roll.records().len()),
-        || twin::read_roll(black_box(roll)).map_or(0, |records| records.len()),
+        || twin::read_roll(black_box(roll)).map_or(0, |roll| roll.records.len()),
     );
     row("roll read", roll.len(), times);
     let start = StreamPosition(0);

@@ -28,4 +28,7 @@ pub use layout::{
     COUNT_AT, HEADER, MAX_SECTIONS, OFFSETS_AT, SECTION_HEADER, SIZES_AT, VERSION_AT,
 };
 pub use positions::{located_images, located_plans, located_rolls, PlanCase};
-pub use rolls::{record, roll_cases, roll_of, RollCase, Row, RECORD_HEADER, WORKED_ROLL};
+pub use rolls::{
+    flags_record, record, roll_cases, roll_of, RollCase, Row, FLAGS_RECORD, RECORD_HEADER,
+    WORKED_ROLL,
+};

@@ -107,11 +107,12 @@ fn located_files() -> Vec<ImageCase> {
     cases
 }
 
-/// Of a roll of 32 records of one byte: an index and where the record starts.
-const RECORDS: [(usize, usize); 3] = [(0, 0), (15, 165), (31, 341)];
+/// Of a roll of 32 records of one byte behind its flags record, which is record 0: an index and where the
+/// record starts.
+const RECORDS: [(usize, usize); 3] = [(1, 12), (16, 177), (32, 353)];
 
 /// Where its end record starts.
-const END_RECORD: usize = 352;
+const END_RECORD: usize = 364;
 
 /// Types of 32 records.
 fn record_types() -> Vec<u16> {
@@ -121,7 +122,7 @@ fn record_types() -> Vec<u16> {
 /// A roll with a record of one byte for each type.
 fn roll(types: &[u16]) -> Vec<u8> {
     let records: Vec<(u16, &[u8])> = types.iter().map(|&kind| (kind, &b"x"[..])).collect();
-    roll_of(&records)
+    roll_of(1, &records)
 }
 
 /// Each number of reading a roll but 1, which is for rolls that are longer than any here.
@@ -131,22 +132,22 @@ pub fn located_rolls() -> Vec<RollCase> {
     let whole = roll(&record_types());
     case("no kernel", roll(&[2]), (12, 0, 0));
     case("no command line", roll(&[1, 3]), (12, 0, 0));
-    case("ramdisk first", roll(&[3, 1, 2]), (10, 0, 0));
-    case("ramdisk before the kernel", roll(&[2, 3, 1]), (10, 1, 11));
+    case("ramdisk first", roll(&[3, 1, 2]), (10, 1, 12));
+    case("ramdisk before the kernel", roll(&[2, 3, 1]), (10, 2, 23));
     for cut in [END_RECORD, END_RECORD + 9] {
-        let answer = (16, 32, END_RECORD as u64);
+        let answer = (16, 33, END_RECORD as u64);
         case("end record cut", whole[..cut].to_vec(), answer);
     }
     let long_end = [&whole[..END_RECORD], &record(1, 0, b"x")].concat();
-    case("end record with data", long_end, (17, 32, 352));
+    case("end record with data", long_end, (17, 33, 364));
     let one_more: Vec<u16> = record_types().into_iter().chain([3]).collect();
-    case("a 33rd record", roll(&one_more), (5, 0, 352));
+    case("a 33rd record", roll(&one_more), (5, 0, 364));
     let longer = [&whole[..], &[0]].concat();
-    case("a byte after the end record", longer, (18, 0, 362));
+    case("a byte after the end record", longer, (18, 0, 374));
     cases
 }
 
-/// 16, 17 and 11.
+/// 16, 17 and 11. What may be wrong with the flags record stands beside [`roll_cases`](crate::roll_cases).
 fn located_records() -> Vec<RollCase> {
     let mut cases = Vec::new();
     let mut case = |name, roll, answer: Answer| cases.push(RollCase::refused(name, roll, answer));
@@ -158,15 +159,19 @@ fn located_records() -> Vec<RollCase> {
             case("cut", whole[..cut].to_vec(), (16, place, position));
         }
         let mut types = record_types();
-        types[index] = 4;
-        case("type 4", roll(&types), (17, place, position));
-        if index > 0 {
-            types[index] = 1;
+        types[index - 1] = 256;
+        case("type 256", roll(&types), (17, place, position));
+        if index > 1 {
+            types[index - 1] = 1;
             case("second kernel", roll(&types), (11, place, position));
         }
     }
+    for cut in [0, 9, 10, 11] {
+        case("flags record cut", whole[..cut].to_vec(), (16, 0, 0));
+    }
+    case("no flags record", whole[12..].to_vec(), (17, 0, 0));
     let repeated = roll(&[2, 2, 1]);
-    case("second command line, at 1", repeated, (11, 1, 11));
+    case("second command line, at 2", repeated, (11, 2, 23));
     cases
 }
 

@@ -121,14 +121,15 @@ pub(crate) fn twin_reading(answer: &Result<twin::Reading, twin::Refusal>) -> Rea
         ramdisk_mark: reading.ramdisk_mark(),
         ramdisk_count: reading.ramdisk_count() as u32,
         first_ramdisk: reading.first_ramdisk().unwrap_or(32) as u32,
+        architecture: reading.architecture(),
         sections: in_places(&reading.sections),
         ..Reading::default()
     }
 }
 
-fn twin_roll_reading(answer: &Result<Vec<twin::Record>, twin::Refusal>) -> RollReading {
-    let list = match answer {
-        Ok(list) => list,
+fn twin_roll_reading(answer: &Result<twin::Roll, twin::Refusal>) -> RollReading {
+    let roll = match answer {
+        Ok(roll) => roll,
         Err(refusal) => {
             return RollReading {
                 number: refusal.number,
@@ -139,7 +140,7 @@ fn twin_roll_reading(answer: &Result<Vec<twin::Record>, twin::Refusal>) -> RollR
         }
     };
     let mut records = [raw::RollRecord::default(); 32];
-    for (to, from) in records.iter_mut().zip(list) {
+    for (to, from) in records.iter_mut().zip(&roll.records) {
         *to = raw::RollRecord {
             section_type: SectionType(from.kind),
             position: RollPosition(from.position as u64),
@@ -148,7 +149,8 @@ fn twin_roll_reading(answer: &Result<Vec<twin::Record>, twin::Refusal>) -> RollR
         };
     }
     RollReading {
-        count: list.len() as u64,
+        flags: roll.flags,
+        count: roll.records.len() as u64,
         records,
         ..RollReading::default()
     }
@@ -320,6 +322,8 @@ fn compare_image_view(input: &Input, twin: &Result<twin::Reading, twin::Refusal>
             let twin_header = (reading.version, reading.flags, reading.default_mem);
             same(input, "header", header, twin_header);
             same(input, "cpus", image.default_cpus(), reading.default_cpus);
+            let architecture = image.architecture().flags();
+            same(input, "architecture", architecture, reading.architecture());
             same(input, "mark", image.ramdisk_mark(), reading.ramdisk_mark());
             let ramdisks = (image.ramdisk_count(), image.first_ramdisk());
             let twin_ramdisks = (reading.ramdisk_count(), reading.first_ramdisk());
@@ -578,11 +582,13 @@ pub fn compare_roll(ordinal: u64, roll: &[u8], tally: &mut Tally) {
     tally.add(Call::RollRead, reading.number);
 
     match (eif::read_roll(roll), twin_answer) {
-        (Ok(view), Ok(list)) => {
-            let data = list
-                .iter()
-                .map(|r| &roll[r.position..r.position + r.length]);
+        (Ok(view), Ok(twin)) => {
+            let list = twin.records.iter();
+            let data = list.map(|r| &roll[r.position..r.position + r.length]);
             let data: Vec<&[u8]> = data.collect();
+            same(input, "flags", view.flags(), twin.flags);
+            let architecture = view.architecture().flags();
+            same(input, "architecture", architecture, twin.flags & 1);
             let count = view.records().len();
             let view: Vec<&[u8]> = (0..count).map(|i| view.record_data(i)).collect();
             same(input, "record data", view, data);

@@ -69,7 +69,8 @@ fn any_reading(rng: &mut Rng, image: &[u8]) -> Reading {
         reading.ramdisk_count = rng.next() as u32;
         reading.first_ramdisk = rng.next() as u32;
         reading.reserved = rng.next() as u8;
-        reading.reserved_after = rng.next() as u32;
+        reading.architecture = rng.next() as u16;
+        reading.reserved_after = rng.next() as u16;
     }
     reading
 }

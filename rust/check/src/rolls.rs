@@ -11,7 +11,7 @@ fn any_record(rng: &mut Rng, kind: u16) -> Record {
     (kind, length as u64, rng.bytes(length))
 }
 
-/// The records of a roll that is accepted, and its end record.
+/// The records of a roll that is accepted, its flags record and its end record too.
 fn accepted_records(rng: &mut Rng) -> Vec<Record> {
     let mut types = rng.pick(&[[1, 2], [2, 1]]).to_vec();
     let kernel = usize::from(types[1] == 1);
@@ -23,8 +23,9 @@ fn accepted_records(rng: &mut Rng) -> Vec<Record> {
     for _ in 0..ramdisks {
         types.insert(kernel + 1 + rng.below(types.len() - kernel), 3);
     }
-    let records = types.into_iter().map(|kind| any_record(rng, kind));
-    let mut records: Vec<Record> = records.collect();
+    let flags = rng.pick(&[[0, 0], [1, 0], [0, 1], [0xff, 0xff], [2, 3]]);
+    let mut records = vec![(256, 2, flags.to_vec())];
+    records.extend(types.into_iter().map(|kind| any_record(rng, kind)));
     records.push((0, 0, Vec::new()));
     records
 }
@@ -33,7 +34,9 @@ fn damage_records(rng: &mut Rng, records: &mut Vec<Record>) {
     if records.is_empty() {
         return;
     }
-    let chosen = rng.below(records.len());
+    // Seldom the flags record, or few rolls would be read past it.
+    let first = usize::from(records.len() > 1 && !rng.once_in(8));
+    let chosen = first + rng.below(records.len() - first);
     // Bytes from the start of the chosen record's data to the end of the roll.
     let rest = records[chosen..]
         .iter()
@@ -41,7 +44,7 @@ fn damage_records(rng: &mut Rng, records: &mut Vec<Record>) {
         .sum::<usize>()
         - RECORD_HEADER;
     match rng.below(9) {
-        0 | 1 => records[chosen].0 = rng.pick(&[0, 1, 2, 3, 4, 5, 0x0100, 0x0200, 0xffff]),
+        0 | 1 => records[chosen].0 = rng.pick(&[0, 1, 2, 3, 4, 5, 0x0100, 0x0100, 0x0200, 0xffff]),
         2 => {
             let near = rng.pick(&[rest as u64, records[chosen].1]);
             records[chosen].1 = rng.hostile(near);
@@ -55,13 +58,13 @@ fn damage_records(rng: &mut Rng, records: &mut Vec<Record>) {
             records.insert(chosen, record);
         }
         5 => {
-            let other = rng.below(records.len());
+            let other = first + rng.below(records.len() - first);
             records.swap(chosen, other);
         }
-        6 => records[..].rotate_left(chosen),
+        6 => records[first..].rotate_left(chosen - first),
         7 => {
             // Ramdisks enough for a 33rd record, or just too few.
-            while records.len() < 33 + rng.below(2) {
+            while records.len() < 34 + rng.below(2) {
                 let record = any_record(rng, 3);
                 records.insert(records.len() - 1, record);
             }

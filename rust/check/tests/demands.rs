@@ -3,7 +3,7 @@
 use eif::{
     Arriving, Image, Reading, Refusal, Roll, RollRecord, SectionType, Stream, StreamPosition,
 };
-use eif_cases::{record, seal, Layout, Section, RECORD_HEADER};
+use eif_cases::{flags_record, record, seal, Layout, Section, RECORD_HEADER};
 use eif_check::{accepted_layout, accepted_plan, any_image, any_image_of, any_roll, Rng};
 use std::io::Read;
 
@@ -139,11 +139,12 @@ fn a_byte_outside_the_sections_is_refused() {
     }
 }
 
-/// Where each record of an accepted roll starts, the end record too.
+/// Where each record of an accepted roll starts, flags record and end record too.
 fn record_starts(roll: &Roll) -> Vec<u64> {
     let head = RECORD_HEADER as u64;
     let records = roll.records().iter();
     let starts = records.map(|record| record.position.0 - head);
+    let starts = [0].into_iter().chain(starts);
     starts.chain([roll.bytes().len() as u64 - head]).collect()
 }
 
@@ -159,6 +160,7 @@ fn a_roll_lists_its_image() {
             .map(|(i, r)| (r.section_type.0, view.record_data(i)))
             .collect();
         assert_eq!(list, listed(&image));
+        assert_eq!(view.flags(), image.flags());
         let starts = record_starts(&view);
         for cut in 0..roll.len() {
             let refusal = eif::read_roll(&roll[..cut]).unwrap_err();
@@ -180,10 +182,9 @@ fn a_roll_lists_its_image() {
 fn neighbour(rng: &mut Rng, layout: &Layout) -> Layout {
     let mut other = layout.clone();
     let count = other.sections.len();
-    match rng.below(5) {
+    match rng.below(6) {
         0 => {
             // What does not enter the roll.
-            other.flags ^= 1;
             other.default_mem = rng.next();
             for section in &mut other.sections {
                 section.flags = rng.next() as u16;
@@ -195,7 +196,8 @@ fn neighbour(rng: &mut Rng, layout: &Layout) -> Layout {
             other.sections.retain(|s| s.kind <= 3);
         }
         2 => other.sections.swap(rng.below(count), rng.below(count)),
-        3 => {
+        3 => other.flags ^= 1 << rng.below(16),
+        4 => {
             // A byte moved from one section's end to the next one's start.
             let place = rng.below(count - 1);
             if let Some(byte) = other.sections[place].data.pop() {
@@ -209,7 +211,7 @@ fn neighbour(rng: &mut Rng, layout: &Layout) -> Layout {
 }
 
 #[test]
-fn rolls_are_equal_exactly_when_the_listed_sections_are() {
+fn rolls_are_equal_exactly_when_flags_and_listed_sections_are() {
     let (mut equal, mut different) = (0, 0);
     for ordinal in 0..TIMES {
         let mut rng = Rng::of_input(4, ordinal);
@@ -219,7 +221,8 @@ fn rolls_are_equal_exactly_when_the_listed_sections_are() {
         let Ok(view) = eif::read(&other) else {
             continue;
         };
-        let same = listed(&eif::read(&one).unwrap()) == listed(&view);
+        let first = eif::read(&one).unwrap();
+        let same = first.flags() == view.flags() && listed(&first) == listed(&view);
         let (one, other) = (roll_of(&one), roll_of(&other));
         assert_eq!(one == other, same);
         assert_eq!(one.starts_with(&other) || other.starts_with(&one), same);
@@ -238,8 +241,11 @@ fn an_accepted_roll_is_the_roll_of_an_image() {
         };
         let records = roll.records().iter().enumerate();
         let sections = records.map(|(i, r)| Section::new(r.section_type.0, roll.record_data(i)));
-        let image = Layout::new(2, sections.collect()).image();
-        assert_eq!(roll_of(&image), bytes);
+        let layout = Layout {
+            flags: roll.flags(),
+            ..Layout::new(2, sections.collect())
+        };
+        assert_eq!(roll_of(&layout.image()), bytes);
         accepted += 1;
     }
     assert!(accepted > 100, "{accepted}");
@@ -353,7 +359,7 @@ fn a_refused_image_gives_one_refusal_everywhere() {
 
 #[test]
 fn a_roll_has_at_most_32_records() {
-    let mut records = [record(0, 1, &[]), record(0, 2, &[])].concat();
+    let mut records = [flags_record(0), record(0, 1, &[]), record(0, 2, &[])].concat();
     for _ in 0..30 {
         records.extend(record(0, 3, &[]));
     }
@@ -363,9 +369,10 @@ fn a_roll_has_at_most_32_records() {
     for (last, number, index) in [
         (record(0, 3, &[]), 5, 0),
         (record(u64::MAX, 1, &[]), 5, 0),
-        (record(u64::MAX, 4, &[]), 17, 32),
-        (record(1, 0, &[]), 17, 32),
-        (vec![0; 9], 16, 32),
+        (record(u64::MAX, 4, &[]), 17, 33),
+        (flags_record(0), 17, 33),
+        (record(1, 0, &[]), 17, 33),
+        (vec![0; 9], 16, 33),
     ] {
         let refusal = eif::read_roll(&[&records[..], &last].concat()).unwrap_err();
         assert_eq!((refusal.number(), refusal.index()), (number, index));

@@ -3,7 +3,7 @@
 //! The environment variable EIF_SEED gives another seed, and EIF_TIMES that many times the inputs.
 
 use eif::MAX_IMAGE_LENGTH;
-use eif_cases::{put, record, zero_image, RECORD_HEADER};
+use eif_cases::{flags_record, put, record, zero_image, FLAGS_RECORD, RECORD_HEADER};
 use eif_check::*;
 use std::env;
 use std::io::{self, Write};
@@ -101,7 +101,7 @@ fn long_images(seed: u64, tally: &mut Tally) {
 fn long_rolls(tally: &mut Tally) {
     let most = MAX_IMAGE_LENGTH - 548 - 24;
     for length in most - 3..most + 4 {
-        let kernel = RECORD_HEADER + length;
+        let kernel = FLAGS_RECORD + RECORD_HEADER + length;
         for rest in [
             &[record(0, 2, &[]), record(0, 0, &[])][..],
             &[record(1, 2, &[7]), record(0, 0, &[])],
@@ -112,7 +112,8 @@ fn long_rolls(tally: &mut Tally) {
         ] {
             let rest = rest.concat();
             let mut roll = vec![0; kernel + rest.len()];
-            put(&mut roll, 0, &record(length as u64, 1, &[]));
+            put(&mut roll, 0, &flags_record(1));
+            put(&mut roll, FLAGS_RECORD, &record(length as u64, 1, &[]));
             put(&mut roll, kernel, &rest);
             compare_roll(length as u64, &roll, tally);
         }

@@ -1,10 +1,10 @@
 //! The examples of docs/FORMAT.md through the library.
 
 use eif::raw;
-use eif::{DataLength, Place, Plan, Refusal, SectionType, Stream, StreamPosition};
+use eif::{Architecture, DataLength, Place, Plan, Refusal, SectionType, Stream, StreamPosition};
 use eif_cases::{
-    command_line_first, image_cases, roll_cases, stream_cases, two_sections, worked_image, Answer,
-    ACCEPTED, WORKED_ROLL,
+    command_line_first, flags_record, image_cases, roll_cases, stream_cases, two_sections,
+    worked_image, Answer, Layout, Section, ACCEPTED, WORKED_ROLL,
 };
 use std::io::Read;
 
@@ -53,10 +53,33 @@ fn the_worked_image_is_written() {
 
 #[test]
 fn the_worked_roll_is_written() {
-    let mut out = [0xaa; 50];
-    assert_eq!(eif::write_roll(&worked_image(), &mut out), Ok(42));
-    assert_eq!(out[..42], WORKED_ROLL);
-    assert_eq!(out[42..], [0xaa; 8]);
+    let mut out = [0xaa; 62];
+    assert_eq!(eif::write_roll(&worked_image(), &mut out), Ok(54));
+    assert_eq!(out[..54], WORKED_ROLL);
+    assert_eq!(out[54..], [0xaa; 8]);
+}
+
+/// All sixteen bits join the roll, and the lowest is the reading's architecture.
+#[test]
+fn flags_join_the_roll() {
+    for flags in [0, 1, 2, 0x0100, 0x1203, 0xfffe, 0xffff] {
+        let sections = vec![Section::new(1, &[0x4b]), Section::new(2, &[0x61])];
+        let layout = Layout {
+            flags,
+            ..Layout::new(2, sections)
+        };
+        let bytes = layout.image();
+        let image = eif::read(&bytes).unwrap();
+        let architecture = Architecture::of_flags(flags);
+        assert_eq!((image.flags(), image.architecture()), (flags, architecture));
+        assert_eq!(raw::read(&bytes).architecture, flags % 2);
+        let bytes = eif::roll_to_vec(&bytes).unwrap();
+        assert_eq!(bytes[..12], flags_record(flags));
+        assert_eq!(bytes[10..12], [flags as u8, (flags >> 8) as u8]);
+        let roll = eif::read_roll(&bytes).unwrap();
+        assert_eq!((roll.flags(), roll.architecture()), (flags, architecture));
+        assert_eq!(roll.records().len(), 2);
+    }
 }
 
 #[test]
@@ -68,7 +91,7 @@ fn lengths_are_told_before_writing() {
     );
     let short = eif::write_to_vec(&worked_plan(), b"K");
     assert_eq!(short.map_err(parts), Err((15, 0, 0)));
-    assert_eq!(eif::roll_length(&worked_image()), Ok(42));
+    assert_eq!(eif::roll_length(&worked_image()), Ok(54));
     assert_eq!(
         eif::roll_to_vec(&worked_image()).as_deref(),
         Ok(&WORKED_ROLL[..])
@@ -76,11 +99,11 @@ fn lengths_are_told_before_writing() {
 }
 
 #[test]
-fn a_roll_does_not_fit_41_bytes() {
-    let mut out = [0xaa; 41];
+fn a_roll_does_not_fit_53_bytes() {
+    let mut out = [0xaa; 53];
     let answer = eif::write_roll(&worked_image(), &mut out);
     assert_eq!(answer.map_err(parts), Err((14, 0, 0)));
-    assert_eq!(out, [0xaa; 41]);
+    assert_eq!(out, [0xaa; 53]);
 }
 
 #[test]
@@ -89,7 +112,7 @@ fn rolls() {
         let answer = eif::read_roll(&case.roll).map_err(parts).map(|roll| {
             let records = roll.records().iter();
             let rows = records.map(|r| (r.section_type.0, r.position.0, r.length.0));
-            rows.collect::<Vec<_>>()
+            (roll.flags(), rows.collect::<Vec<_>>())
         });
         assert_eq!(answer, case.answer, "{}", case.name);
     }
@@ -247,7 +270,7 @@ fn lengths_beside_a_refusal_are_zero() {
         number,
         ..raw::Answer::default()
     };
-    let mut out = [0xaa; 41];
+    let mut out = [0xaa; 53];
     let image = worked_image();
     assert_eq!(raw::roll_write(&image, &mut out), refused(14));
     assert_eq!(raw::roll_write(&[], &mut out), refused(2));
@@ -258,5 +281,5 @@ fn lengths_beside_a_refusal_are_zero() {
     assert_eq!(raw::whole_length(&[]), refused(2));
     assert_eq!(raw::write(raw::Plan::default(), &[], &mut out), refused(4));
     assert_eq!(raw::roll_read(&[]).count, 0);
-    assert_eq!(out, [0xaa; 41]);
+    assert_eq!(out, [0xaa; 53]);
 }

@@ -4,7 +4,7 @@
 //! takes as much as it says.
 
 use eif::{Arriving, DataLength, Place, Plan, Refusal, SectionType, MAX_IMAGE_LENGTH};
-use eif_cases::{put, record, zero_image, zero_image_start, Answer, RECORD_HEADER};
+use eif_cases::{flags_record, put, record, zero_image, zero_image_start, Answer, RECORD_HEADER};
 use eif_check::{compare_image, Rng, Tally};
 use eif_twin as twin;
 
@@ -107,7 +107,12 @@ fn write() {
 
 /// A roll of an empty command line and a kernel of so many zeros.
 fn roll(kernel: usize) -> Vec<u8> {
-    let heads = [record(0, 2, &[]), record(kernel as u64, 1, &[])].concat();
+    let heads = [
+        flags_record(0),
+        record(0, 2, &[]),
+        record(kernel as u64, 1, &[]),
+    ];
+    let heads = heads.concat();
     let mut roll = vec![0; heads.len() + kernel + RECORD_HEADER];
     put(&mut roll, 0, &heads);
     roll

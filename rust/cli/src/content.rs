@@ -31,16 +31,10 @@ pub fn of(arrived: &Arrived) -> Result<Content<'_>, Neither> {
     match eif::read_roll(&arrived.bytes) {
         Ok(roll) => Ok(Content::Roll(roll)),
         Err(refusal) => {
-            let roll = Some(roll_lines(&refusal, &arrived.bytes));
+            let roll = Some(words::roll_refusal(&refusal, &arrived.bytes));
             Err(Neither { image, roll })
         }
     }
-}
-
-/// A roll's refusal and what stands at its position.
-fn roll_lines(refusal: &Refusal, roll: &[u8]) -> String {
-    let place = words::place("    ", refusal, refusal.place_in_roll(roll));
-    format!("  as a boot roll: {refusal}\n{place}")
 }
 
 impl Neither {

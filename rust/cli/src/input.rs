@@ -73,8 +73,8 @@ pub fn arrive(name: &OsStr, keep: Keep) -> Result<Arrived, Trouble> {
 }
 
 /// Whether bytes that the image's reader answers so, or bytes that begin with them, may be a roll. Those
-/// that have a whole header with the right magic are none: as a roll's first length, the magic is that of a
-/// section longer than any image.
+/// that have a whole header with the right magic are none, since a roll begins with the length of its flags
+/// record, 2.
 pub fn may_be_roll(answer: &Result<Reading, Refusal>) -> bool {
     let unlike_image = [Reason::WrongMagic, Reason::ImageTooShort];
     answer

@@ -1,7 +1,7 @@
 //! Words that subcommands share. What a refusal means, what stands at its position and what to do about it
 //! are the library's words.
 
-use eif::Refusal;
+use eif::{Architecture, Refusal};
 use std::ffi::OsStr;
 use std::os::unix::ffi::OsStrExt;
 
@@ -24,21 +24,29 @@ pub fn about(name: &OsStr, text: &str) -> Vec<u8> {
 
 /// An image's refusal, what stands at its position and what to do about it, a line for each.
 pub fn refusal(name: &OsStr, refusal: &Refusal) -> Vec<u8> {
-    let place = place("  ", refusal, refusal.place_in_image());
-    about(name, &format!("{refusal}\n{place}{}", advice(refusal)))
+    let place = refusal.place_in_image();
+    about(name, &lines("  ", refusal, place))
 }
 
-/// The line on what stands at a refusal's position, where its number has a place in the file:
+/// The same of a roll, as a file is told of that is no image.
+pub fn roll_refusal(refusal: &Refusal, roll: &[u8]) -> String {
+    let lines = lines("    ", refusal, refusal.place_in_roll(roll));
+    format!("  as a boot roll: {lines}")
+}
+
+/// A refusal, what stands at its position where its number has a place in the file, and what to do:
 /// `byte 44: the table's offset entry of section 2`.
-pub fn place(indent: &str, refusal: &Refusal, place: Option<String>) -> String {
+fn lines(indent: &str, refusal: &Refusal, place: Option<String>) -> String {
     let position = refusal.position();
-    let line = place.map(|place| format!("{indent}byte {position}: {place}\n"));
-    line.unwrap_or_default()
+    let place = place.map(|place| format!("{indent}byte {position}: {place}\n"));
+    let place = place.unwrap_or_default();
+    let advice = refusal.reason().advice();
+    format!("{refusal}\n{place}{indent}what to do: {advice}\n")
 }
 
-/// The line on what to do about a refusal.
-pub fn advice(refusal: &Refusal) -> String {
-    format!("  what to do: {}\n", refusal.reason().advice())
+/// Header flags and the processor that they tell: `0x0001 (aarch64)`.
+pub fn flags(flags: u16, architecture: Architecture) -> String {
+    format!("{flags:#06x} ({architecture})")
 }
 
 /// `1 byte`, `2 bytes`.

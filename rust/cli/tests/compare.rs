@@ -51,7 +51,7 @@ fn the_accident_is_seen() {
         "different boot content\n\
          A is right.eif\n\
          B is wrong.eif\n\
-         first difference, record 2: A has section 3 (ramdisk, 9 bytes); \
+         first difference, record 3: A has section 3 (ramdisk, 9 bytes); \
          B has section 3 (ramdisk, 23 bytes): another length, and the data differ at byte 0\n\
          the same ramdisks in another order: A has 3, 4; B has 4, 3 (each by its number in A)\n",
     );
@@ -80,7 +80,7 @@ fn a_byte_of_a_ramdisk() {
         &of_ramdisks(&[b"one", b"two"]),
         &of_ramdisks(&[b"one", b"twe"]),
     );
-    let line = "first difference, record 3: A has section 3 (ramdisk, 3 bytes); \
+    let line = "first difference, record 4: A has section 3 (ramdisk, 3 bytes); \
                 B has section 3 (ramdisk, 3 bytes): the data differ at byte 2";
     assert_eq!(lines, [line]);
 }
@@ -89,7 +89,7 @@ fn a_byte_of_a_ramdisk() {
 fn a_longer_command_line() {
     let longer = layout(2, &[KERNEL, (2, b"quiet!"), (3, b"r")]);
     let lines = differences(&of_ramdisks(&[b"r"]), &longer);
-    let line = "first difference, record 1: A has section 1 (command line, 5 bytes); \
+    let line = "first difference, record 2: A has section 1 (command line, 5 bytes); \
                 B has section 1 (command line, 6 bytes): another length, and the first 5 bytes are the same";
     assert_eq!(lines, [line]);
 }
@@ -100,7 +100,7 @@ fn a_byte_moved_between_sections() {
     let a = layout(2, &[(1, b"kernel"), (2, b"quiet")]);
     let b = layout(2, &[(1, b"kerne"), (2, b"lquiet")]);
     let lines = differences(&a, &b);
-    let line = "first difference, record 0: A has section 0 (kernel, 6 bytes); \
+    let line = "first difference, record 1: A has section 0 (kernel, 6 bytes); \
                 B has section 0 (kernel, 5 bytes): another length, and the first 5 bytes are the same";
     assert_eq!(lines, [line]);
 }
@@ -108,7 +108,7 @@ fn a_byte_moved_between_sections() {
 #[test]
 fn a_ramdisk_missing() {
     let lines = differences(&of_ramdisks(&[b"one", b"two"]), &of_ramdisks(&[b"one"]));
-    let line = "first difference, record 3: A has section 3 (ramdisk, 3 bytes); \
+    let line = "first difference, record 4: A has section 3 (ramdisk, 3 bytes); \
                 B has no more: a record more";
     assert_eq!(lines, [line]);
 }
@@ -117,7 +117,7 @@ fn a_ramdisk_missing() {
 fn another_kind_in_the_same_place() {
     let a = layout(2, &[KERNEL, COMMAND_LINE, (3, b"r")]);
     let b = layout(2, &[KERNEL, (3, b"r"), COMMAND_LINE]);
-    let first = "first difference, record 1: A has section 1 (command line, 5 bytes); \
+    let first = "first difference, record 2: A has section 1 (command line, 5 bytes); \
                  B has section 1 (ramdisk, 1 byte): another kind";
     let order =
         "the same records in another order: A has 0, 1, 2; B has 0, 2, 1 (each by its number in A)";
@@ -153,7 +153,6 @@ fn what_differs_elsewhere_is_listed_apart() {
         &[KERNEL, (5, b"{ }"), COMMAND_LINE, (4, b"sig"), (3, b"r")],
     );
     a.default_mem = 7;
-    b.flags = 1;
     b.default_cpus = 2;
     b.sections[4].flags = 9;
     let (status, text) = compared(&a, &b);
@@ -162,7 +161,6 @@ same boot content
 A is a
 B is b
 not part of the roll:
-  flags: A has 0x0000 (x86_64), B has 0x0001 (aarch64)
   default_mem: A has 7, B has 0
   default_cpus: A has 0, B has 2
   section flags, ramdisk: A has 0x0000 at 3, B has 0x0009 at 4
@@ -170,6 +168,48 @@ not part of the roll:
   metadata: another length, and the data differ at byte 1
 ";
     assert_eq!((status, &text[..]), (0, expected));
+}
+
+/// The same kernel, command line and ramdisks for the other processor are not the same boot content.
+#[test]
+fn another_architecture_is_named() {
+    let a = of_ramdisks(&[b"r"]);
+    let mut b = a.clone();
+    b.flags = 1;
+    let first = "first difference, record 0: A has flags 0x0000 (x86_64); \
+                 B has flags 0x0001 (aarch64): another architecture";
+    assert_eq!(differences(&a, &b), [first]);
+    // Another kernel too.
+    b.sections[0].data.push(7);
+    let next = "next difference, record 1: A has section 0 (kernel, 6 bytes); \
+                B has section 0 (kernel, 7 bytes): another length, and the first 6 bytes are the same";
+    assert_eq!(differences(&a, &b), [first, next]);
+}
+
+/// All sixteen flags are compared, not the processor alone.
+#[test]
+fn other_flags_are_named() {
+    let a = of_ramdisks(&[b"r"]);
+    let mut b = a.clone();
+    b.flags = 0x8000;
+    let first = "first difference, record 0: A has flags 0x0000 (x86_64); \
+                 B has flags 0x8000 (x86_64): other flags";
+    assert_eq!(differences(&a, &b), [first]);
+}
+
+/// A saved roll tells the processor too.
+#[test]
+fn a_saved_roll_of_another_architecture() {
+    let folder = Folder::new();
+    folder.pack("a", &["old"], "");
+    folder.pack("b", &["old"], "--arch aarch64 --force");
+    folder.eif("roll a --output a.roll").says(0, "");
+    let ended = folder.eif("compare a.roll b");
+    assert_eq!(ended.status, 1);
+    let line = "first difference, record 0: A has flags 0x0000 (x86_64); \
+                B has flags 0x0001 (aarch64): another architecture\n";
+    assert!(ended.text().contains(line), "{}", ended.text());
+    assert!(!ended.text().contains("next difference"));
 }
 
 /// What no row tells by itself: the order of other sections, a reserved field, an unused table entry.
@@ -222,16 +262,16 @@ fn a_saved_roll_stands_for_its_image() {
     folder.pack("a", &["old", "new"], "--metadata metadata");
     folder.pack("b", &["new", "old"], "--metadata metadata --force");
     folder.eif("roll a --output a.roll").says(0, "");
-    let rest = "header fields, section flags, metadata and signature are not compared\n";
+    let rest = "other header fields, section flags, metadata and signature are not compared\n";
     let same = format!("same boot content\nA is a\nB is a.roll\nB is a roll: {rest}");
     folder.eif("compare a a.roll").says(0, &same);
     let ended = folder.eif("compare a.roll b");
     assert_eq!(ended.status, 1);
     let lines = ended.text();
     assert!(
-        lines.contains("A has record 2 (ramdisk, 9 bytes); B has section 3 (ramdisk, 23 bytes)")
+        lines.contains("A has record 3 (ramdisk, 9 bytes); B has section 3 (ramdisk, 23 bytes)")
     );
-    assert!(lines.contains("the same ramdisks in another order: A has 2, 3; B has 3, 2"));
+    assert!(lines.contains("the same ramdisks in another order: A has 3, 4; B has 4, 3"));
     let rolls = folder.eif("compare a.roll a.roll");
     let same = format!("same boot content\nA is a.roll\nB is a.roll\nA and B are rolls: {rest}");
     rolls.says(0, &same);
@@ -257,6 +297,6 @@ fn a_refused_file_is_no_match() {
         );
         assert!(ended
             .text()
-            .contains("as a boot roll: refused 16 at 3 byte 54: "));
+            .contains("as a boot roll: refused 16 at 4 byte 66: "));
     }
 }

@@ -63,7 +63,7 @@ fn run_shown(name: &str) -> usize {
 
 #[test]
 fn the_manual_shows_what_is_printed() {
-    assert_eq!(run_shown("docs/MANUAL.md"), 10);
+    assert_eq!(run_shown("docs/MANUAL.md"), 12);
 }
 
 #[test]

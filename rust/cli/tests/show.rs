@@ -27,11 +27,12 @@ packed.eif: image
 
 const ROLL_SHOWN: &str = "\
 roll: boot roll
+  flags         0x0001 (aarch64)
   index  type            position        size
-      0  kernel                10          10
-      1  command line          30           5
-      2  ramdisk               45           9
-      3  ramdisk               64          23
+      1  kernel                22          10
+      2  command line          42           5
+      3  ramdisk               57           9
+      4  ramdisk               76          23
 ";
 
 fn packed() -> Folder {
@@ -132,8 +133,9 @@ fn a_file_that_may_be_a_cut_roll_is_told_so() {
 cut: refused 2 at 0 byte 0: image shorter than 548 bytes
   byte 0: the start of the file
   what to do: fetch it again
-  as a boot roll: refused 16 at 4 byte 87: roll ends inside a record, or before its end record
-    byte 87: the start of record 4";
+  as a boot roll: refused 16 at 5 byte 99: roll ends inside a record, or before its end record
+    byte 99: the start of record 5
+    what to do: fetch the roll again";
     assert_eq!(lines, expected.lines().collect::<Vec<_>>());
 }
 
@@ -147,19 +149,25 @@ fn every_number_of_the_roll_reader_is_told() {
             assert_eq!(folder.eif("show roll").status, 0);
             continue;
         };
-        let meaning = Reason::from_number(number).expect("a reason").meaning();
+        let reason = Reason::from_number(number).expect("a reason");
+        let (meaning, advice) = (reason.meaning(), reason.advice());
         let place = match number {
             12 => "the start of the roll".to_string(),
-            5 => "the start of record 32".to_string(),
+            5 => "the start of record 33".to_string(),
             18 => "the first byte after the end record".to_string(),
+            16 if case.roll.is_empty() => {
+                "the end of the roll, where the flags record should start".to_string()
+            }
             16 if position == case.roll.len() as u64 => {
                 format!("the end of the roll, where record {index} should start")
             }
+            _ if index == 0 => "the start of the flags record".to_string(),
             _ => format!("the start of record {index}"),
         };
         let lines = format!(
             "  as a boot roll: refused {number} at {index} byte {position}: {meaning}\n    \
-             byte {position}: {place}\n"
+             byte {position}: {place}\n    \
+             what to do: {advice}\n"
         );
         let ended = folder.eif("show roll");
         assert_eq!(ended.status, 1);
@@ -214,10 +222,34 @@ fn json_of_a_roll_is_read_back() {
     let folder = packed();
     folder.eif("roll packed.eif --output roll").says(0, "");
     let roll = object(&folder, "roll", 0);
-    assert_eq!(roll.keys().join(" "), "file accepted records");
+    let keys = "file accepted flags architecture records";
+    assert_eq!(roll.keys().join(" "), keys);
+    assert_eq!(*roll.get("flags"), Value::Number(1));
+    assert_eq!(*roll.get("architecture"), Value::Text("aarch64".into()));
     let first = &roll.get("records").items()[0];
     assert_eq!(first.keys().join(" "), "index type name position length");
-    assert_eq!(*first.get("position"), Value::Number(10));
+    assert_eq!(*first.get("index"), Value::Number(1));
+    assert_eq!(*first.get("position"), Value::Number(22));
+}
+
+/// A roll that was written before rolls had flags: what follows the flags record of one that has them.
+#[test]
+fn a_roll_of_the_old_form_is_told_so() {
+    let folder = packed();
+    folder.eif("roll packed.eif --output roll").says(0, "");
+    folder.put("old.roll", &folder.get("roll")[12..]);
+    let reason = Reason::RecordTypeWrong;
+    let lines = format!(
+        "  as a boot roll: refused 17 at 0 byte 0: {reason}\n    \
+         byte 0: the start of the flags record\n    \
+         what to do: fetch the roll again; one that an older eif has written must be written again \
+         from its image\n"
+    );
+    for words in ["show old.roll", "compare old.roll packed.eif"] {
+        let ended = folder.eif(words);
+        assert_eq!(ended.status, 1);
+        assert!(ended.text().ends_with(&lines), "{}", ended.text());
+    }
 }
 
 #[test]

@@ -4,7 +4,7 @@
 mod common;
 
 use common::{repository_text, Folder};
-use eif::{Reason, Refusal, SectionType};
+use eif::{Architecture, Reason, Refusal, SectionType};
 use eif_cases::{located_images, located_rolls};
 use std::process::Command;
 
@@ -99,6 +99,19 @@ fn the_header_has_the_same_section_types() {
 }
 
 #[test]
+fn the_header_has_the_same_architectures() {
+    let header = repository_text("include/eif.h");
+    let numbers = enumerators(&header, "eif_architecture");
+    let words = cases(&header, "eif_architecture_name");
+    let names = Architecture::ALL.map(|a| format!("EIF_{}", a.name().to_uppercase()));
+    let all = || names.iter().map(|name| &name[..]).zip(Architecture::ALL);
+    let expected: Vec<_> = all().map(|(name, a)| (name, a.flags())).collect();
+    assert_eq!(numbers, expected);
+    let expected: Vec<_> = all().map(|(name, a)| (name, a.name())).collect();
+    assert_eq!(words, expected);
+}
+
+#[test]
 fn the_header_has_the_same_limits() {
     let header = repository_text("include/eif.h");
     for (name, value) in [
@@ -106,6 +119,7 @@ fn the_header_has_the_same_limits() {
         ("EIF_HEADER_LENGTH", eif::HEADER_LENGTH),
         ("EIF_SECTION_HEADER_LENGTH", eif::SECTION_HEADER_LENGTH),
         ("EIF_RECORD_HEAD_LENGTH", eif::RECORD_HEAD_LENGTH),
+        ("EIF_FLAGS_RECORD_LENGTH", eif::FLAGS_RECORD_LENGTH),
         ("EIF_MAX_SECTIONS", eif::MAX_SECTIONS),
         ("EIF_NO_RAMDISK", eif::raw::NO_RAMDISK as usize),
         ("EIF_REGISTERS", eif::REGISTERS),
@@ -191,8 +205,8 @@ fn the_manual_has_the_same_words() {
 /// Which of the manual's rows has the words on what stands at a refusal's position.
 fn row_with(rows: &[Vec<String>], refusal: &Refusal, place: Option<String>) -> usize {
     let index = match (refusal.number(), refusal.position()) {
-        // A roll's 33rd record.
-        (5, 320..) => 32,
+        // A roll's 33rd record after its flags record.
+        (5, 332..) => 33,
         _ => refusal.index(),
     };
     let place = place.expect("a place");

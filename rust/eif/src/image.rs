@@ -102,7 +102,8 @@ impl Reading {
 
     /// The processor that the flags tell.
     pub fn architecture(&self) -> Architecture {
-        Architecture::of_flags(self.flags())
+        // The answer has their lowest bit alone.
+        Architecture::of_flags(self.answer.architecture)
     }
 
     /// The header's default_mem, carried and not judged.

@@ -48,9 +48,10 @@
 //!     assert_eq!(section.length.0, data.len() as u64);
 //! }
 //!
-//! let mut roll = [0; 42];
-//! assert_eq!(eif::write_roll(&bytes, &mut roll)?, 42);
+//! let mut roll = [0; 54];
+//! assert_eq!(eif::write_roll(&bytes, &mut roll)?, 54);
 //! let roll = eif::read_roll(&roll)?;
+//! assert_eq!(roll.flags(), image.flags());
 //! assert_eq!(roll.records().len(), 3);
 //! assert_eq!(roll.record_data(0), [0x4b]);
 //!
@@ -108,8 +109,8 @@ pub use stream::{copy_stream, stream_length, stream_to_vec, Stream, StreamReader
 /// The longest image, in bytes. A buffer of this length takes any image, roll or stream.
 pub const MAX_IMAGE_LENGTH: usize = 1_073_741_824;
 
-/// The most sections that an image can have, and the most records that a roll can have beside its
-/// end record.
+/// The most sections that an image can have, and the most records that a roll can have beside its flags
+/// record and its end record.
 pub const MAX_SECTIONS: usize = 32;
 
 /// The length of an image's header.
@@ -120,6 +121,9 @@ pub const SECTION_HEADER_LENGTH: usize = 12;
 
 /// The length of a roll record's head, which stands before its data.
 pub const RECORD_HEAD_LENGTH: usize = 10;
+
+/// The length of a roll's flags record, which is its first: a head and two bytes of data.
+pub const FLAGS_RECORD_LENGTH: usize = RECORD_HEAD_LENGTH + 2;
 
 /// The length of a SHA-384 digest, and of a register.
 pub const DIGEST_LENGTH: usize = 48;

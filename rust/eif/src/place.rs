@@ -44,16 +44,17 @@ impl Refusal {
     /// let refusal = eif::read_roll(&[]).unwrap_err();
     /// assert_eq!((refusal.number(), refusal.position()), (16, 0));
     /// let place = refusal.place_in_roll(&[]);
-    /// assert_eq!(place.as_deref(), Some("the end of the roll, where record 0 should start"));
+    /// assert_eq!(place.as_deref(), Some("the end of the roll, where the flags record should start"));
     /// ```
     pub fn place_in_roll(&self, roll: &[u8]) -> Option<String> {
         let index = self.index();
         let at_end = self.position() == roll.len() as u64;
         let place = match self.number() {
             1 | 12 => "the start of the roll".to_string(),
-            5 => start_of_record(MAX_SECTIONS as u64),
-            16 if at_end => format!("the end of the roll, where record {index} should start"),
-            10 | 11 | 16 | 17 => start_of_record(index),
+            // The flags record is not one of the 32.
+            5 => start_of(MAX_SECTIONS as u64 + 1),
+            16 if at_end => format!("the end of the roll, where {} should start", record(index)),
+            10 | 11 | 16 | 17 => start_of(index),
             18 => "the first byte after the end record".to_string(),
             _ => return None,
         };
@@ -65,6 +66,13 @@ fn offset_entry(index: u64) -> String {
     format!("the table's offset entry of section {index}")
 }
 
-fn start_of_record(index: u64) -> String {
-    format!("the start of record {index}")
+fn start_of(index: u64) -> String {
+    format!("the start of {}", record(index))
+}
+
+fn record(index: u64) -> String {
+    match index {
+        0 => "the flags record".to_string(),
+        _ => format!("record {index}"),
+    }
 }

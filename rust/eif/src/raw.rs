@@ -57,8 +57,10 @@ pub struct Reading {
     pub ramdisk_count: u32,
     /// The index of the first ramdisk, [`NO_RAMDISK`] where there is none, so also beside a refusal.
     pub first_ramdisk: u32,
+    /// The lowest bit of the header's flags, 0 beside a refusal.
+    pub architecture: u16,
     /// Always 0.
-    pub reserved_after: u32,
+    pub reserved_after: u16,
     /// The sections in file order, then zeros.
     pub sections: [Section; MAX_SECTIONS],
 }
@@ -120,12 +122,16 @@ pub struct RollReading {
     /// The answer number, 0 where the roll is accepted.
     pub number: u8,
     /// Always 0.
-    pub reserved: [u8; 7],
+    pub reserved: u8,
+    /// The flags of the image's header, 0 beside a refusal.
+    pub flags: u16,
+    /// Always 0.
+    pub reserved_after: u32,
     /// The index beside a refusal.
     pub index: u64,
     /// Where what is at fault stands, beside a refusal.
     pub position: u64,
-    /// How many records there are, the end record not counted.
+    /// How many records there are, flags record and end record not counted.
     pub count: u64,
     /// The records in order, then zeros.
     pub records: [RollRecord; MAX_SECTIONS],
@@ -234,10 +240,11 @@ const _: () = {
     assert!(size_of::<Section>() == 2 + 2 + 4 + 8 + 8);
     assert!(size_of::<RollRecord>() == 2 + 2 + 4 + 8 + 8);
     assert!(size_of::<Answer>() == 1 + 7 + 8 + 8 + 8);
-    assert!(size_of::<Reading>() == 1 + 1 + 3 * 2 + 4 * 8 + 4 * 4 + MAX_SECTIONS * 24);
+    assert!(size_of::<Reading>() == 1 + 1 + 3 * 2 + 4 * 8 + 3 * 4 + 2 * 2 + MAX_SECTIONS * 24);
     assert!(offset_of!(Reading, position) == 16 && offset_of!(Reading, sections) == 56);
-    assert!(size_of::<RollReading>() == 1 + 7 + 8 + 8 + 8 + MAX_SECTIONS * 24);
-    assert!(offset_of!(RollReading, records) == 32);
+    assert!(offset_of!(Reading, architecture) == 52);
+    assert!(size_of::<RollReading>() == 1 + 1 + 2 + 4 + 8 + 8 + 8 + MAX_SECTIONS * 24);
+    assert!(offset_of!(RollReading, flags) == 2 && offset_of!(RollReading, records) == 32);
     assert!(size_of::<StreamSections>() == 8 + MAX_SECTIONS * 24);
     assert!(align_of::<StreamSections>() == 8 && offset_of!(StreamSections, sections) == 8);
     assert!(size_of::<Sha384>() == 8 * 8 + 128 + 8);
@@ -630,8 +637,8 @@ mod tests {
             let lists = [image, &copy].map(|image| sections(read(image)));
             assert_eq!(bytes_of(&lists[0]), bytes_of(&lists[1]));
         }
-        let mut roll = [0; 30];
-        assert_eq!(roll_write(image, &mut roll).length, 30);
+        let mut roll = [0; 42];
+        assert_eq!(roll_write(image, &mut roll).length, 42);
         let copy = roll.to_vec();
         assert_eq!(bytes_of(&roll_read(&roll)), bytes_of(&roll_read(&copy)));
         let copy = image.to_vec();
@@ -659,10 +666,10 @@ mod tests {
                 assert!(list.iter().all(|s| s.reserved == 0));
             }
         }
-        let mut roll = [0; 30];
+        let mut roll = [0; 42];
         assert_eq!(roll_write(&image, &mut roll).reserved, [0; 7]);
         for reading in [roll_read(&roll), roll_read(&[])] {
-            assert_eq!(reading.reserved, [0; 7]);
+            assert_eq!((reading.reserved, reading.reserved_after), (0, 0));
             let reserved = |r: &RollRecord| (r.reserved, r.reserved_after);
             assert!(reading.records.iter().all(|r| reserved(r) == (0, 0)));
         }

@@ -86,8 +86,8 @@ reasons! {
         "mend the plan";
     16 RecordCut: "roll ends inside a record, or before its end record",
         "fetch the roll again";
-    17 RecordTypeWrong: "roll record of type above 3, or type 0 with a length not 0",
-        "fetch the roll again";
+    17 RecordTypeWrong: "roll does not begin with its flags, or record of type above 3, or type 0 with a length not 0",
+        "fetch the roll again; one that an older eif has written must be written again from its image";
     18 BytesAfterEnd: "bytes after the end record",
         "fetch the roll again";
     19 PastStreamEnd: "stream position past the stream's end",

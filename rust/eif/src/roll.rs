@@ -1,6 +1,6 @@
-//! The boot roll: kernel, command line and ramdisks of an image, in file order.
+//! The boot roll: header flags of an image, then its kernel, command line and ramdisks in file order.
 
-use crate::{raw, DataLength, Refusal, RollPosition, SectionType};
+use crate::{raw, Architecture, DataLength, Refusal, RollPosition, SectionType};
 
 /// A record of an accepted roll.
 #[derive(Clone, Copy, Debug, Default, PartialEq, Eq)]
@@ -13,10 +13,11 @@ pub struct RollRecord {
     pub length: DataLength,
 }
 
-/// An accepted roll: its bytes, borrowed, and the list of its records.
+/// An accepted roll: its bytes, borrowed, its flags and the list of its records.
 #[derive(Clone, Debug)]
 pub struct Roll<'a> {
     bytes: &'a [u8],
+    flags: u16,
     records: Vec<RollRecord>,
 }
 
@@ -71,6 +72,7 @@ pub fn read_roll(roll: &[u8]) -> Result<Roll<'_>, Refusal> {
     let used = reading.records.into_iter().take(reading.count as usize);
     Ok(Roll {
         bytes: roll,
+        flags: reading.flags,
         records: used.map(RollRecord::from).collect(),
     })
 }
@@ -81,7 +83,18 @@ impl<'a> Roll<'a> {
         self.bytes
     }
 
-    /// The records in order, without the end record.
+    /// The flags of the image's header.
+    pub fn flags(&self) -> u16 {
+        self.flags
+    }
+
+    /// The processor that the flags tell.
+    pub fn architecture(&self) -> Architecture {
+        Architecture::of_flags(self.flags)
+    }
+
+    /// The records in order, without flags record and end record. The first of them is record 1 where a
+    /// [`Refusal`] counts them.
     pub fn records(&self) -> &[RollRecord] {
         &self.records
     }

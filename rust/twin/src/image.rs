@@ -40,6 +40,11 @@ pub struct Reading {
 }
 
 impl Reading {
+    /// The lowest bit of the flags: 0 for x86_64, 1 for aarch64.
+    pub fn architecture(&self) -> u16 {
+        self.flags & 1
+    }
+
     /// Bit i is one exactly when section i is a ramdisk.
     pub fn ramdisk_mark(&self) -> u32 {
         let ramdisks = self.sections.iter().map(|s| u32::from(s.kind == RAMDISK));

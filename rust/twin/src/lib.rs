@@ -7,8 +7,8 @@
 //! ```
 //! use eif_twin::{read_roll, Refusal};
 //!
-//! // Ten zero bytes are an end record with nothing before it: kernel and command line are missing.
-//! let refusal = Refusal { number: 12, index: 0, position: 0 };
+//! // Ten zero bytes are an end record with nothing before it: the flags record is missing.
+//! let refusal = Refusal { number: 17, index: 0, position: 0 };
 //! assert_eq!(read_roll(&[0; 10]), Err(refusal));
 //! ```
 #![forbid(unsafe_code)]
@@ -27,7 +27,7 @@ pub use crc32::Crc32;
 pub use image::{read, Reading, Section};
 pub use plan::{plan_length, write, Place, Plan};
 pub use registers::registers;
-pub use roll::{read_roll, roll_length, write_roll, Record};
+pub use roll::{read_roll, roll_length, write_roll, Record, Roll};
 pub use rules::{Refusal, MAX_IMAGE};
 pub use sha384::Sha384;
 pub use stream::{copy_sections, copy_stream, stream_length, stream_sections, Stream};

@@ -48,6 +48,7 @@ fn the_worked_image_is_read() {
         .collect();
     assert_eq!(rows, [(1, 548, 1), (2, 561, 1), (3, 574, 0)]);
     assert_eq!((reading.version, reading.flags), (2, 0));
+    assert_eq!(reading.architecture(), 0);
     assert_eq!((reading.default_mem, reading.default_cpus), (0, 0));
     assert_eq!(reading.ramdisk_mark(), 4);
     assert_eq!(reading.ramdisk_count(), 1);
@@ -84,32 +85,32 @@ fn sums_of_a_plan_do_not_wrap() {
 
 #[test]
 fn the_worked_roll_is_written() {
-    let mut out = [0xaa; 50];
-    assert_eq!(write_roll(&worked_image(), &mut out), Ok(42));
-    assert_eq!(out[..42], WORKED_ROLL);
-    assert_eq!(out[42..], [0xaa; 8]);
+    let mut out = [0xaa; 62];
+    assert_eq!(write_roll(&worked_image(), &mut out), Ok(54));
+    assert_eq!(out[..54], WORKED_ROLL);
+    assert_eq!(out[54..], [0xaa; 8]);
 }
 
 #[test]
 fn lengths() {
     assert_eq!(plan_length(&worked_plan()), Ok(586));
-    assert_eq!(roll_length(&worked_image()), Ok(42));
+    assert_eq!(roll_length(&worked_image()), Ok(54));
 }
 
 #[test]
-fn a_roll_does_not_fit_41_bytes() {
-    let mut out = [0xaa; 41];
+fn a_roll_does_not_fit_53_bytes() {
+    let mut out = [0xaa; 53];
     assert_eq!(write_roll(&worked_image(), &mut out), Err(refused(14, 0)));
-    assert_eq!(out, [0xaa; 41]);
+    assert_eq!(out, [0xaa; 53]);
 }
 
 #[test]
 fn rolls() {
     for case in roll_cases().into_iter().chain(located_rolls()) {
         let answer = read_roll(&case.roll)
-            .map(|records| {
+            .map(|roll| {
                 let row = |r: &Record| (r.kind, r.position as u64, r.length as u64);
-                records.iter().map(row).collect::<Vec<_>>()
+                (roll.flags, roll.records.iter().map(row).collect::<Vec<_>>())
             })
             .map_err(parts);
         assert_eq!(answer, case.answer, "{}", case.name);

@@ -12,8 +12,9 @@ pub const COMMAND: Command = Command {
     help: "\
 usage: eif roll IMAGE [--output FILE] [--force]
 
-Writes the boot roll of an image: its kernel, command line and ramdisks in file
-order, with their lengths and bytes. eif show and eif compare read it.
+Writes the boot roll of an image: its header flags, which tell the processor, then
+its kernel, command line and ramdisks in file order, with their lengths and bytes.
+eif show and eif compare read it.
 
   --output FILE   write to FILE, whole or not at all; otherwise to standard output
   --force         replace FILE if it exists

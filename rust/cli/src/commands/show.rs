@@ -7,7 +7,7 @@ use crate::input::{self, Arrived, Keep};
 use crate::json::{self, Object};
 use crate::status::{Status, Trouble};
 use crate::{objects, output, words};
-use eif::{Reading, RollRecord, Section, SectionType};
+use eif::{Reading, Roll, RollRecord, Section, SectionType};
 use std::ffi::OsStr;
 
 pub const COMMAND: Command = Command {
@@ -18,7 +18,8 @@ usage: eif show [--json] FILE..
 
 Shows each file: of an image its header fields and a row for each section in file
 order (index, type, offset of the section in the file, size of its data); of a
-boot roll a row for each record (index, type, position of its data, size). Of a
+boot roll its flags, which are record 0, and a row for each record after it
+(index, type, position of its data, size). Of a
 file that is refused: the answer number, the index of the section or record, the
 byte at which the fault is, what the number means, what stands at that byte, and
 what to do.
@@ -56,17 +57,16 @@ fn text(arrived: &Arrived, answer: &Answer) -> Vec<u8> {
     let name = &arrived.name;
     match answer {
         Ok(Content::Image(image)) => words::about(name, &image_text(image)),
-        Ok(Content::Roll(roll)) => words::about(name, &roll_text(roll.records())),
+        Ok(Content::Roll(roll)) => words::about(name, &roll_text(roll)),
         Err(neither) => neither.lines(name),
     }
 }
 
 fn image_text(image: &Reading) -> String {
     let mut text = format!(
-        "image\n  version       {}\n  flags         {:#06x} ({})\n  default_mem   {}\n  default_cpus  {}\n",
+        "image\n  version       {}\n  flags         {}\n  default_mem   {}\n  default_cpus  {}\n",
         image.version(),
-        image.flags(),
-        image.architecture(),
+        words::flags(image.flags(), image.architecture()),
         image.default_mem(),
         image.default_cpus(),
     );
@@ -82,9 +82,16 @@ fn image_text(image: &Reading) -> String {
     text
 }
 
-fn roll_text(records: &[RollRecord]) -> String {
-    let mut text = "boot roll\n".to_string() + &row("index", "type", "position", "size");
-    for (index, record) in records.iter().enumerate() {
+/// The records of a roll, each with its index. The flags record is record 0.
+fn numbered<'a>(roll: &'a Roll) -> impl Iterator<Item = (usize, &'a RollRecord)> + 'a {
+    (1..).zip(roll.records())
+}
+
+fn roll_text(roll: &Roll) -> String {
+    let flags = words::flags(roll.flags(), roll.architecture());
+    let mut text = format!("boot roll\n  flags         {flags}\n");
+    text += &row("index", "type", "position", "size");
+    for (index, record) in numbered(roll) {
         text += &row(
             index,
             record.section_type,
@@ -109,9 +116,11 @@ fn object(arrived: &Arrived, answer: &Answer) -> Vec<u8> {
     let object = match answer {
         Ok(Content::Image(image)) => image_object(arrived, image),
         Ok(Content::Roll(roll)) => {
-            let records = roll.records().iter().enumerate();
-            let records = records.map(|(index, record)| record_object(index, record));
-            objects::on_file(name, true).put("records", json::list(records))
+            let records = numbered(roll).map(|(index, record)| record_object(index, record));
+            objects::on_file(name, true)
+                .put("flags", roll.flags())
+                .put("architecture", json::string(roll.architecture().name()))
+                .put("records", json::list(records))
         }
         Err(neither) => objects::refused(name, &neither.image),
     };

@@ -3,20 +3,36 @@
 use super::side::{Record, Side};
 use crate::words;
 
-/// The first record that is not the same on both sides, if there is one.
-pub fn first(a: &Side, b: &Side) -> Option<String> {
-    let most = a.records.len().max(b.records.len());
-    let pairs = (0..most).map(|index| (index, a.records.get(index), b.records.get(index)));
-    for (index, of_a, of_b) in pairs {
-        let Some(what) = between(of_a, of_b) else {
-            continue;
-        };
-        let (of_a, of_b) = (a.has(of_a), b.has(of_b));
-        return Some(format!(
-            "first difference, record {index}: {of_a}; {of_b}: {what}"
-        ));
+/// The flags, which are record 0, and the first other record that are not the same on both sides.
+pub fn rows(a: &Side, b: &Side) -> Vec<String> {
+    let rows = flags(a, b).into_iter().chain(record(a, b));
+    let words = ["first", "next"].into_iter().zip(rows);
+    words
+        .map(|(word, row)| format!("{word} difference, {row}"))
+        .collect()
+}
+
+fn flags(a: &Side, b: &Side) -> Option<String> {
+    if a.flags == b.flags {
+        return None;
     }
-    None
+    let what = if a.architecture == b.architecture {
+        "other flags"
+    } else {
+        "another architecture"
+    };
+    let (of_a, of_b) = (a.has_flags(), b.has_flags());
+    Some(format!("record 0: {of_a}; {of_b}: {what}"))
+}
+
+fn record(a: &Side, b: &Side) -> Option<String> {
+    let most = a.records.len().max(b.records.len());
+    let mut pairs = (0..most).map(|place| (place, a.records.get(place), b.records.get(place)));
+    pairs.find_map(|(place, of_a, of_b)| {
+        let what = between(of_a, of_b)?;
+        let (of_a, of_b) = (a.has(of_a), b.has(of_b));
+        Some(format!("record {}: {of_a}; {of_b}: {what}", place + 1))
+    })
 }
 
 fn between(a: Option<&Record>, b: Option<&Record>) -> Option<String> {

@@ -38,14 +38,15 @@ fn not_compared(a: &Side, b: &Side) -> String {
         [one] => (one.to_string(), "is a roll"),
         _ => (rolls.join(" and "), "are rolls"),
     };
-    format!("{rolls} {verb}: header fields, section flags, metadata and signature are not compared")
+    format!(
+        "{rolls} {verb}: other header fields, section flags, metadata and signature are not compared"
+    )
 }
 
+/// The header fields but the flags, which are part of the roll.
 fn header(a: &Image, b: &Image) -> Vec<String> {
-    let flags = |image: &Image| format!("{:#06x} ({})", image.flags(), image.architecture());
     let fields = [
         ("version", a.version().to_string(), b.version().to_string()),
-        ("flags", flags(a), flags(b)),
         (
             "default_mem",
             a.default_mem().to_string(),

@@ -1,5 +1,5 @@
-//! `eif compare`: do two images, or rolls, hold the same kernel, command line and ramdisks in the same
-//! order?
+//! `eif compare`: are two images, or rolls, for the same processor, and do they hold the same kernel, command
+//! line and ramdisks in the same order?
 //!
 //! They do exactly where their rolls are equal, which is proved of the library. All else here is
 //! words on where they differ.
@@ -26,16 +26,19 @@ pub const COMMAND: Command = Command {
     help: "\
 usage: eif compare A B
 
-Says whether A and B hold the same kernel, command line and ramdisks in the same
-order. Each is an image or a boot roll that eif roll has written. Prints
+Says whether A and B have the same header flags, which tell the processor, and
+hold the same kernel, command line and ramdisks in the same order. Each is an
+image or a boot roll that eif roll has written. Prints
     same boot content
 or
     different boot content
 and then the first difference: which record, of which kind, and whether its kind,
-its length or its bytes differ, and at which byte of the data. Where the ramdisks
-are the same in another order, it says so. What differs elsewhere in two images
-(header fields, section flags, metadata, signature) is listed after that; it is
-not part of the roll. Sections, records and bytes count from 0.
+its length or its bytes differ, and at which byte of the data. Record 0 is the
+flags: where they differ, both processors are named, and the next difference is
+told too. Where the ramdisks are the same in another order, it says so. What
+differs elsewhere in two images (the other header fields, section flags,
+metadata, signature) is listed after that; it is not part of the roll. Sections,
+records and bytes count from 0.
 
 Exit status: 0 same, 1 different or refused, 2 one cannot be read.
 ",
@@ -100,7 +103,7 @@ fn compare(a: (&Arrived, Accepted), b: (&Arrived, Accepted)) -> (Status, Vec<u8>
         (Status::Refused, b"different boot content\n")
     };
     let mut rows = Vec::new();
-    rows.extend(difference::first(&a, &b));
+    rows.extend(difference::rows(&a, &b));
     rows.extend(order::changed(&a, &b));
     rows.extend(elsewhere::rows(&a, &b));
     let mut text = verdict.to_vec();

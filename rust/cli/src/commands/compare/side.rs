@@ -1,7 +1,7 @@
 //! One of the two that are compared.
 
 use crate::words;
-use eif::{Image, Section, SectionType};
+use eif::{Architecture, Image, Section, SectionType};
 
 /// A record of a side's roll.
 pub struct Record<'a> {
@@ -19,6 +19,9 @@ pub struct Side<'a> {
     pub letter: &'static str,
     pub roll: &'a [u8],
     pub image: Option<&'a Image<'a>>,
+    pub flags: u16,
+    pub architecture: Architecture,
+    /// Those after the flags record.
     pub records: Vec<Record<'a>>,
     /// The sections of an image that its roll does not list.
     pub others: Vec<(Section, &'a [u8])>,
@@ -30,21 +33,23 @@ impl<'a> Side<'a> {
             letter,
             roll,
             image,
+            flags: 0,
+            architecture: Architecture::default(),
             records: Vec::new(),
             others: Vec::new(),
         };
         // The library has accepted or written the roll, so it is not refused here.
         if let Ok(list) = eif::read_roll(roll) {
-            let records = list
-                .iter()
-                .enumerate()
-                .map(|(number, (record, data))| Record {
-                    number,
-                    section_type: record.section_type,
-                    data,
-                    section: None,
-                });
+            let records = (1..).zip(list.iter());
+            let records = records.map(|(number, (record, data))| Record {
+                number,
+                section_type: record.section_type,
+                data,
+                section: None,
+            });
             side.records = records.collect();
+            side.flags = list.flags();
+            side.architecture = list.architecture();
         }
         if let Some(image) = image {
             side.find_sections(image);
@@ -71,6 +76,12 @@ impl<'a> Side<'a> {
         let mut others = self.others.iter();
         let found = others.find(|(section, _)| section.section_type == section_type);
         found.copied()
+    }
+
+    /// `A has flags 0x0001 (aarch64)`.
+    pub fn has_flags(&self) -> String {
+        let flags = words::flags(self.flags, self.architecture);
+        format!("{} has flags {flags}", self.letter)
     }
 
     /// `A has section 3 (ramdisk, 96 bytes)`.
