@@ -98,7 +98,7 @@ extern "C" {
 /* Answer numbers (FORMAT.md, Answer numbers). eif_meaning gives their words. */
 enum eif_number {
     EIF_ACCEPTED = 0,
-    EIF_IMAGE_TOO_LONG = 1, /* also of the image that a plan or a roll stands for */
+    EIF_IMAGE_TOO_LONG = 1, /* also of the image that a plan, a roll or a staged base stands for */
     EIF_IMAGE_TOO_SHORT = 2,
     EIF_WRONG_MAGIC = 3,
     EIF_WRONG_VERSION = 4,
@@ -118,6 +118,7 @@ enum eif_number {
     EIF_BYTES_AFTER_END = 18,
     EIF_PAST_STREAM_END = 19,
     EIF_NOT_PACKED = 20, /* index: of the section, or 0 for bytes after the last */
+    EIF_NO_SUCH_SECTION = 27, /* of the section to be replaced, or of the one to be shown */
     EIF_MESSAGE_TOO_LONG = 29
 };
 
@@ -148,6 +149,7 @@ static inline const char *eif_meaning(uint8_t number) {
     case EIF_BYTES_AFTER_END: return "bytes after the end record";
     case EIF_PAST_STREAM_END: return "stream position past the stream's end";
     case EIF_NOT_PACKED: return "section not packed, or bytes after the last section";
+    case EIF_NO_SUCH_SECTION: return "section number at or past the number of sections";
     case EIF_MESSAGE_TOO_LONG: return "message longer than 2,305,843,009,213,693,951 bytes";
     default: return "unknown number";
     }
@@ -348,6 +350,17 @@ typedef struct eif_roll_reading {
     eif_roll_record records[EIF_MAX_SECTIONS]; /* in order, then zeros */
 } eif_roll_reading;
 
+/* Where the data of a section lies, of a base with one section replaced. */
+typedef struct eif_staged_part_answer {
+    uint8_t number;         /* EIF_ACCEPTED, or one of 1 to 13, 20 and 27 */
+    uint8_t in_replacement; /* 1 where the data is the replacement, whole; 0 where it is a part of the base */
+    uint8_t reserved[6];
+    uint64_t index;
+    uint64_t position; /* in the base, of what is at fault */
+    uint64_t start;    /* where the data begins, in the base or, as 0, in the replacement */
+    eif_data_length length;
+} eif_staged_part_answer;
+
 /* Reads an image (FORMAT.md, Reading an image). Refusals: 1 to 13 and 20. */
 EIF_MUST_USE eif_reading eif_read(const uint8_t *image, size_t image_length);
 
@@ -449,6 +462,34 @@ EIF_MUST_USE eif_answer eif_roll_write(const uint8_t *image, size_t image_length
  * cut), 17, 5, 16 (data cut), 10, 11; then 18, 12, 1. A roll that was written before rolls had flags is
  * refused by 17 at 0. */
 EIF_MUST_USE eif_roll_reading eif_roll_read(const uint8_t *roll, size_t roll_length);
+
+/* One section of an accepted base replaced, with no room for a second image (FORMAT.md, Staging). replaced
+ * is the number of the section that the replacement stands for. What each call answers is that of the image
+ * written afresh: the plain image of the base's reading with the replacement in the section's place.
+ * Refusals of all: the base's own; 27 where replaced, or shown, is at or past the number of sections; 1
+ * where the image written afresh would be longer than EIF_MAX_IMAGE_LENGTH.
+ *
+ * Where the data of section shown lies: in the replacement, whole, or from start on in the base. Nothing is
+ * copied. Of the replacement only its size is asked, which can be any number. */
+EIF_MUST_USE eif_staged_part_answer eif_staged_part(const uint8_t *base, size_t base_length,
+                                                    uint64_t replacement_length,
+                                                    uint64_t replaced, uint64_t shown);
+
+/* The roll of the image written afresh, over the start of out, as eif_roll_write writes it, and its length.
+ * A short out is refused by 14, after the others. */
+EIF_MUST_USE eif_answer eif_staged_roll_write(const uint8_t *base, size_t base_length,
+                                              const uint8_t *replacement,
+                                              size_t replacement_length, uint64_t replaced,
+                                              uint8_t *out, size_t out_length);
+EIF_MUST_USE eif_answer eif_staged_roll_length(const uint8_t *base, size_t base_length,
+                                               const uint8_t *replacement,
+                                               size_t replacement_length, uint64_t replaced);
+
+/* The registers of the image written afresh. */
+EIF_MUST_USE eif_registers_answer eif_staged_registers(const uint8_t *base, size_t base_length,
+                                                       const uint8_t *replacement,
+                                                       size_t replacement_length,
+                                                       uint64_t replaced);
 
 #ifdef __cplusplus
 }

@@ -156,7 +156,7 @@ fn twin_roll_reading(answer: &Result<twin::Roll, twin::Refusal>) -> RollReading 
     }
 }
 
-fn twin_registers(answer: Result<[[u8; 48]; 3], twin::Refusal>) -> RegistersAnswer {
+pub(crate) fn twin_registers(answer: Result<[[u8; 48]; 3], twin::Refusal>) -> RegistersAnswer {
     match answer.map_err(twin_parts) {
         Ok(registers) => RegistersAnswer {
             registers: registers.map(Digest),
@@ -186,7 +186,7 @@ fn twin_state(state: raw::Sha384) -> twin::Sha384 {
 
 /// Runs a call with an output three times, by the C interface, the Rust interface and the twin.
 /// Answers the answer number.
-fn compare_output(
+pub(crate) fn compare_output(
     input: &Input,
     what: &str,
     (length, salt): (usize, u8),
@@ -231,7 +231,7 @@ fn compare_c_output(
 }
 
 /// Holds a length to the twin's, by the C interface and the Rust interface. Answers the answer number.
-fn compare_length(
+pub(crate) fn compare_length(
     input: &Input,
     what: &str,
     c: Answer,

@@ -14,6 +14,7 @@ mod plans;
 mod readings;
 mod rng;
 mod rolls;
+mod staged;
 mod tally;
 
 pub use arriving::{compare_arriving, compare_arriving_state, state_of, LENGTHS};
@@ -25,4 +26,5 @@ pub use plans::{accepted_plan, any_plan, PlanInput};
 pub use readings::{any_reading_input, ReadingInput};
 pub use rng::Rng;
 pub use rolls::any_roll;
+pub use staged::{any_staged, compare_staged, compare_staged_part, StagedInput};
 pub use tally::{Call, Tally};

@@ -4,7 +4,7 @@ use std::fmt;
 use std::ops::AddAssign;
 
 /// How many kinds of call there are.
-const CALLS: usize = 12;
+const CALLS: usize = 16;
 
 /// Answer numbers are below this.
 const NUMBERS: usize = 30;
@@ -36,6 +36,14 @@ pub enum Call {
     Registers,
     /// A piece for a digest in progress.
     Update,
+    /// Where a section's data lies, of a base with one section replaced.
+    StagedPart,
+    /// The length of the roll of such a base.
+    StagedRollLength,
+    /// Writing that roll.
+    StagedRollWrite,
+    /// Its registers.
+    StagedRegisters,
 }
 
 impl Call {
@@ -53,6 +61,10 @@ impl Call {
         Call::RollRead,
         Call::Registers,
         Call::Update,
+        Call::StagedPart,
+        Call::StagedRollLength,
+        Call::StagedRollWrite,
+        Call::StagedRegisters,
     ];
 
     /// The numbers that FORMAT.md lets this call answer.
@@ -69,6 +81,10 @@ impl Call {
             Call::RollWrite => image.chain([14]).collect(),
             Call::RollRead => vec![0, 1, 5, 10, 11, 12, 16, 17, 18],
             Call::Update => vec![0, 29],
+            Call::StagedPart | Call::StagedRollLength | Call::StagedRegisters => {
+                image.chain([27]).collect()
+            }
+            Call::StagedRollWrite => image.chain([14, 27]).collect(),
         };
         numbers.sort();
         numbers
@@ -128,12 +144,12 @@ impl fmt::Display for Tally {
     fn fmt(&self, f: &mut fmt::Formatter<'_>) -> fmt::Result {
         write!(f, "{:>6}", "number")?;
         for call in Call::ALL {
-            write!(f, " {:>10}", format!("{call:?}"))?;
+            write!(f, " {:>16}", format!("{call:?}"))?;
         }
         for number in (0..NUMBERS as u8).filter(|&number| self.of_number(number) > 0) {
             write!(f, "\n{number:>6}")?;
             for counts in &self.counts {
-                write!(f, " {:>10}", counts[usize::from(number)])?;
+                write!(f, " {:>16}", counts[usize::from(number)])?;
             }
         }
         Ok(())

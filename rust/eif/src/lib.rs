@@ -14,6 +14,7 @@
 //! | [`registers()`] | registers 0, 1 and 2, as the platform measures the image |
 //! | [`Sha384`] | SHA-384, fed in pieces |
 //! | [`write_roll`], [`roll_length`], [`roll_to_vec`], [`read_roll`] | the boot roll |
+//! | [`staged::section`], [`staged::roll_to_vec`], [`staged::registers`] | the same of an image with one section replaced, and no second image |
 //!
 //! Every call takes any bytes and any numbers. A [`Refusal`] has the first answer number that applies,
 //! in the order that FORMAT.md gives for the call, and says where; then no byte of an output buffer has
@@ -92,6 +93,7 @@ mod refusal;
 mod registers;
 mod roll;
 mod sha384;
+pub mod staged;
 mod stream;
 
 pub use arriving::Arriving;

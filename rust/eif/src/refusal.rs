@@ -94,6 +94,8 @@ reasons! {
         "nothing is wrong with the file; mend the calling program";
     20 NotPacked: "section not packed, or bytes after the last section",
         "do not use it; fetch it again, and if the answer stays, tell the builder";
+    27 NoSuchSection: "section number at or past the number of sections",
+        "nothing is wrong with the file; look the section's number up with eif show";
     29 MessageTooLong: "message longer than 2,305,843,009,213,693,951 bytes",
         "nothing is wrong with the file; mend the calling program";
 }

@@ -21,6 +21,7 @@ mod registers;
 mod roll;
 mod rules;
 mod sha384;
+mod staged;
 mod stream;
 
 pub use crc32::Crc32;
@@ -30,4 +31,5 @@ pub use registers::registers;
 pub use roll::{read_roll, roll_length, write_roll, Record, Roll};
 pub use rules::{Refusal, MAX_IMAGE};
 pub use sha384::Sha384;
+pub use staged::{staged_image, staged_part, staged_registers, write_staged_roll, StagedPart};
 pub use stream::{copy_sections, copy_stream, stream_length, stream_sections, Stream};

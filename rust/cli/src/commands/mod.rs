@@ -1,6 +1,6 @@
 //! The subcommands, each in a file of its own.
 //!
-//! A new one (signature, assemble, stage) is a file here and a row in the table. A stricter
+//! A new one (signature, assemble) is a file here and a row in the table. A stricter
 //! reading is a flag `--strict` of `show` and `check`.
 
 use crate::args::{Args, Options};
@@ -13,6 +13,7 @@ mod pack;
 mod registers;
 mod roll;
 mod show;
+mod stage;
 mod stream;
 
 /// A subcommand.
@@ -27,12 +28,13 @@ pub struct Command {
 }
 
 /// All of them, in the order of the overview.
-pub const COMMANDS: [Command; 8] = [
+pub const COMMANDS: [Command; 9] = [
     show::COMMAND,
     check::COMMAND,
     compare::COMMAND,
     registers::COMMAND,
     roll::COMMAND,
+    stage::COMMAND,
     pack::COMMAND,
     extract::COMMAND,
     stream::COMMAND,
