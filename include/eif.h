@@ -107,7 +107,7 @@ extern "C" {
 /* Answer numbers (FORMAT.md, Answer numbers). eif_meaning gives their words. */
 enum eif_number {
     EIF_ACCEPTED = 0,
-    EIF_IMAGE_TOO_LONG = 1, /* also of the image that a plan or a roll stands for */
+    EIF_IMAGE_TOO_LONG = 1, /* also of the image that a plan, a roll or a staged base stands for */
     EIF_IMAGE_TOO_SHORT = 2,
     EIF_WRONG_MAGIC = 3,
     EIF_WRONG_VERSION = 4,
@@ -129,6 +129,7 @@ enum eif_number {
     EIF_NOT_PACKED = 20, /* index: of the section, or 0 for bytes after the last */
     EIF_METADATA_NOT_JSON = 21, /* of eif_read_strict alone */
     EIF_NOT_SIGN1 = 28, /* also of a claim or a signature that cannot be written */
+    EIF_NO_SUCH_SECTION = 27, /* of the section to be replaced, or of the one to be shown */
     EIF_MESSAGE_TOO_LONG = 29
 };
 
@@ -161,6 +162,7 @@ static inline const char *eif_meaning(uint8_t number) {
     case EIF_NOT_PACKED: return "section not packed, or bytes after the last section";
     case EIF_METADATA_NOT_JSON: return "metadata is not one JSON text";
     case EIF_NOT_SIGN1: return "not one COSE_Sign1 of the accepted form";
+    case EIF_NO_SUCH_SECTION: return "section number at or past the number of sections";
     case EIF_MESSAGE_TOO_LONG: return "message longer than 2,305,843,009,213,693,951 bytes";
     default: return "unknown number";
     }
@@ -400,6 +402,17 @@ typedef struct eif_sign1_reading {
     eif_data_length signature_length;
 } eif_sign1_reading;
 
+/* Where the data of a section lies, of a base with one section replaced. */
+typedef struct eif_staged_part_answer {
+    uint8_t number;         /* EIF_ACCEPTED, or one of 1 to 13, 20 and 27 */
+    uint8_t in_replacement; /* 1 where the data is the replacement, whole; 0 where it is a part of the base */
+    uint8_t reserved[6];
+    uint64_t index;
+    uint64_t position; /* in the base, of what is at fault */
+    uint64_t start;    /* where the data begins, in the base or, as 0, in the replacement */
+    eif_data_length length;
+} eif_staged_part_answer;
+
 /* Reads an image (FORMAT.md, Reading an image). Refusals: 1 to 13 and 20. */
 EIF_MUST_USE eif_reading eif_read(const uint8_t *image, size_t image_length);
 
@@ -520,6 +533,34 @@ EIF_MUST_USE eif_sign1_reading eif_sign1_read(const uint8_t *bytes, size_t bytes
  * length; then 14. */
 EIF_MUST_USE eif_answer eif_sign1_write(eif_sign1_claim claim, const uint8_t *signature,
                                         size_t signature_length, uint8_t *out, size_t out_length);
+
+/* One section of an accepted base replaced, with no room for a second image (FORMAT.md, Staging). replaced
+ * is the number of the section that the replacement stands for. What each call answers is that of the image
+ * written afresh: the plain image of the base's reading with the replacement in the section's place.
+ * Refusals of all: the base's own; 27 where replaced, or shown, is at or past the number of sections; 1
+ * where the image written afresh would be longer than EIF_MAX_IMAGE_LENGTH.
+ *
+ * Where the data of section shown lies: in the replacement, whole, or from start on in the base. Nothing is
+ * copied. Of the replacement only its size is asked, which can be any number. */
+EIF_MUST_USE eif_staged_part_answer eif_staged_part(const uint8_t *base, size_t base_length,
+                                                    uint64_t replacement_length,
+                                                    uint64_t replaced, uint64_t shown);
+
+/* The roll of the image written afresh, over the start of out, as eif_roll_write writes it, and its length.
+ * A short out is refused by 14, after the others. */
+EIF_MUST_USE eif_answer eif_staged_roll_write(const uint8_t *base, size_t base_length,
+                                              const uint8_t *replacement,
+                                              size_t replacement_length, uint64_t replaced,
+                                              uint8_t *out, size_t out_length);
+EIF_MUST_USE eif_answer eif_staged_roll_length(const uint8_t *base, size_t base_length,
+                                               const uint8_t *replacement,
+                                               size_t replacement_length, uint64_t replaced);
+
+/* The registers of the image written afresh. */
+EIF_MUST_USE eif_registers_answer eif_staged_registers(const uint8_t *base, size_t base_length,
+                                                       const uint8_t *replacement,
+                                                       size_t replacement_length,
+                                                       uint64_t replaced);
 
 #ifdef __cplusplus
 }

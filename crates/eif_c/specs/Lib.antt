@@ -5,3 +5,4 @@ pub mod Arrival
 pub mod Strict
 pub mod Signature
 pub mod Assembly
+pub mod Staging

@@ -9,6 +9,7 @@ mod measure;
 mod sections;
 mod strict;
 mod signature;
+mod staging;
 
 ghost use mathlib.Core.Path.{_≡_};
 ghost use mathlib.Core.List.{map};

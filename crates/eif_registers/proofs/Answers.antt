@@ -1,12 +1,13 @@
 -- The registers of an accepted image by the step over its reading; and the answers.
 -- Assumes nothing.
-use Prim.Native.Nat.{ℕ}
+use Prim.Native.Nat.{ℕ, _≤_}
 use mathlib.Core.Path.{_≡_, refl, sym, ap, ap₂, _∙_}
 use mathlib.Core.List.{List, [], _∷_, _++_}
+use native.Mathlib.Omega.{arith}
 use lib.ListN.{length, replicate}
 use Rattle.eif.specs.Numbers.{placeCount}
 use Rattle.eif.specs.Layout.{viewOf, countOf}
-use Rattle.eif.specs.Reading.{verdictOf, sectionsOf, sectionAt, blankSection, readImage}
+use Rattle.eif.specs.Reading.{verdictOf, sectionsOf, sectionAt, blankSection, dataOf, readImage}
 use Rattle.eif.specs.Stream.{streamSections, streamOf, joined}
 use Rattle.eif.specs.declared.Reading.{Reading}
 use Rattle.eif.specs.declared.Section.{Section}
@@ -20,6 +21,7 @@ use Rattle.eif_laws.proofs.FirstApplies.{read-first}
 use Rattle.eif_rules.proofs.Table.{length-filled}
 use Rattle.eif_rules.proofs.Accept.{passes}
 use Rattle.eif_rules.proofs.Reading.{reading-accepted}
+use Rattle.staged.proofs.Same.{joined-in}
 use Rattle.sha384_block.specs.Fips.{sha384}
 use Rattle.sha384.specs.State.{finished, fresh}
 use Rattle.eif_registers.specs.Rule.{registerFrom, registerOf, imageRegisters, noRegisters, asDigests, registersFor, registersAnswer, hashed, stepRegister, stepRegisters}
@@ -37,12 +39,16 @@ module _ (s : List ℕ) where
   registers-first = read-first s
 
   module _ (ok : verdictOf s ≡ Accepted) where
-    register-is : (stream : Stream) → stepRegister s (sectionsOf s) stream ≡ registerOf s stream
+    register-is : (stream : Stream) → stepRegister (dataOf s) (sectionsOf s) stream ≡ registerOf s stream
     unfolding stepRegister registerOf streamOf
     register-is stream =
-        ap registerFrom (digest-joined s (streamSections stream (sectionsOf s)) (stream-fits s stream (sectionsOf s) (passes s ok .head .small) (length-filled (sectionAt s) blankSection placeCount (countOf s))))
+        let l = streamSections stream (sectionsOf s) in
+        let e = joined-in s l in
+        let n = ap length e in
+        let h = stream-fits s stream (sectionsOf s) (passes s ok .head .small) (length-filled (sectionAt s) blankSection placeCount (countOf s)) in
+        ap registerFrom (digest-joined (dataOf s) l (omega arith) ∙ ap sha384 e)
 
-    registers-are : stepRegisters s (sectionsOf s) ≡ imageRegisters s
+    registers-are : stepRegisters (dataOf s) (sectionsOf s) ≡ imageRegisters s
     unfolding stepRegisters imageRegisters
     registers-are = rw (register-is Whole, register-is Boot, register-is App)
 
@@ -51,8 +57,8 @@ module _ (s : List ℕ) where
     answer-accepted = simp ok
 
     -- the step over the image's own reading
-    pub step-is : (r : Reading) → r ≡ readImage s → stepRegisters s (r .sections) ≡ imageRegisters s
-    step-is r is = ap (λ (x : Reading). stepRegisters s (x .sections)) (is ∙ reading-accepted s ok) ∙ registers-are
+    pub step-is : (r : Reading) → r ≡ readImage s → stepRegisters (dataOf s) (r .sections) ≡ imageRegisters s
+    step-is r is = ap (λ (x : Reading). stepRegisters (dataOf s) (x .sections)) (is ∙ reading-accepted s ok) ∙ registers-are
 
 -- three, one by one
 pub three : {A : Type 0} {x y z x₁ y₁ z₁ : A} → x ≡ x₁ → y ≡ y₁ → z ≡ z₁ → _≡_ {A = List A} (x ∷ y ∷ z ∷ []) (x₁ ∷ y₁ ∷ z₁ ∷ [])

@@ -1,10 +1,10 @@
--- The three registers of an image (FORMAT.md, Registers), and those of any sections of any bytes.
+-- The three registers of an image (FORMAT.md, Registers), of a staged view, and of any sections.
 -- Assumes nothing.
 use Prim.Native.Nat.{ℕ}
 use mathlib.Core.List.{List, [], _∷_, _++_}
-use lib.ListN.{replicate}
+use lib.ListN.{length, replicate}
 use Rattle.eif.specs.Answers.{beside}
-use Rattle.eif.specs.Reading.{dataOf, verdictOf}
+use Rattle.eif.specs.Reading.{verdictOf}
 use Rattle.eif.specs.Stream.{streamSections, streamOf}
 use Rattle.eif.specs.declared.Section.{Section}
 use Rattle.eif.specs.declared.Stream.{Stream}
@@ -13,6 +13,7 @@ use Rattle.eif.specs.declared.Verdict.{Verdict}
 use Rattle.sha384_block.specs.Fips.{sha384}
 use Rattle.sha384.specs.State.{fresh, updated, finished}
 use Rattle.sha384.specs.declared.State.{State}
+use Rattle.staged.specs.Staged.{stagedVerdict, afresh}
 use Rattle.eif_registers.specs.declared.Digest.{Digest}
 use Rattle.eif_registers.specs.declared.Measurement.{Measurement}
 
@@ -45,15 +46,22 @@ registersFor verdict registers = record { verdict = verdict; registers = asDiges
 unfoldable pub registersAnswer : List ℕ → Measurement
 registersAnswer s = registersFor (verdictOf s) (beside (verdictOf s) (imageRegisters s) noRegisters)
 
--- ---- the step over an image already read, for any sections and any bytes, also where these are not of one image
+-- ---- the staged view: the registers of the image written afresh with the replacement, or the refusal and all zero
+
+unfoldable pub stagedRegisters : List ℕ → List ℕ → ℕ → Measurement
+stagedRegisters s r k =
+    let verdict = stagedVerdict s (length r) k k in
+    registersFor verdict (beside verdict (imageRegisters (afresh s r k)) noRegisters)
+
+-- ---- the step over sections already found, for any sections and whatever their data is, also where these are not of one image
 
 -- the state after the data of sections, one piece each
-unfoldable pub hashed : List ℕ → State → List Section → State
-hashed s st [] = st
-hashed s st (x ∷ xs) = hashed s (updated st (dataOf s x) .state) xs
+unfoldable pub hashed : (Section → List ℕ) → State → List Section → State
+hashed held st [] = st
+hashed held st (x ∷ xs) = hashed held (updated st (held x) .state) xs
 
-unfoldable pub stepRegister : List ℕ → List Section → Stream → List ℕ
-stepRegister s l stream = registerFrom (finished (hashed s fresh (streamSections stream l)))
+unfoldable pub stepRegister : (Section → List ℕ) → List Section → Stream → List ℕ
+stepRegister held l stream = registerFrom (finished (hashed held fresh (streamSections stream l)))
 
-unfoldable pub stepRegisters : List ℕ → List Section → List (List ℕ)
-stepRegisters s l = stepRegister s l Whole ∷ stepRegister s l Boot ∷ stepRegister s l App ∷ []
+unfoldable pub stepRegisters : (Section → List ℕ) → List Section → List (List ℕ)
+stepRegisters held l = stepRegister held l Whole ∷ stepRegister held l Boot ∷ stepRegister held l App ∷ []

@@ -2,7 +2,7 @@
 // stream's SHA-384.
 //
 // The streams are hashed where they lie in the image, section by section, with no copy. Where Whole and Boot begin alike, that is hashed
-// once for both.
+// once for both. Of a staged view a section lies in the base or in the replacement; with nothing replaced the view is the image.
 ghost use mathlib.Core.Path.{_≡_};
 ghost use mathlib.Core.Bool.{true};
 ghost use Prim.Native.Nat.{_≤_, min};
@@ -10,7 +10,9 @@ ghost use lib.ListN.{take};
 ghost use lib.Seq.{slice};
 ghost use Rattle.eif.specs.Numbers.{placeCount};
 ghost use Rattle.sha384.specs.State.{fresh, finished};
-ghost use Rattle.eif_registers.specs.Rule.{registerFrom, hashed, stepRegisters, registersAnswer};
+ghost use Rattle.eif.specs.Reading.{dataOf};
+ghost use Rattle.staged.specs.View.{heldBy};
+ghost use Rattle.eif_registers.specs.Rule.{registerFrom, hashed, stepRegisters, registersAnswer, stagedRegisters};
 use eif::PLACES;
 use eif::Reading;
 use eif::Section;
@@ -37,21 +39,22 @@ fn lesser(a: u64, b: u64) -> u64
 // ---- hashing sections where they lie
 
 // The state after the data of the sections from a place up to another.
-fn take_sections(
+fn take_sections<'a>(
     state: State,
-    image: &[u8],
+    base: &'a [u8],
+    replacement: &'a [u8],
     sections: [Section; PLACES],
     from: usize,
     to: usize,
 ) -> State
     requires { ⌜ (from ≤ to) × (to ≤ placeCount) ⌝ }
-    ensures { λ r. ⌜ r ≡ hashed (now (image .entry)) state (slice from to sections) ⌝ }
+    ensures { λ r. ⌜ r ≡ hashed (heldBy (now (base .entry)) (now (replacement .entry))) state (slice from to sections) ⌝ }
 {
     let mut st = state;
     let mut i = from;
     while i < to {
         let section = sections[i];
-        let updated = sha384::update(st, eif_streams::section_data(image, section));
+        let updated = sha384::update(st, staged_view::held(base, replacement, section));
         let next = updated.state;
         st = next;
         i += 1;
@@ -97,17 +100,22 @@ struct States {
 }
 
 // The states of Whole and Boot. What their sections begin with alike is hashed once: a state is a value, and may be gone on from.
-fn hash_both(image: &[u8], whole: StreamSections, boot: StreamSections) -> States
+fn hash_both<'a>(
+    base: &'a [u8],
+    replacement: &'a [u8],
+    whole: StreamSections,
+    boot: StreamSections,
+) -> States
     requires { ⌜ (whole .count ≤ placeCount) × (boot .count ≤ placeCount) ⌝ }
-    ensures { λ r. ⌜ r .whole ≡ hashed (now (image .entry)) fresh (take (whole .count) (whole .sections)) ⌝ }
-    ensures { λ r. ⌜ r .boot ≡ hashed (now (image .entry)) fresh (take (boot .count) (boot .sections)) ⌝ }
+    ensures { λ r. ⌜ r .whole ≡ hashed (heldBy (now (base .entry)) (now (replacement .entry))) fresh (take (whole .count) (whole .sections)) ⌝ }
+    ensures { λ r. ⌜ r .boot ≡ hashed (heldBy (now (base .entry)) (now (replacement .entry))) fresh (take (boot .count) (boot .sections)) ⌝ }
 {
     let a = whole.sections;
     let b = boot.sections;
     let shared = alike(a, b, lesser(whole.count, boot.count) as usize);
-    let start = take_sections(sha384::new(), image, a, 0, shared);
-    let whole_end = take_sections(start, image, a, shared, whole.count as usize);
-    let boot_end = take_sections(start, image, b, shared, boot.count as usize);
+    let start = take_sections(sha384::new(), base, replacement, a, 0, shared);
+    let whole_end = take_sections(start, base, replacement, a, shared, whole.count as usize);
+    let boot_end = take_sections(start, base, replacement, b, shared, boot.count as usize);
     States {
         whole: whole_end,
         boot: boot_end,
@@ -128,23 +136,37 @@ fn register(state: State) -> [u8; 48]
     sha384::finish(last)
 }
 
-// The registers 0, 1 and 2 from an image already read.
-pub fn step(image: &[u8], reading: Reading) -> [[u8; 48]; 3]
-    ensures { λ r. ⌜ r ≡ stepRegisters (now (image .entry)) (reading .sections) ⌝ }
+// The registers 0, 1 and 2 of sections of a base, or of a replacement.
+fn step_over<'a>(base: &'a [u8], replacement: &'a [u8], all: [Section; PLACES]) -> [[u8; 48]; 3]
+    ensures { λ r. ⌜ r ≡ stepRegisters (heldBy (now (base .entry)) (now (replacement .entry))) all ⌝ }
 {
-    let all = reading.sections;
     let whole = eif_streams::sections(all, Stream::Whole);
     let boot = eif_streams::sections(all, Stream::Boot);
     let app = eif_streams::sections(all, Stream::App);
-    let both = hash_both(image, whole, boot);
+    let both = hash_both(base, replacement, whole, boot);
     let others = app.sections;
-    let app_end = take_sections(sha384::new(), image, others, 0, app.count as usize);
+    let app_end = take_sections(
+        sha384::new(),
+        base,
+        replacement,
+        others,
+        0,
+        app.count as usize,
+    );
     let whole_end = both.whole;
     let boot_end = both.boot;
     let zeroth = register(whole_end);
     let first = register(boot_end);
     let second = register(app_end);
     [zeroth, first, second]
+}
+
+// The registers 0, 1 and 2 from an image already read.
+pub fn step(image: &[u8], reading: Reading) -> [[u8; 48]; 3]
+    ensures { λ r. ⌜ r ≡ stepRegisters (dataOf (now (image .entry))) (reading .sections) ⌝ }
+{
+    let all = reading.sections;
+    step_over(image, &image[..0], all)
 }
 
 // The registers of an image; or its refusal, and all zero.
@@ -161,6 +183,30 @@ pub fn registers(image: &[u8]) -> Measurement
         };
     };
     let all = step(image, reading);
+    let zeroth = all[0];
+    let first = all[1];
+    let second = all[2];
+    Measurement {
+        verdict,
+        registers: [Digest(zeroth), Digest(first), Digest(second)],
+    }
+}
+
+// The registers of the image written afresh with a replacement for one section, from where the data lies; or the refusal, and all zero.
+pub fn registers_staged<'a>(base: &'a [u8], replacement: &'a [u8], replaced: u64) -> Measurement
+    ensures { λ r. ⌜ r ≡ stagedRegisters (now (base .entry)) (now (replacement .entry)) replaced ⌝ }
+{
+    let view = staged_view::judge(base, replacement.len() as u64, replaced, replaced);
+    let verdict = view.verdict;
+    let Verdict::Accepted = verdict else {
+        let none = [0u8; 48];
+        return Measurement {
+            verdict,
+            registers: [Digest(none), Digest(none), Digest(none)],
+        };
+    };
+    let sections = view.sections;
+    let all = step_over(base, replacement, sections);
     let zeroth = all[0];
     let first = all[1];
     let second = all[2];

@@ -1,47 +1,67 @@
 -- What the reading of an accepted image says of its roll: its sections lie in the image, and its flags and the roll of them are the
--- image's.
+-- image's. An image is the staged view with nothing replaced.
 -- Assumes nothing.
 use Prim.Native.Nat.{ℕ, _+_, _≤_}
 use mathlib.Core.Path.{_≡_, sym, ap, ap₂, _∙_}
-use mathlib.Core.List.{List}
+use mathlib.Core.List.{List, [], _++_}
+use native.Mathlib.Omega.{arith}
 use lib.ListN.{length}
-use Rattle.octets.specs.Over.{over}
-use Rattle.eif.specs.Layout.{headerFlagsOf}
-use Rattle.eif.specs.Reading.{verdictOf, sectionsOf, readImage}
-use Rattle.eif.specs.Roll.{flagsRecordSize, flagsRecord, rollBytes}
+use Rattle.eif.specs.Numbers.{sizeLimit, placeCount}
+use Rattle.eif.specs.Layout.{headerFlagsOf, countOf}
+use Rattle.eif.specs.Reading.{verdictOf, blankSection, sectionAt, sectionsOf, dataOf, readImage}
+use Rattle.eif.specs.Roll.{flagsRecordSize, flagsRecord, rollOf, recordsOf, rollBytes}
 use Rattle.eif.specs.declared.Reading.{Reading}
 use Rattle.eif.specs.declared.Section.{Section}
 use Rattle.eif.specs.declared.Verdict.the-variants.{Accepted}
 use Rattle.eif_rules.proofs.Reading.{reading-verdict, reading-accepted}
-use Rattle.eif_rules.proofs.Table.{All}
-use Rattle.eif_rules.proofs.Accept.{Inside, sections-inside}
-use Rattle.roll_writer.specs.Write.{rollFor, sizeFor, sizeBound}
-use Rattle.roll_writer.proofs.Steps.{roll-is, size-is, size-bounded}
+use Rattle.eif_rules.proofs.Table.{All, all-filled, length-filled}
+use Rattle.eif_rules.proofs.Accept.{Inside, length-data, passes}
+use Rattle.plain_laws.proofs.WriteBack.{entry}
+use Rattle.staged.specs.View.{Holds, heldBy}
+use Rattle.staged.proofs.Same.{recordsBy, records-in}
+use Rattle.staged.proofs.Held.{held-alone}
+use Rattle.roll_writer.specs.Write.{sizeFor, sizeBound, sectionsRoll}
+use Rattle.roll_writer.proofs.Steps.{sections-roll, size-is, size-bounded}
 
 module _ (s : List ℕ) (r : Reading) (is : r ≡ readImage s) where
   pub verdict-is : r .verdict ≡ verdictOf s
   verdict-is = ap (λ (x : Reading). x .verdict) is ∙ reading-verdict s
 
   module _ (told : r .verdict ≡ Accepted) where
-    pub accepted : verdictOf s ≡ Accepted
-    accepted = sym verdict-is ∙ told
+    pub ok : verdictOf s ≡ Accepted
+    ok = sym verdict-is ∙ told
 
     sections-are : r .sections ≡ sectionsOf s
-    sections-are = ap (λ (x : Reading). x .sections) (is ∙ reading-accepted s accepted)
-
-    pub inside : All (Inside s) (r .sections)
-    inside = rw sections-are (sections-inside s accepted)
+    sections-are = ap (λ (x : Reading). x .sections) (is ∙ reading-accepted s ok)
 
     flags-are : r .flags ≡ headerFlagsOf s
-    flags-are = ap (λ (x : Reading). x .flags) (is ∙ reading-accepted s accepted)
+    flags-are = ap (λ (x : Reading). x .flags) (is ∙ reading-accepted s ok)
 
-    -- the flags record and then the rest, over a buffer
-    pub bytes-are : (d : List ℕ) → over (over d 0 (flagsRecord (r .flags))) flagsRecordSize (rollFor s (r .sections)) ≡ over d 0 (rollBytes s)
-    bytes-are d =
-        ap₂ (λ (f : ℕ) (l : List Section). over (over d 0 (flagsRecord f)) flagsRecordSize (rollFor s l)) flags-are sections-are ∙ roll-is s accepted d
+    held-length : (x : Section) → Inside s x → Holds (heldBy s []) x
+    held-length x h = ap length (held-alone s x) ∙ length-data s x h
 
-    pub length-is : (n : ℕ) → n ≡ sizeFor (r .sections) → flagsRecordSize + n ≡ length (rollBytes s)
-    length-is n e = ap (λ (m : ℕ). flagsRecordSize + m) (e ∙ ap sizeFor sections-are) ∙ size-is s accepted
+    pub holds : All (Holds (heldBy s [])) (r .sections)
+    holds =
+        rw sections-are
+        (all-filled (Holds (heldBy s [])) (sectionAt s) blankSection placeCount (countOf s) (held-length blankSection (omega arith))
+        (λ i h. held-length (sectionAt s i) (entry s ok i h .ends)))
 
     pub bounded : sizeFor (r .sections) ≤ sizeBound
-    bounded = rw sections-are (size-bounded s accepted)
+    bounded =
+        rw sections-are
+        (size-bounded (sectionsOf s) (length-filled (sectionAt s) blankSection placeCount (countOf s))
+        (all-filled (λ (x : Section). x .length .0 ≤ sizeLimit) (sectionAt s) blankSection placeCount (countOf s) (omega arith)
+        (λ i h. let q = entry s ok i h .ends in let m = passes s ok .head .small in omega arith)))
+
+    -- the roll of the reading is the image's
+    pub roll-is : sectionsRoll (r .flags) (heldBy s []) (r .sections) ≡ rollBytes s
+    unfolding rollBytes
+    roll-is =
+        sections-roll (heldBy s []) (r .flags) (r .sections) holds
+        ∙ ap₂ (λ (f : ℕ) (l : List Section). flagsRecord f ++ rollOf (recordsBy (heldBy s []) l)) flags-are sections-are
+        ∙ ap (λ (held : Section → List ℕ). flagsRecord (headerFlagsOf s) ++ rollOf (recordsBy held (sectionsOf s))) (λ t x. held-alone s x t)
+        ∙ ap (λ l. flagsRecord (headerFlagsOf s) ++ rollOf l) (records-in s (sectionsOf s))
+
+    pub length-is : (n : ℕ) → n ≡ sizeFor (r .sections) → flagsRecordSize + n ≡ length (rollBytes s)
+    length-is n e =
+        ap (λ (m : ℕ). flagsRecordSize + m) e ∙ size-is (heldBy s []) (r .flags) (r .sections) holds ∙ ap length roll-is

@@ -1,30 +1,53 @@
--- The roll of a list of sections, as the writer goes through the list.
+-- The roll of a list of sections, as the writer goes through the list. What a section's data is, is given by a function: that of an image,
+-- or of a base and a replacement.
 -- Assumes nothing.
 use Prim.Native.Nat.{ℕ, _+_, _*_}
 use mathlib.Core.List.{List, [], _∷_, _++_}
-use Rattle.eif.specs.Numbers.{sizeLimit, placeCount}
+use lib.Dec.{ltb}
+use lib.ListN.{length}
+use Rattle.eif.specs.Numbers.{sizeLimit, placeCount, outputTooShort}
 use Rattle.eif.specs.Logic.{choose}
-use Rattle.eif.specs.Reading.{dataOf}
-use Rattle.eif.specs.Roll.{recordHeadSize, headOf, endType, inRoll}
+use Rattle.eif.specs.Answers.{refuse}
+use Rattle.eif.specs.Output.{outputFor}
+use Rattle.eif.specs.Plan.{writtenFor}
+use Rattle.eif.specs.Roll.{recordHeadSize, headOf, flagsRecord, endType, inRoll}
 use Rattle.eif.specs.declared.Section.{Section}
+use Rattle.eif.specs.declared.Verdict.{Verdict}
+use Rattle.eif.specs.declared.Verdict.the-variants.{Accepted}
+use Rattle.eif.specs.declared.Written.{Written}
 
 -- a section's record, or no bytes where a roll leaves its type out
-unfoldable pub partOf : List ℕ → Section → List ℕ
-partOf s x = choose (inRoll (x .kind)) (headOf (x .length .0) (x .kind) ++ dataOf s x) []
+unfoldable pub partOf : (Section → List ℕ) → Section → List ℕ
+partOf held x = choose (inRoll (x .kind)) (headOf (x .length .0) (x .kind) ++ held x) []
 
--- how long that is where the data lies in the image
+-- how long that is where the data is as long as the section says
 unfoldable pub partSize : Section → ℕ
 partSize x = choose (inRoll (x .kind)) (recordHeadSize + x .length .0) 0
 
 -- the records in file order, and the end record
-unfoldable pub rollFor : List ℕ → List Section → List ℕ
-rollFor s [] = headOf 0 endType
-rollFor s (x ∷ xs) = partOf s x ++ rollFor s xs
+unfoldable pub rollFor : (Section → List ℕ) → List Section → List ℕ
+rollFor held [] = headOf 0 endType
+rollFor held (x ∷ xs) = partOf held x ++ rollFor held xs
 
 unfoldable pub sizeFor : List Section → ℕ
 sizeFor [] = recordHeadSize
 sizeFor (x ∷ xs) = partSize x + sizeFor xs
 
--- no more than that, for sections that lie in an image: so no sum of sizes wraps
+-- no more than that, for sections no longer than an image: so no sum of sizes wraps
 abbrev pub sizeBound : ℕ
 sizeBound = placeCount * (recordHeadSize + sizeLimit) + recordHeadSize
+
+-- the whole roll, with flags
+unfoldable pub sectionsRoll : ℕ → (Section → List ℕ) → List Section → List ℕ
+sectionsRoll flags held l = flagsRecord flags ++ rollFor held l
+
+-- ---- a roll into so much room: 14, or its length and bytes
+
+abbrev pub roomVerdict : ℕ → List ℕ → Verdict
+roomVerdict room roll = choose (ltb room (length roll)) (refuse outputTooShort 0) Accepted
+
+unfoldable pub roomAnswer : ℕ → List ℕ → Written
+roomAnswer room roll = writtenFor (roomVerdict room roll) (length roll)
+
+unfoldable pub roomOutput : List ℕ → List ℕ → List ℕ
+roomOutput roll d = outputFor (roomVerdict (length d) roll) roll d

@@ -1,15 +1,17 @@
 // Writing the boot roll of an image: the header's flags, a record for each kernel, command line and ramdisk in file order, and the end record.
 //
 // The image is read first, and a refusal of it is handed on. Then the roll is measured before a byte of it is written, so that a
-// buffer that is too short stays as it was.
+// buffer that is too short stays as it was. Of a staged view a section lies in the base or in the replacement; with nothing replaced the
+// view is the image.
 ghost use mathlib.Core.Path.{_≡_};
 ghost use Prim.Native.Nat.{_+_, _≤_};
 ghost use lib.ListN.{length};
 ghost use Rattle.octets.specs.Over.{over};
 ghost use Rattle.eif.specs.Roll.{recordHeadSize, flagsRecordSize, headOf, flagsRecord, inRoll, rollAnswer, rollOutput, rollLength};
 ghost use Rattle.eif_rules.proofs.Table.{All};
-ghost use Rattle.eif_rules.proofs.Accept.{Inside};
-ghost use Rattle.roll_writer.specs.Write.{partOf, partSize, rollFor, sizeFor, sizeBound};
+ghost use Rattle.staged.specs.Staged.{stagedRollAnswer, stagedRollOutput, stagedRollLength};
+ghost use Rattle.staged.specs.View.{Holds, heldBy};
+ghost use Rattle.roll_writer.specs.Write.{partOf, partSize, rollFor, sizeFor, sizeBound, sectionsRoll, roomAnswer, roomOutput};
 use eif::FlagsRecord;
 use eif::PLACES;
 use eif::RecordHead;
@@ -74,38 +76,77 @@ fn put_flags(out: &mut [u8], flags: u16)
     octets::put_le16(out, RecordHead::SIZE, flags);
 }
 
-// The record of a section of an image, or nothing where a roll leaves it out. Where it ends is handed back.
-fn put_record(out: &mut [u8], at: usize, image: &[u8], x: Section) -> usize
-    requires { ⌜ (at + partSize x ≤ length (now out)) × Inside (now image) x ⌝ }
+// The record of a section, or nothing where a roll leaves it out. Where it ends is handed back.
+fn put_record<'a>(
+    out: &mut [u8],
+    at: usize,
+    base: &'a [u8],
+    replacement: &'a [u8],
+    x: Section,
+) -> usize
+    requires { ⌜ (at + partSize x ≤ length (now out)) × Holds (heldBy (now base) (now replacement)) x ⌝ }
     ensures { λ r. ⌜ r ≡ at + partSize x ⌝ }
-    ensures { λ _. ⌜ now (out .exit) ≡ over (now (out .entry)) at (partOf (now (image .entry)) x) ⌝ }
+    ensures { λ _. ⌜ now (out .exit) ≡ over (now (out .entry)) at (partOf (heldBy (now (base .entry)) (now (replacement .entry))) x) ⌝ }
 {
     if in_roll(x.kind) {
-        let from = x.position.0 as usize;
         let count = x.length.0 as usize;
         put_head(out, at, x.length.0, x.kind);
-        octets::copy(out, at + RecordHead::SIZE, &image[from..from + count]);
+        octets::copy(
+            out,
+            at + RecordHead::SIZE,
+            staged_view::held(base, replacement, x),
+        );
         at + RecordHead::SIZE + count
     } else {
         at
     }
 }
 
-// The roll of sections of an image, over what follows the flags record.
-fn put_roll(out: &mut [u8], image: &[u8], sections: [Section; PLACES])
-    requires { ⌜ All (Inside (now image)) sections ⌝ }
+// The roll of sections, over what follows the flags record.
+fn put_roll<'a>(out: &mut [u8], base: &'a [u8], replacement: &'a [u8], sections: [Section; PLACES])
+    requires { ⌜ All (Holds (heldBy (now base) (now replacement))) sections ⌝ }
     requires { ⌜ flagsRecordSize + sizeFor sections ≤ length (now out) ⌝ }
-    ensures { λ _. ⌜ now (out .exit) ≡ over (now (out .entry)) flagsRecordSize (rollFor (now (image .entry)) sections) ⌝ }
+    ensures { λ _. ⌜ now (out .exit) ≡ over (now (out .entry)) flagsRecordSize (rollFor (heldBy (now (base .entry)) (now (replacement .entry))) sections) ⌝ }
 {
     let mut at: usize = FlagsRecord::SIZE;
     let mut i: usize = 0;
     while i < PLACES {
-        at = put_record(out, at, image, sections[i]);
+        at = put_record(out, at, base, replacement, sections[i]);
         i += 1;
     }
     // the end record
     put_head(out, at, 0, 0);
 }
+
+// The roll of flags and sections: 14 where it is longer than `out`, or its length.
+fn write_sections<'a>(
+    out: &mut [u8],
+    base: &'a [u8],
+    replacement: &'a [u8],
+    flags: u16,
+    sections: [Section; PLACES],
+) -> Written
+    requires { ⌜ All (Holds (heldBy (now base) (now replacement))) sections ⌝ }
+    requires { ⌜ sizeFor sections ≤ sizeBound ⌝ }
+    ensures { λ r. ⌜ r ≡ roomAnswer (length (now (out .entry))) (sectionsRoll flags (heldBy (now (base .entry)) (now (replacement .entry))) sections) ⌝ }
+    ensures { λ _. ⌜ now (out .exit) ≡ roomOutput (sectionsRoll flags (heldBy (now (base .entry)) (now (replacement .entry))) sections) (now (out .entry)) ⌝ }
+{
+    let size = FlagsRecord::SIZE + roll_size(sections);
+    if out.len() < size {
+        return Written {
+            verdict: Verdict::refuse(Refusal::OUTPUT_TOO_SHORT, 0),
+            length: 0,
+        };
+    }
+    put_flags(out, flags);
+    put_roll(out, base, replacement, sections);
+    Written {
+        verdict: Verdict::Accepted,
+        length: size as u64,
+    }
+}
+
+// ---- the roll of an image
 
 // The answer is the image's refusal, or 14 where the roll is longer than `out`, or the roll's length.
 pub fn write(image: &[u8], out: &mut [u8]) -> Written
@@ -118,19 +159,7 @@ pub fn write(image: &[u8], out: &mut [u8]) -> Written
     let Verdict::Accepted = verdict else {
         return Written { verdict, length: 0 };
     };
-    let size = FlagsRecord::SIZE + roll_size(sections);
-    if out.len() < size {
-        return Written {
-            verdict: Verdict::refuse(Refusal::OUTPUT_TOO_SHORT, 0),
-            length: 0,
-        };
-    }
-    put_flags(out, reading.flags);
-    put_roll(out, image, sections);
-    Written {
-        verdict,
-        length: size as u64,
-    }
+    write_sections(out, image, &image[..0], reading.flags, sections)
 }
 
 // How long the roll of an image is, or the image's refusal.
@@ -140,6 +169,44 @@ pub fn length(image: &[u8]) -> Written
     let reading = eif_reader::read(image);
     let verdict = reading.verdict;
     let sections = reading.sections;
+    let Verdict::Accepted = verdict else {
+        return Written { verdict, length: 0 };
+    };
+    let whole = FlagsRecord::SIZE + roll_size(sections);
+    Written {
+        verdict,
+        length: whole as u64,
+    }
+}
+
+// ---- the roll of the image written afresh with a replacement for one section, from where the data lies
+
+// The answer is the staged view's refusal, or 14 where the roll is longer than `out`, or the roll's length.
+pub fn write_staged<'a>(
+    base: &'a [u8],
+    replacement: &'a [u8],
+    replaced: u64,
+    out: &mut [u8],
+) -> Written
+    ensures { λ r. ⌜ r ≡ stagedRollAnswer (now (base .entry)) (now (replacement .entry)) replaced (length (now (out .entry))) ⌝ }
+    ensures { λ _. ⌜ now (out .exit) ≡ stagedRollOutput (now (base .entry)) (now (replacement .entry)) replaced (now (out .entry)) ⌝ }
+{
+    let view = staged_view::judge(base, replacement.len() as u64, replaced, replaced);
+    let verdict = view.verdict;
+    let sections = view.sections;
+    let Verdict::Accepted = verdict else {
+        return Written { verdict, length: 0 };
+    };
+    write_sections(out, base, replacement, view.flags, sections)
+}
+
+// How long that roll is, or the staged view's refusal.
+pub fn length_staged(base: &[u8], replacement: &[u8], replaced: u64) -> Written
+    ensures { λ r. ⌜ r ≡ stagedRollLength (now (base .entry)) (now (replacement .entry)) replaced ⌝ }
+{
+    let view = staged_view::judge(base, replacement.len() as u64, replaced, replaced);
+    let verdict = view.verdict;
+    let sections = view.sections;
     let Verdict::Accepted = verdict else {
         return Written { verdict, length: 0 };
     };

@@ -157,7 +157,7 @@ fn twin_roll_reading(answer: &Result<twin::Roll, twin::Refusal>) -> RollReading 
     }
 }
 
-fn twin_registers(answer: Result<[[u8; 48]; 3], twin::Refusal>) -> RegistersAnswer {
+pub(crate) fn twin_registers(answer: Result<[[u8; 48]; 3], twin::Refusal>) -> RegistersAnswer {
     match answer.map_err(twin_parts) {
         Ok(registers) => RegistersAnswer {
             registers: registers.map(Digest),
@@ -232,7 +232,7 @@ pub(crate) fn compare_c_output(
 }
 
 /// Holds a length to the twin's, by the C interface and the Rust interface. Answers the answer number.
-fn compare_length(
+pub(crate) fn compare_length(
     input: &Input,
     what: &str,
     c: Answer,

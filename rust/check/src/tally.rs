@@ -4,7 +4,7 @@ use std::fmt;
 use std::ops::AddAssign;
 
 /// How many kinds of call there are.
-const CALLS: usize = 15;
+const CALLS: usize = 19;
 
 /// Answer numbers are below this.
 const NUMBERS: usize = 30;
@@ -42,6 +42,14 @@ pub enum Call {
     Sign1Read,
     /// Writing a COSE_Sign1.
     Sign1Write,
+    /// Where a section's data lies, of a base with one section replaced.
+    StagedPart,
+    /// The length of the roll of such a base.
+    StagedRollLength,
+    /// Writing that roll.
+    StagedRollWrite,
+    /// Its registers.
+    StagedRegisters,
 }
 
 impl Call {
@@ -62,6 +70,10 @@ impl Call {
         Call::Update,
         Call::Sign1Read,
         Call::Sign1Write,
+        Call::StagedPart,
+        Call::StagedRollLength,
+        Call::StagedRollWrite,
+        Call::StagedRegisters,
     ];
 
     /// The numbers that FORMAT.md lets this call answer.
@@ -81,6 +93,10 @@ impl Call {
             Call::Update => vec![0, 29],
             Call::Sign1Read => vec![0, 28],
             Call::Sign1Write => vec![0, 14, 28],
+            Call::StagedPart | Call::StagedRollLength | Call::StagedRegisters => {
+                image.chain([27]).collect()
+            }
+            Call::StagedRollWrite => image.chain([14, 27]).collect(),
         };
         numbers.sort();
         numbers
@@ -140,12 +156,12 @@ impl fmt::Display for Tally {
     fn fmt(&self, f: &mut fmt::Formatter<'_>) -> fmt::Result {
         write!(f, "{:>6}", "number")?;
         for call in Call::ALL {
-            write!(f, " {:>10}", format!("{call:?}"))?;
+            write!(f, " {:>16}", format!("{call:?}"))?;
         }
         for number in (0..NUMBERS as u8).filter(|&number| self.of_number(number) > 0) {
             write!(f, "\n{number:>6}")?;
             for counts in &self.counts {
-                write!(f, " {:>10}", counts[usize::from(number)])?;
+                write!(f, " {:>16}", counts[usize::from(number)])?;
             }
         }
         Ok(())

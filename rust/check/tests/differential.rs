@@ -19,6 +19,7 @@ const ARRIVALS: u64 = 40_000;
 const STATES: u64 = 40_000;
 const SIGN1S: u64 = 100_000;
 const CLAIMS: u64 = 40_000;
+const STAGED: u64 = 60_000;
 
 /// Writes a line that is seen also where the test passes.
 fn say(line: &str) {
@@ -93,6 +94,41 @@ fn claims(seed: u64, ordinals: Range<u64>, tally: &mut Tally) {
     }
 }
 
+fn staged(seed: u64, ordinals: Range<u64>, tally: &mut Tally) {
+    for ordinal in ordinals {
+        let mut rng = Rng::of_input(seed.rotate_left(24), ordinal);
+        let given = any_staged(&mut rng);
+        compare_staged(&mut rng, ordinal, &given, tally);
+    }
+}
+
+/// Replacements with which an image would be about as long as it may be. That they are too long is found
+/// without a look at their bytes.
+fn long_replacements(seed: u64, tally: &mut Tally) {
+    let replacement = vec![0; MAX_IMAGE_LENGTH];
+    for ordinal in 0..200 {
+        let mut rng = Rng::of_input(!seed.rotate_left(24), ordinal);
+        let layout = accepted_layout(&mut rng);
+        let base = any_image_of(&mut rng, &layout);
+        let count = layout.sections.len();
+        let replaced = rng.below(count);
+        let most = MAX_IMAGE_LENGTH - (base.len() - layout.sections[replaced].data.len());
+        for size in most - 1..most + 3 {
+            let numbers = (size as u64, replaced as u64, rng.below(count + 1) as u64);
+            compare_staged_part(ordinal, &base, numbers, tally);
+        }
+        let huge = rng.hostile(most as u64);
+        compare_staged_part(ordinal, &base, (huge, replaced as u64, 0), tally);
+        let given = StagedInput {
+            base,
+            replacement: replacement[..most + 1].into(),
+            replaced: replaced as u64,
+            shown: rng.below(count) as u64,
+        };
+        compare_staged(&mut rng, ordinal, &given, tally);
+    }
+}
+
 /// Images longer than they may be. No call looks at their bytes.
 fn long_images(seed: u64, tally: &mut Tally) {
     let mut rng = Rng::of_input(seed, u64::MAX);
@@ -144,8 +180,10 @@ fn library_and_twin_agree() {
             states(seed, share(STATES * times, part, parts), &mut tally);
             sign1s(seed, share(SIGN1S * times, part, parts), &mut tally);
             claims(seed, share(CLAIMS * times, part, parts), &mut tally);
+            staged(seed, share(STAGED * times, part, parts), &mut tally);
             if part == 0 {
                 long_images(seed, &mut tally);
+                long_replacements(seed, &mut tally);
             }
             if part == parts - 1 {
                 long_rolls(&mut tally);

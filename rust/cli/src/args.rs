@@ -76,6 +76,13 @@ fn known_flag(options: &Options, name: &OsStr) -> Option<&'static str> {
     known(options.flags, name).or_else(|| known(&["--help"], name))
 }
 
+/// The number of a section; whether there is such a section is for the library to say.
+pub fn index(word: &OsStr) -> Result<usize, Trouble> {
+    let word = words::shown_text(word);
+    word.parse()
+        .map_err(|_| Trouble::usage(format!("INDEX is no number: {word}")))
+}
+
 impl Args {
     /// Whether a flag is given.
     pub fn has(&self, flag: &str) -> bool {

@@ -2,8 +2,8 @@
 //! are the library's words.
 
 use eif::{Architecture, Refusal};
-use std::ffi::OsStr;
-use std::os::unix::ffi::OsStrExt;
+use std::ffi::{OsStr, OsString};
+use std::os::unix::ffi::{OsStrExt, OsStringExt};
 
 /// A file's name as it is printed: its bytes, with `?` for those that would begin a line of their own or
 /// steer a terminal.
@@ -32,6 +32,17 @@ pub fn refusal(name: &OsStr, refusal: &Refusal) -> Vec<u8> {
 pub fn roll_refusal(refusal: &Refusal, roll: &[u8]) -> String {
     let lines = lines("    ", refusal, refusal.place_in_roll(roll));
     format!("  as a boot roll: {lines}")
+}
+
+/// `BASE with section 3 replaced by FILE`: what is told of a base with one section replaced.
+pub fn staged(base: &OsStr, index: usize, replacement: &OsStr) -> OsString {
+    let words = format!(" with section {index} replaced by ");
+    OsString::from_vec([base.as_bytes(), words.as_bytes(), replacement.as_bytes()].concat())
+}
+
+/// A refusal of the image that would be written of it, and what to do.
+pub fn staged_refusal(name: &OsStr, refusal: &Refusal) -> Vec<u8> {
+    about(name, &lines("  ", refusal, None))
 }
 
 /// A refusal, what stands at its position where its number has a place in the file, and what to do:

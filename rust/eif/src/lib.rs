@@ -16,6 +16,7 @@
 //! | [`Sha384`] | SHA-384, fed in pieces |
 //! | [`write_roll`], [`roll_length`], [`roll_to_vec`], [`read_roll`] | the boot roll |
 //! | [`sign1::read`], [`sign1::write`], [`sign1::to_vec`] | what a signature claims, not verified |
+//! | [`staged::section`], [`staged::roll_to_vec`], [`staged::registers`] | the same of an image with one section replaced, and no second image |
 //!
 //! Every call takes any bytes and any numbers. A [`Refusal`] has the first answer number that applies,
 //! in the order that FORMAT.md gives for the call, and says where; then no byte of an output buffer has
@@ -96,6 +97,7 @@ mod registers;
 mod roll;
 mod sha384;
 pub mod sign1;
+pub mod staged;
 mod stream;
 
 pub use arriving::Arriving;

@@ -12,6 +12,8 @@ use std::mem::{align_of, offset_of, size_of};
 
 pub mod sign1;
 
+pub mod staged;
+
 /// What [`Reading::first_ramdisk`] is where there is no ramdisk, and beside a refusal.
 pub const NO_RAMDISK: u32 = 32;
 

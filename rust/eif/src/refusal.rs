@@ -98,6 +98,8 @@ reasons! {
         "do not use it; tell the builder";
     28 NotSign1: "not one COSE_Sign1 of the accepted form",
         "do not rely on the signature; tell the builder";
+    27 NoSuchSection: "section number at or past the number of sections",
+        "nothing is wrong with the file; look the section's number up with eif show";
     29 MessageTooLong: "message longer than 2,305,843,009,213,693,951 bytes",
         "nothing is wrong with the file; mend the calling program";
 }

@@ -6,6 +6,7 @@ use borrow.Author.Needs.{needs}
 use denote.Ref.{now}
 use lib.Seq.{slice}
 use Rattle.sha384.specs.declared.State.{State}
+use Rattle.staged.specs.View.{heldBy}
 use Rattle.eif_registers.specs.Rule.{hashed}
 use Rattle.eif_registers.proofs.Hashed.{in-two}
 use Rattle.eif_registers.proofs.hash_both.Statement.{statement}
@@ -13,8 +14,8 @@ use Rattle.eif_registers.proofs.hash_both.Tie as tie
 
 returns : tie.Need-returns
 returns c =
-    let a = c .before .before .before .before .before .before .before .before .before .args in
-    let s = now (a .image) in
+    let a = c .before .before .before .before .before .before .before .before .before .before .args in
+    let s = heldBy (now (a .base)) (now (a .replacement)) in
     let n = c .before .before .before .before .alike in
     let start = c .before .before .take-sections in
     let begun = start .ensures ∙ ap (λ (x : State). hashed s x (slice 0 (n .result) (a .whole .sections))) (c .before .before .before .new .ensures) in (

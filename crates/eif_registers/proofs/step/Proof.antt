@@ -1,82 +1,15 @@
--- `eif_registers::step` meets its contract: each state is that of its stream's sections. Assumes nothing.
-use Prim.Native.Nat.{ℕ, _≤_}
-use mathlib.Core.Path.{_≡_, refl, ap, ap₂, _∙_}
-use mathlib.Core.List.{List}
-use native.Mathlib.Omega.{arith}
+-- `eif_registers::step` meets its contract: it is the case with nothing replaced. Assumes nothing.
+use mathlib.Core.Path.{_∙_}
 use borrow.Author.Needs.{needs}
 use denote.Ref.{now}
-use lib.ListN.{length, take, length-map}
-use lib.Seq.{slice}
-use Rattle.eif.specs.Numbers.{placeCount}
-use Rattle.eif.specs.Stream.{streamSections, sectionsAnswer}
-use Rattle.eif.specs.declared.Section.{Section}
-use Rattle.eif.specs.declared.Stream.{Stream}
-use Rattle.eif.specs.declared.Stream.the-variants.{Whole, Boot, App}
-use Rattle.eif.specs.declared.StreamSections.{StreamSections}
-use Rattle.sha384.specs.State.{fresh, finished}
-use Rattle.sha384.specs.declared.State.{State}
-use Rattle.eif_registers.specs.Rule.{registerFrom, hashed, stepRegister, stepRegisters}
-use Rattle.eif_registers.proofs.Hashed.{listed-are, listed-few}
-use Rattle.eif_registers.proofs.Answers.{three}
+use Rattle.eif_registers.proofs.Staged.{step-alone}
 use Rattle.eif_registers.proofs.step.Statement.{statement}
 use Rattle.eif_registers.proofs.step.Tie as tie
 
-sized : (c : tie.Start) → length (c .args .reading .sections) ≡ placeCount
-sized c = simp length-map at (c .good .1 .0 .1 .1 .1 .1 .1 .1 .1 .1 .1 .0 .1 .0 .1)
-
--- a list that is a stream's has no more places than the table, and its state is the stream's
-module _ (s : List ℕ) (l : List Section) (size : length l ≡ placeCount) (stream : Stream) (list : StreamSections) (is : list ≡ sectionsAnswer stream l) where
-  few : list .count ≤ placeCount
-  few = rw is (listed-few stream l size)
-
-  state : (x : State) → x ≡ hashed s fresh (take (list .count) (list .sections)) → registerFrom (finished x) ≡ stepRegister s l stream
-  unfolding stepRegister
-  state x e =
-      ap (λ (y : State). registerFrom (finished y))
-      (e ∙ ap (λ (a : StreamSections). hashed s fresh (take (a .count) (a .sections))) is ∙ ap (hashed s fresh) (listed-are stream l))
-
-hash-both-requires : tie.Need-hash-both-requires
-hash-both-requires c κs =
-    let w = c .before .before in
-    let a = w .before .before .before .args in
-    let n = sized (w .before .before .before) in
-    let l = a .reading .sections in
-    (few (now (a .image)) l n Whole (w .sections .result) (w .sections .ensures), few (now (a .image)) l n Boot (c .before .sections2 .result) (c .before .sections2 .ensures))
-
-take-sections-requires : tie.Need-take-sections-requires
-take-sections-requires c κs =
-    let t = c .before .before .before in
-    let start = t .before .before .before .before .before in
-    (omega arith, few (now (start .args .image)) (start .args .reading .sections) (sized start) App (t .sections3 .result) (t .sections3 .ensures))
-
 returns : tie.Need-returns
-unfolding stepRegisters
 returns c =
-    let start = c .before .before .before .before .before .before .before .before .before .before .before .before .before .before in
-    let s = now (start .args .image) in
-    let l = start .args .reading .sections in
-    let n = sized start in
-    let both = c .before .before .before .before .before .before .before .before .hash-both in
-    let whole = c .before .before .before .before .before .before .before .before .before .before .before .sections in
-    let boot = c .before .before .before .before .before .before .before .before .before .before .sections2 in
-    let app = c .before .before .before .before .before .before .before .before .before .sections3 in
-    let a = c .before .before .before .before .before .take-sections .ensures ∙ ap (λ (x : State). hashed s x (slice 0 (app .result .count) (app .result .sections))) (c .before .before .before .before .before .before .new .ensures) in
-    three
-    (c .before .before .register .ensures ∙ state s l n Whole (whole .result) (whole .ensures) (both .result .whole) (both .ensures .0))
-    (c .before .register2 .ensures ∙ state s l n Boot (boot .result) (boot .ensures) (both .result .boot) (both .ensures .1))
-    (c .register3 .ensures ∙ state s l n App (app .result) (app .ensures) (c .before .before .before .before .before .take-sections .result) a)
+    let a = c .before .before .before .before .args in
+    c .step-over .ensures ∙ step-alone (now (a .image)) (a .reading .sections)
 
 pub step-spec : {M : Type 1} → statement M
-step-spec =
-    tie.close
-    (tie.spec
-    (λ c κs. search needs)
-    (λ c κs. search needs)
-    (λ c κs. search needs)
-    hash-both-requires
-    (λ c κs. search needs)
-    take-sections-requires
-    (λ c κs. search needs)
-    (λ c κs. search needs)
-    (λ c κs. search needs)
-    returns)
+step-spec = tie.close (tie.spec (λ c. search needs) (λ c κs. search needs) returns)

@@ -6,7 +6,7 @@ use native.Mathlib.Omega.{arith}
 use borrow.Author.Needs.{needs}
 use denote.Ref.{now}
 use Rattle.eif.specs.declared.Verdict.{Verdict}
-use Rattle.roll_writer.proofs.Reading.{verdict-is, accepted, length-is, bounded}
+use Rattle.roll_writer.proofs.Reading.{verdict-is, ok, length-is, bounded}
 use Rattle.roll_writer.proofs.Answers.{written, length-refused, length-accepted}
 use Rattle.roll_writer.proofs.length.Statement.{statement}
 use Rattle.roll_writer.proofs.length.Tie as tie
@@ -36,7 +36,7 @@ returns-2 c =
     let s = now (w .before .before .args .image) in
     let t = c .before .enum-told .given .1 in
     ap₂ (λ (v : Verdict) (m : ℕ). written v m) t (length-is s (w .read .result) (w .read .ensures) t (c .roll-size .result) (c .roll-size .ensures))
-    ∙ length-accepted s (accepted s (w .read .result) (w .read .ensures) t)
+    ∙ length-accepted s (ok s (w .read .result) (w .read .ensures) t)
 
 pub length-spec : {M : Type 1} → statement M
 length-spec =

@@ -13,37 +13,38 @@ use Rattle.octets.proofs.Over.{length-over}
 use Rattle.eif.specs.Numbers.{placeCount}
 use Rattle.eif.specs.Reading.{blankSection}
 use Rattle.eif.specs.Roll.{headOf, endType, flagsRecordSize}
+use Rattle.staged.specs.View.{heldBy}
 use Rattle.roll_writer.specs.Write.{partOf, rollFor, sizeFor}
-use Rattle.roll_writer.proofs.Steps.{size-step, size-end, inside-at, roll-over, roll-end}
+use Rattle.roll_writer.proofs.Steps.{size-step, size-end, holds-at, roll-over, roll-end}
 use Rattle.roll_writer.proofs.put_roll.Statement.{statement}
 use Rattle.roll_writer.proofs.put_roll.Tie as tie
 
 abbrev Inv-loop : tie.InvT-loop
-Inv-loop out₀ image sections at₀ i₀ out at i =
+Inv-loop out₀ base replacement sections at₀ i₀ out at i =
     (i ≤ placeCount) × (length out ≡ length out₀)
     × (at + sizeFor (drop i sections) ≡ flagsRecordSize + sizeFor sections)
-    × (over out at (rollFor image (drop i sections)) ≡ over out₀ flagsRecordSize (rollFor image sections))
+    × (over out at (rollFor (heldBy base replacement) (drop i sections)) ≡ over out₀ flagsRecordSize (rollFor (heldBy base replacement) sections))
 
 abbrev μ-loop : tie.MeasureT-loop
-μ-loop out₀ image sections at₀ i₀ out at i = placeCount - i
+μ-loop out₀ base replacement sections at₀ i₀ out at i = placeCount - i
 
 loop-holds : tie.Need-loop-holds Inv-loop μ-loop
 loop-holds c = (omega arith, refl, refl, refl)
 
 put-record-requires : tie.Need-put-record-requires Inv-loop μ-loop
 put-record-requires c κs =
-    let a = c .before .before .before .before .before .before .args in
+    let a = c .before .before .before .before .before .before .before .args in
     let l = c .before .before .before .loop in
-    let size : length (a .t3) ≡ placeCount = search needs in
-    let e = size-step (a .t3) (l .i) (omega arith) in
-    (omega arith, inside-at (a .t3) (l .i) (omega arith) (now (a .image)) (c .before .before .before .before .before .before .pre .0))
+    let size : length (a .t4) ≡ placeCount = search needs in
+    let e = size-step (a .t4) (l .i) (omega arith) in
+    (omega arith, holds-at (a .t4) (l .i) (omega arith) (heldBy (now (a .base)) (now (a .replacement))) (c .before .before .before .before .before .before .before .pre .0))
 
 loop-again : tie.Need-loop-again Inv-loop μ-loop
 loop-again c =
-    let start = c .before .before .before .before .before .before .before .before .before in
+    let start = c .before .before .before .before .before .before .before .before .before .before in
     let l = c .before .before .before .before .before .before .loop in
-    let s = now (start .args .image) in
-    let t = start .args .t3 in
+    let s = heldBy (now (start .args .base)) (now (start .args .replacement)) in
+    let t = start .args .t4 in
     let p = c .before .before .put-record .ensures in
     let size : length t ≡ placeCount = search needs in
     let e = size-step t (l .i) (omega arith) in
@@ -57,7 +58,7 @@ loop-again c =
 
 put-head-requires : tie.Need-put-head-requires Inv-loop μ-loop
 put-head-requires c κs =
-    let t = c .before .before .before .before .before .args .t3 in
+    let t = c .before .before .before .before .before .before .args .t4 in
     let size : length t ≡ placeCount = search needs in
     let e = size-end t (c .before .before .loop .i) (omega arith) in
     omega arith
@@ -69,11 +70,11 @@ same-length c =
 
 returns : tie.Need-returns Inv-loop μ-loop
 returns c =
-    let a = c .before .before .before .before .before .before .before .before .args in
+    let a = c .before .before .before .before .before .before .before .before .before .args in
     let l = c .before .before .before .before .before .loop in
-    let size : length (a .t3) ≡ placeCount = search needs in
+    let size : length (a .t4) ≡ placeCount = search needs in
     c .before .before .put-head .ensures
-    ∙ ap (over (l .out) (l .at)) (sym (roll-end (a .t3) (l .i) (omega arith) (now (a .image)))) ∙ l .inv .3
+    ∙ ap (over (l .out) (l .at)) (sym (roll-end (a .t4) (l .i) (omega arith) (heldBy (now (a .base)) (now (a .replacement))))) ∙ l .inv .3
 
 pub put-roll-spec : {M : Type 1} → statement M
 put-roll-spec =

@@ -1,11 +1,10 @@
 //! `eif extract`: the data of one section.
 
 use super::Command;
-use crate::args::{Args, Options};
+use crate::args::{self, Args, Options};
 use crate::output::{self, Output};
 use crate::status::{complain, Status, Trouble};
 use crate::{input, words};
-use std::ffi::OsStr;
 
 pub const COMMAND: Command = Command {
     name: "extract",
@@ -30,7 +29,7 @@ usage, input or output trouble.
 
 fn run(args: Args) -> Result<Status, Trouble> {
     let [image, index] = args.operands(["IMAGE", "INDEX"])?;
-    let index = number(index)?;
+    let index = args::index(index)?;
     let output = Output::of(&args)?;
     let input = input::read(image)?;
     let image = match eif::read(&input.bytes) {
@@ -48,10 +47,4 @@ fn run(args: Args) -> Result<Status, Trouble> {
         )));
     };
     output.write(&[data]).map(|()| Status::Fine)
-}
-
-fn number(word: &OsStr) -> Result<usize, Trouble> {
-    let word = words::shown_text(word);
-    word.parse()
-        .map_err(|_| Trouble::usage(format!("INDEX is no number: {word}")))
 }

@@ -1,6 +1,6 @@
 //! The subcommands, each in a file of its own.
 //!
-//! A new one (assemble, stage) is a file here and a row in the table.
+//! A new one (assemble) is a file here and a row in the table.
 
 use crate::args::{Args, Options};
 use crate::status::{Status, Trouble};
@@ -14,6 +14,7 @@ mod registers;
 mod roll;
 mod show;
 mod signature;
+mod stage;
 mod stream;
 
 /// A subcommand.
@@ -28,13 +29,14 @@ pub struct Command {
 }
 
 /// All of them, in the order of the overview.
-pub const COMMANDS: [Command; 10] = [
+pub const COMMANDS: [Command; 11] = [
     show::COMMAND,
     check::COMMAND,
     compare::COMMAND,
     registers::COMMAND,
     signature::COMMAND,
     roll::COMMAND,
+    stage::COMMAND,
     pack::COMMAND,
     extract::COMMAND,
     stream::COMMAND,

@@ -18,7 +18,8 @@ pub fn rows(a: &Side, b: &Side) -> Vec<String> {
     let mut rows = header(of_a, of_b);
     rows.extend(a.records.iter().zip(&b.records).filter_map(section_flags));
     rows.extend(others(a, b));
-    if rows.is_empty() && a.roll == b.roll && of_a.bytes() != of_b.bytes() {
+    let files = !a.staged && !b.staged;
+    if files && rows.is_empty() && a.roll == b.roll && of_a.bytes() != of_b.bytes() {
         rows.push(REST.to_string());
     }
     let rows = rows.into_iter().map(|row| format!("  {row}"));

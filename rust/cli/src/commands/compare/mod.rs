@@ -12,19 +12,22 @@ use crate::output;
 use crate::status::{Status, Trouble};
 use crate::words;
 use eif::{Image, Refusal};
+use replaced::{Replaced, REPLACE};
 use side::Side;
 use std::borrow::Cow;
+use std::ffi::OsString;
 
 mod difference;
 mod elsewhere;
 mod order;
+mod replaced;
 mod side;
 
 pub const COMMAND: Command = Command {
     name: "compare",
     summary: "say whether two images boot the same content, and where they differ",
     help: "\
-usage: eif compare A B
+usage: eif compare A B [--replace INDEX=FILE]
 
 Says whether A and B have the same header flags, which tell the processor, and
 hold the same kernel, command line and ramdisks in the same order. Each is an
@@ -40,22 +43,33 @@ differs elsewhere in two images (the other header fields, section flags,
 metadata, signature) is listed after that; it is not part of the roll. Sections,
 records and bytes count from 0.
 
+  --replace INDEX=FILE   B is the image that would be written afresh with the data
+                         of section INDEX of B replaced by FILE; it is not built,
+                         and its reserved fields are not compared
+
 Exit status: 0 same, 1 different or refused, 2 one cannot be read.
 ",
     options: Options {
         flags: &[],
-        values: &[],
+        values: &[REPLACE],
     },
     run,
 };
 
 fn run(args: Args) -> Result<Status, Trouble> {
     let names = args.operands(["A", "B"])?;
-    input::one_standard_input(&names.map(|name| name.to_os_string()))?;
+    let replaced = replaced::named(&args)?;
+    let files = names.map(|name| name.to_os_string());
+    input::one_standard_input(files.iter().chain(replaced.iter().map(|(_, file)| file)))?;
     let [a, b] = names.map(|name| input::arrive(name, Keep::All));
     let (a, b) = (a?, b?);
-    let (status, text) = match (accepted(&a), accepted(&b)) {
-        (Ok(of_a), Ok(of_b)) => compare((&a, of_a), (&b, of_b)),
+    let replaced = replaced.map(replaced::read).transpose()?;
+    let of_b = match &replaced {
+        None => accepted(&b),
+        Some(replaced) => replaced::accepted(&b, replaced),
+    };
+    let (status, text) = match (accepted(&a), of_b) {
+        (Ok(of_a), Ok(of_b)) => compare(&of_a, &of_b),
         (of_a, of_b) => {
             let refusals = [of_a.err(), of_b.err()];
             (
@@ -67,21 +81,34 @@ fn run(args: Args) -> Result<Status, Trouble> {
     output::print(&text).map(|()| status)
 }
 
-/// What an input holds, if that is an image, and its roll.
-type Accepted<'a> = (Option<Image<'a>>, Cow<'a, [u8]>);
+/// What an input holds.
+struct Accepted<'a> {
+    name: OsString,
+    /// If that is an image.
+    image: Option<Image<'a>>,
+    roll: Cow<'a, [u8]>,
+    /// The section of the image that is replaced, as the roll has it.
+    replaced: Option<&'a Replaced>,
+}
 
 /// The same, or its refusal in words.
 fn accepted(input: &Arrived) -> Result<Accepted<'_>, Vec<u8>> {
-    match content::of(input) {
+    let (image, roll) = match content::of(input) {
         Ok(Content::Image(_)) => {
-            image_and_roll(&input.bytes).map_err(|refusal| words::refusal(&input.name, &refusal))
+            image_and_roll(&input.bytes).map_err(|refusal| words::refusal(&input.name, &refusal))?
         }
-        Ok(Content::Roll(roll)) => Ok((None, Cow::Borrowed(roll.bytes()))),
-        Err(neither) => Err(neither.lines(&input.name)),
-    }
+        Ok(Content::Roll(roll)) => (None, Cow::Borrowed(roll.bytes())),
+        Err(neither) => return Err(neither.lines(&input.name)),
+    };
+    Ok(Accepted {
+        name: input.name.clone(),
+        image,
+        roll,
+        replaced: None,
+    })
 }
 
-fn image_and_roll(bytes: &[u8]) -> Result<Accepted<'_>, Refusal> {
+fn image_and_roll(bytes: &[u8]) -> Result<(Option<Image<'_>>, Cow<'_, [u8]>), Refusal> {
     let image = eif::read(bytes)?;
     // A roll is shorter than its image, so that its length need not be asked for.
     let mut roll = vec![0; bytes.len()];
@@ -90,12 +117,8 @@ fn image_and_roll(bytes: &[u8]) -> Result<Accepted<'_>, Refusal> {
     Ok((Some(image), Cow::Owned(roll)))
 }
 
-fn compare(a: (&Arrived, Accepted), b: (&Arrived, Accepted)) -> (Status, Vec<u8>) {
-    let (a_name, b_name) = (&a.0.name, &b.0.name);
-    let (a, b) = (
-        Side::new("A", a.1 .0.as_ref(), &a.1 .1),
-        Side::new("B", b.1 .0.as_ref(), &b.1 .1),
-    );
+fn compare(of_a: &Accepted, of_b: &Accepted) -> (Status, Vec<u8>) {
+    let (a, b) = (Side::new("A", of_a), Side::new("B", of_b));
     let same = a.roll == b.roll;
     let (status, verdict): (_, &[u8]) = if same {
         (Status::Fine, b"same boot content\n")
@@ -108,8 +131,9 @@ fn compare(a: (&Arrived, Accepted), b: (&Arrived, Accepted)) -> (Status, Vec<u8>
     rows.extend(elsewhere::rows(&a, &b));
     let mut text = verdict.to_vec();
     if !rows.is_empty() {
-        for (letter, name) in [("A", a_name), ("B", b_name)] {
-            text.extend([letter.as_bytes(), b" is ", &words::shown(name), b"\n"].concat());
+        for (letter, side) in [("A", of_a), ("B", of_b)] {
+            let name = words::shown(&side.name);
+            text.extend([letter.as_bytes(), b" is ", &name, b"\n"].concat());
         }
     }
     for row in rows {

@@ -1,5 +1,6 @@
 //! One of the two that are compared.
 
+use super::Accepted;
 use crate::words;
 use eif::{Architecture, Image, Section, SectionType};
 
@@ -19,6 +20,8 @@ pub struct Side<'a> {
     pub letter: &'static str,
     pub roll: &'a [u8],
     pub image: Option<&'a Image<'a>>,
+    /// Whether one of the image's sections is replaced, so that its bytes are another image's.
+    pub staged: bool,
     pub flags: u16,
     pub architecture: Architecture,
     /// Those after the flags record.
@@ -28,11 +31,13 @@ pub struct Side<'a> {
 }
 
 impl<'a> Side<'a> {
-    pub fn new(letter: &'static str, image: Option<&'a Image<'a>>, roll: &'a [u8]) -> Side<'a> {
+    pub fn new(letter: &'static str, of: &'a Accepted<'a>) -> Side<'a> {
+        let roll = &of.roll[..];
         let mut side = Side {
             letter,
             roll,
-            image,
+            image: of.image.as_ref(),
+            staged: of.replaced.is_some(),
             flags: 0,
             architecture: Architecture::default(),
             records: Vec::new(),
@@ -51,14 +56,14 @@ impl<'a> Side<'a> {
             side.flags = list.flags();
             side.architecture = list.architecture();
         }
-        if let Some(image) = image {
-            side.find_sections(image);
+        if let Some(image) = side.image {
+            side.find_sections(image, of);
         }
         side
     }
 
     /// Finds the section of each record. Both are in file order, so each is the next of its type.
-    fn find_sections(&mut self, image: &'a Image<'a>) {
+    fn find_sections(&mut self, image: &'a Image<'a>, of: &'a Accepted<'a>) {
         let mut records = self.records.iter_mut().peekable();
         for (number, (section, data)) in image.iter().enumerate() {
             match records.next_if(|record| record.section_type == section.section_type) {
@@ -66,7 +71,13 @@ impl<'a> Side<'a> {
                     record.number = number;
                     record.section = Some(section);
                 }
-                None => self.others.push((section, data)),
+                None => {
+                    let replaced = of.replaced;
+                    let staged = replaced.map(|r| r.section(image.bytes(), number, section));
+                    // The library has accepted what is staged, so it is not refused here.
+                    let staged = staged.and_then(Result::ok);
+                    self.others.push(staged.unwrap_or((section, data)));
+                }
             }
         }
     }

@@ -1,0 +1,56 @@
+-- What a staged view that is not refused says of the base, the two numbers and the image written afresh, and back.
+-- Assumes nothing.
+use Prim.Native.Nat.{ℕ, _<_, _≤_}
+use mathlib.Core.Path.{_≡_, refl, ap}
+use mathlib.Core.Bool.{Bool, true, false}
+use mathlib.Core.List.{List}
+use native.Mathlib.Omega.{arith}
+use borrow.Author.Tests.{leb-false, ltb-false, lt-leb, le-ltb}
+use Rattle.eif.specs.Numbers.{sizeLimit}
+use Rattle.eif.specs.Logic.{choose}
+use Rattle.eif.specs.Layout.{countOf}
+use Rattle.eif.specs.Reading.{verdictOf, readImage}
+use Rattle.eif.specs.Plan.{plainSize}
+use Rattle.staged.specs.Staged.{stagedPlan, stagedVerdict}
+use Rattle.eif.specs.declared.Reading.{Reading}
+use Rattle.eif.specs.declared.Refusal.{Refusal}
+use Rattle.eif.specs.declared.Verdict.{Verdict}
+use Rattle.eif.specs.declared.Verdict.the-variants.{Accepted, Refused}
+use Rattle.eif_rules.proofs.Logic.{either-false}
+use Rattle.eif_rules.proofs.Reading.{reading-accepted}
+use Rattle.eif_rules.proofs.Verdicts.{never, then-accepted}
+
+unless-refused : (r : Refusal) (v : Verdict) (b : Bool) → choose b (Refused r) v ≡ Accepted → (b ≡ false) × (v ≡ Accepted)
+unless-refused r v true e = never r e
+unless-refused r v false e = (refl, e)
+
+pub record Stages (s : List ℕ) (size k j : ℕ) : Type 0 where
+  pub accepted : verdictOf s ≡ Accepted
+  pub replaced : k < countOf s
+  pub shown : j < countOf s
+  pub small : plainSize (stagedPlan s k size) ≤ sizeLimit
+
+module _ (s : List ℕ) (ok : verdictOf s ≡ Accepted) where
+  pub count-is : readImage s .count ≡ countOf s
+  count-is = ap (λ (x : Reading). x .count) (reading-accepted s ok)
+
+module _ (s : List ℕ) (size k j : ℕ) where
+  pub staged→ : stagedVerdict s size k j ≡ Accepted → Stages s size k j
+  unfolding stagedVerdict
+  staged→ e =
+      let a = then-accepted _ _ e in
+      let n = count-is s (a .0) in
+      let b = unless-refused _ _ _ (a .1) in
+      let c = either-false _ _ (b .0) in
+      let d = unless-refused _ _ _ (b .1) in
+      let kc : k < readImage s .count = leb-false _ _ (c .0) in
+      let jc : j < readImage s .count = leb-false _ _ (c .1) in
+      record { accepted = a .0; replaced = omega arith; shown = omega arith; small = ltb-false _ _ (d .0) }
+
+  pub →staged : Stages s size k j → stagedVerdict s size k j ≡ Accepted
+  unfolding stagedVerdict
+  →staged a =
+      let n = count-is s (a .accepted) in
+      let kc : k < readImage s .count = let h = a .replaced in omega arith in
+      let jc : j < readImage s .count = let h = a .shown in omega arith in
+      simp (a .accepted, lt-leb _ _ kc, lt-leb _ _ jc, le-ltb _ _ (a .small))

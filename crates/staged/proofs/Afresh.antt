@@ -1,0 +1,167 @@
+-- The image written afresh: its plan is not refused, and what reading finds in it.
+-- Assumes nothing.
+use Prim.Native.Nat.{ℕ, _+_, _<_, _≤_}
+use mathlib.Core.Path.{_≡_, refl, sym, ap, ap₂, _∙_}
+use mathlib.Core.List.{List}
+use mathlib.Core.Logic.{⊎-elim}
+use native.Mathlib.Omega.{arith}
+use borrow.Author.Tests.{eq-eqb, ne-eqb}
+use lib.Dec.{eqb}
+use lib.ListN.{length, take, drop, getD, set, length-map}
+use lib.Seq.{getD-set-same, getD-set-other}
+use Rattle.eif.specs.Numbers.{sizeLimit, placeCount}
+use Rattle.eif.specs.Logic.{choose}
+use Rattle.eif.specs.Rules.{allowedIn, orderFault}
+use Rattle.eif.specs.Layout.{versionOf, countOf, kindAt, sizeAt, sectionHeaderSize}
+use Rattle.eif.specs.Reading.{verdictOf, blankSection, sectionAt, sectionsOf, dataOf}
+use Rattle.eif.specs.Plan.{blankPlace, placeAt, plannedKind, plannedSize, plainSize, plainImage, placeOf, planOf, joinFrom}
+use Rattle.staged.specs.Staged.{withLength, withPlace, stagedPlan, stagedPart, stagedJoined, afresh}
+use Rattle.eif.specs.declared.Place.{Place}
+use Rattle.eif.specs.declared.Plan.{Plan}
+use Rattle.eif.specs.declared.Section.{Section}
+use Rattle.eif.specs.declared.Reading.{Reading}
+use Rattle.eif.specs.declared.Verdict.the-variants.{Accepted}
+use Rattle.eif_rules.proofs.Logic.{equal-or-not}
+use Rattle.eif_rules.proofs.Reading.{reading-accepted}
+use Rattle.eif_rules.proofs.Table.{length-filled, filled-at}
+use Rattle.eif_rules.proofs.Types.{order-same, missing-same}
+use Rattle.plain_laws.proofs.PlanRules.{Planned}
+use Rattle.plain_laws.proofs.Joined.{join-same, piece-is, length-joined}
+use Rattle.plain_laws.proofs.Written.{read-kind, read-count, read-offset, read-size, read-data}
+use Rattle.plain_laws.proofs.WriteBack.{plan, piece, head, kind-is, length-piece-is}
+use Rattle.plain_laws.proofs.Plainness.{plan-planned}
+
+-- ---- one place of a plan changed
+
+module _ (l : List Place) (k size : ℕ) (h : k < length l) where
+  abbrev changed : List Place
+  changed = set l k (withLength (placeAt l k) size)
+
+  pub place-same : placeAt changed k ≡ withLength (placeAt l k) size
+  place-same = getD-set-same l k (withLength (placeAt l k) size) blankPlace h
+
+  pub place-other : (j : ℕ) → (j ≡ k → ⊥) → placeAt changed j ≡ placeAt l j
+  place-other j n = getD-set-other l k j (withLength (placeAt l k) size) blankPlace n
+
+  kind-kept : (j : ℕ) → plannedKind changed j ≡ plannedKind l j
+  kind-kept j =
+      ⊎-elim
+      (λ (e : j ≡ k). rw e (ap (λ (x : Place). x .kind) place-same))
+      (λ (n : j ≡ k → ⊥). ap (λ (x : Place). x .kind) (place-other j n))
+      (equal-or-not j k)
+
+  flags-kept : (j : ℕ) → placeAt changed j .flags ≡ placeAt l j .flags
+  flags-kept j =
+      ⊎-elim
+      (λ (e : j ≡ k). rw e (ap (λ (x : Place). x .flags) place-same))
+      (λ (n : j ≡ k → ⊥). ap (λ (x : Place). x .flags) (place-other j n))
+      (equal-or-not j k)
+
+-- ---- the base is accepted
+
+module _ (s r : List ℕ) (k : ℕ) (ok : verdictOf s ≡ Accepted) where
+  -- the data of section j
+  abbrev pub part : ℕ → List ℕ
+  part j = choose (eqb j k) r (piece s j)
+
+  abbrev pub parts : List ℕ
+  parts = joinFrom part (countOf s) 0
+
+  abbrev pub changedPlan : ℕ → Plan
+  changedPlan size = withPlace (plan s) k size
+
+  few : countOf s ≤ placeCount
+  few = head s ok .few
+
+  pub plan-is : (size : ℕ) → stagedPlan s k size ≡ changedPlan size
+  unfolding stagedPlan
+  plan-is size = ap (λ (x : Reading). withPlace (planOf x) k size) (reading-accepted s ok)
+
+  pub part-is : (j : ℕ) → j < countOf s → stagedPart s r k j ≡ part j
+  unfolding stagedPart
+  part-is j h =
+      ap (λ (x : Reading). choose (eqb j k) r (dataOf s (getD (x .sections) j blankSection))) (reading-accepted s ok)
+      ∙ ap (λ (x : Section). choose (eqb j k) r (dataOf s x)) (filled-at (sectionAt s) blankSection blankSection placeCount (countOf s) j h few)
+
+  parts-are : stagedJoined s r k ≡ parts
+  unfolding stagedJoined
+  parts-are =
+      ap (λ (x : Reading). joinFrom (stagedPart s r k) (x .count) 0) (reading-accepted s ok)
+      ∙ join-same (stagedPart s r k) part (countOf s) 0 (λ j h. part-is j (omega arith))
+
+  pub afresh-is : afresh s r k ≡ plainImage (changedPlan (length r)) parts
+  unfolding afresh
+  afresh-is = ap₂ (λ (p : Plan) (d : List ℕ). plainImage p d) (plan-is (length r)) parts-are
+
+  -- the replaced section's data is the replacement, the others' that of the base
+  pub part-replaced : part k ≡ r
+  part-replaced = simp (eq-eqb k k refl)
+
+  pub part-kept : (j : ℕ) → (j ≡ k → ⊥) → part j ≡ piece s j
+  part-kept j n = simp (ne-eqb j k n)
+
+  -- ---- and has the section that is replaced
+
+  module _ (h : k < countOf s) where
+    abbrev l : List Place
+    l = plan s .places
+
+    pub places-long : length l ≡ placeCount
+    places-long = length-map (sectionsOf s) placeOf ∙ length-filled (sectionAt s) blankSection placeCount (countOf s)
+
+    pub in-places : k < length l
+    in-places = let n = places-long in let f = few in omega arith
+
+    pub size-kept : (j : ℕ) → j < countOf s → length (part j) ≡ plannedSize (changedPlan (length r) .places) j
+    size-kept j q =
+        ⊎-elim
+        (λ (e : j ≡ k).
+        rw e (ap length part-replaced ∙ sym (ap (λ (x : Place). x .length .0) (place-same l k (length r) in-places))))
+        (λ (n : j ≡ k → ⊥).
+        ap length (part-kept j n) ∙ length-piece-is s ok j q ∙ sym (ap (λ (x : Place). x .length .0) (place-other l k (length r) in-places j n)))
+        (equal-or-not j k)
+
+    -- ---- and the image written afresh is within the limit
+
+    module _ (small : plainSize (changedPlan (length r)) ≤ sizeLimit) where
+      abbrev m : List Place
+      m = changedPlan (length r) .places
+
+      same-kind : (j : ℕ) → plannedKind m j ≡ plannedKind l j
+      same-kind = kind-kept l k (length r) in-places
+
+      pub changed-planned : Planned (changedPlan (length r)) (length parts)
+      changed-planned =
+          let a = plan-planned s ok in
+          record {
+            low = a .low;
+            high = a .high;
+            some = a .some;
+            few = a .few;
+            allowed = λ i q. ap (allowedIn (versionOf s)) (same-kind i) ∙ a .allowed i q;
+            order = λ i q.
+                ap (λ (x : ℕ). orderFault (plannedKind m) x i) (same-kind i)
+                ∙ order-same (plannedKind m) (plannedKind l) (plannedKind l i) i (λ j g. same-kind j) ∙ a .order i q;
+            none-missing = missing-same (plannedKind m) (plannedKind l) (versionOf s) (countOf s) (λ j g. same-kind j) ∙ a .none-missing;
+            small = small;
+            sized = length-joined m (countOf s) part size-kept;
+          }
+
+      abbrev pub image : List ℕ
+      image = plainImage (changedPlan (length r)) parts
+
+      pub fresh-count : countOf image ≡ countOf s
+      fresh-count = read-count (changedPlan (length r)) parts changed-planned
+
+      pub fresh-kind : (j : ℕ) → j < countOf s → kindAt image j ≡ kindAt s j
+      fresh-kind j q = read-kind (changedPlan (length r)) parts changed-planned j q ∙ same-kind j ∙ kind-is s ok j q
+
+      pub fresh-data : (j : ℕ) → j < countOf s → dataOf image (sectionAt image j) ≡ part j
+      fresh-data j q =
+          let p = changedPlan (length r) in
+          let a = changed-planned in
+          ap₂ (λ (n o : ℕ). take n (drop (o + sectionHeaderSize) image)) (read-size p parts a j q) (read-offset p parts a j q)
+          ∙ read-data p parts a j q ∙ piece-is m (countOf s) part size-kept j q
+
+      pub fresh-size : (j : ℕ) → j < countOf s → sizeAt image j ≡ length (part j)
+      fresh-size j q = read-size (changedPlan (length r)) parts changed-planned j q ∙ sym (size-kept j q)

@@ -1,0 +1,206 @@
+-- The sections of a staged view that is not refused: each has the base's type, and its data is the staged part. So their records and
+-- streams are those of the image written afresh.
+-- Assumes nothing.
+use Prim.Native.Nat.{ℕ, _+_, _-_, _^_, _<_, _≤_}
+use mathlib.Core.Path.{_≡_, refl, sym, ap, ap₂, _∙_}
+use mathlib.Core.Bool.{Bool, true, false}
+use mathlib.Core.List.{List, [], _++_}
+use mathlib.Core.Logic.{⊎-elim}
+use native.Mathlib.Omega.{arith}
+use borrow.Author.Tests.{eq-eqb, ne-eqb, lt-ltb, le-ltb}
+use lib.Dec.{eqb, ltb}
+use lib.ListN.{length, getD, set, take, drop, drop-of-length-le}
+use lib.Seq.{take-length, drop-nil}
+use Rattle.octets.proofs.Over.{le-or-lt}
+use Rattle.eif.specs.Numbers.{placeCount, sizeLimit}
+use Rattle.eif.specs.Logic.{choose}
+use Rattle.eif.specs.Table.{filled}
+use Rattle.eif.specs.Layout.{headerFlagsOf, countOf, kindAt}
+use Rattle.eif.specs.Reading.{verdictOf, blankSection, sectionAt, sectionsOf, readImage, dataOf}
+use Rattle.eif.specs.Plan.{plainSize, plainImage}
+use Rattle.eif.specs.Roll.{Record, flagsRecord, rollOf, recordsIn, recordsOf, rollBytes}
+use Rattle.eif.specs.Stream.{streamSections, streamOf}
+use Rattle.eif.specs.declared.Reading.{Reading}
+use Rattle.eif.specs.declared.Section.{Section}
+use Rattle.eif.specs.declared.Stream.{Stream}
+use Rattle.eif.specs.declared.Verdict.the-variants.{Accepted}
+use Rattle.eif_rules.proofs.Logic.{equal-or-not}
+use Rattle.eif_rules.proofs.Reading.{reading-accepted}
+use Rattle.eif_rules.proofs.Table.{All, all-filled, filled-at, length-filled}
+use Rattle.eif_rules.proofs.Accept.{length-data}
+use Rattle.plain_laws.proofs.Written.{size-small, read-flags}
+use Rattle.plain_laws.proofs.WriteBack.{piece, head, entry}
+use Rattle.staged.specs.Staged.{stagedPlan, afresh}
+use Rattle.staged.specs.View.{moved, stagedSections, heldBy, Holds}
+use Rattle.staged.proofs.Accept.{Stages}
+use Rattle.staged.proofs.Afresh.{part, parts, changedPlan, plan-is, afresh-is, part-replaced, size-kept, changed-planned, fresh-count, fresh-kind, fresh-data}
+use Rattle.staged.proofs.Same.{recordsBy, records-in, same-records, joinedBy, joined-in, same-stream, set-filled}
+
+-- ---- the data of a section by where it starts
+
+module _ (s r : List ℕ) (x : Section) where
+  pub held-base : x .position .0 < length s → heldBy s r x ≡ dataOf s x
+  unfolding heldBy
+  held-base h = simp (lt-ltb _ _ h)
+
+  pub held-after : length s ≤ x .position .0 → heldBy s r x ≡ dataOf r (moved x (x .position .0 - length s) (x .length .0))
+  unfolding heldBy
+  held-after h = simp (le-ltb _ _ h)
+
+  -- a section that lies in the base
+  pub held-inside : x .position .0 + x .length .0 ≤ length s → heldBy s r x ≡ dataOf s x
+  held-inside h =
+      ⊎-elim
+      (λ (g : length s ≤ x .position .0).
+      let z : x .length .0 ≡ 0 = omega arith in
+      held-after g
+      ∙ ap (λ (n : ℕ). take n (drop (x .position .0 - length s) r)) z
+      ∙ sym (ap (λ (n : ℕ). take n (drop (x .position .0) s)) z))
+      (λ (g : x .position .0 < length s). held-base g)
+      (le-or-lt (length s) (x .position .0))
+
+-- with nothing after the base it is the base's
+pub held-alone : (s : List ℕ) (x : Section) → heldBy s [] x ≡ dataOf s x
+held-alone s x =
+    ⊎-elim
+    (λ (g : length s ≤ x .position .0).
+    let a : drop (x .position .0) s ≡ [] = drop-of-length-le s {i = x .position .0} g in
+    held-after s [] x g
+    ∙ ap (take (x .length .0)) (drop-nil (x .position .0 - length s) ∙ sym a))
+    (λ (g : x .position .0 < length s). held-base s [] x g)
+    (le-or-lt (length s) (x .position .0))
+
+-- ---- the sections of the view
+
+module _ (s r : List ℕ) (k : ℕ) where
+  -- section i as the view lists it
+  abbrev pub stagedAt : ℕ → Section
+  stagedAt i = choose (eqb i k) (moved (sectionAt s k) (length s) (length r)) (sectionAt s i)
+
+  replaced-data : heldBy s r (moved (sectionAt s k) (length s) (length r)) ≡ r
+  replaced-data =
+      let z : length s - length s ≡ 0 = omega arith in
+      held-after s r (moved (sectionAt s k) (length s) (length r)) (omega arith)
+      ∙ ap (λ (n : ℕ). take (length r) (drop n r)) z ∙ take-length r
+
+  module _ (ok : verdictOf s ≡ Accepted) where
+    pub held-is : (i : ℕ) → i < countOf s → heldBy s r (stagedAt i) ≡ part s r k ok i
+    held-is i h = by (eqb i k)
+      where
+        by : (b : Bool) → heldBy s r (choose b (moved (sectionAt s k) (length s) (length r)) (sectionAt s i)) ≡ choose b r (piece s i)
+        by true = replaced-data
+        by false = held-inside s r (sectionAt s i) (entry s ok i h .ends)
+
+    pub kind-is : (i : ℕ) → stagedAt i .kind ≡ kindAt s i
+    kind-is i =
+        ⊎-elim
+        (λ (e : i ≡ k). simp (eq-eqb i k e) (ap (kindAt s) (sym e)))
+        (λ (n : i ≡ k → ⊥). simp (ne-eqb i k n))
+        (equal-or-not i k)
+
+    module _ (h : k < countOf s) where
+      pub sections-are : stagedSections (readImage s .sections) k (length s) (length r) ≡ filled stagedAt blankSection placeCount (countOf s)
+      unfolding stagedSections
+      sections-are =
+          let few = head s ok .few in
+          ap (λ (x : Reading). set (x .sections) k (moved (getD (x .sections) k blankSection) (length s) (length r))) (reading-accepted s ok)
+          ∙ ap (λ (y : Section). set (sectionsOf s) k (moved y (length s) (length r)))
+          (filled-at (sectionAt s) blankSection blankSection placeCount (countOf s) k h few)
+          ∙ set-filled (sectionAt s) blankSection (moved (sectionAt s k) (length s) (length r)) placeCount (countOf s) k h few
+
+-- ---- their records and streams are those of the image written afresh
+
+module _ (s r : List ℕ) (k j : ℕ) (a : Stages s (length r) k j) where
+  abbrev ok : verdictOf s ≡ Accepted
+  ok = a .accepted
+
+  pub within : plainSize (changedPlan s r k ok (length r)) ≤ sizeLimit
+  within = let e = ap plainSize (plan-is s r k ok (length r)) in let h = a .small in omega arith
+
+  -- the replacement is no longer than an image
+  replacement-small : length r ≤ sizeLimit
+  replacement-small =
+      let h = a .replaced in
+      let m = size-small (changedPlan s r k ok (length r)) (parts s r k ok) (changed-planned s r k ok h within) k h in
+      let e = size-kept s r k ok h k h in
+      let q = ap length (part-replaced s r k ok) in
+      omega arith
+
+  abbrev image : List ℕ
+  image = plainImage (changedPlan s r k ok (length r)) (parts s r k ok)
+
+  abbrev pub listed : List Section
+  listed = stagedSections (readImage s .sections) k (length s) (length r)
+
+  same-kinds : (i : ℕ) → i < countOf s → stagedAt s r k i .kind ≡ sectionAt image i .kind
+  same-kinds i h = kind-is s r k ok i ∙ sym (fresh-kind s r k ok (a .replaced) within i h)
+
+  same-bytes : (i : ℕ) → i < countOf s → heldBy s r (stagedAt s r k i) ≡ dataOf image (sectionAt image i)
+  same-bytes i h = held-is s r k ok i h ∙ sym (fresh-data s r k ok (a .replaced) within i h)
+
+  fresh-sections : filled (sectionAt image) blankSection placeCount (countOf s) ≡ sectionsOf image
+  fresh-sections = ap (filled (sectionAt image) blankSection placeCount) (sym (fresh-count s r k ok (a .replaced) within))
+
+  pub records-are : recordsBy (heldBy s r) listed ≡ recordsOf (afresh s r k)
+  records-are =
+      ap (recordsBy (heldBy s r)) (sections-are s r k ok (a .replaced))
+      ∙ same-records (heldBy s r) (dataOf image) placeCount (countOf s) (stagedAt s r k) (sectionAt image) same-kinds same-bytes
+      ∙ ap (recordsBy (dataOf image)) fresh-sections
+      ∙ records-in image (sectionsOf image)
+      ∙ ap recordsOf (sym (afresh-is s r k ok))
+
+  pub stream-is : (stream : Stream) → joinedBy (heldBy s r) (streamSections stream listed) ≡ streamOf (afresh s r k) stream
+  unfolding streamOf
+  stream-is stream =
+      ap (λ (l : List Section). joinedBy (heldBy s r) (streamSections stream l)) (sections-are s r k ok (a .replaced))
+      ∙ same-stream (heldBy s r) (dataOf image) stream placeCount (countOf s) (stagedAt s r k) (sectionAt image) same-kinds same-bytes
+      ∙ ap (λ (l : List Section). joinedBy (dataOf image) (streamSections stream l)) fresh-sections
+      ∙ joined-in image (streamSections stream (sectionsOf image))
+      ∙ ap (λ (t : List ℕ). streamOf t stream) (sym (afresh-is s r k ok))
+
+  -- each is as long as the list says, and no longer than an image
+
+  holds-at : (i : ℕ) → i < countOf s → Holds (heldBy s r) (stagedAt s r k i)
+  holds-at i h = by (eqb i k)
+    where
+      by : (b : Bool) → Holds (heldBy s r) (choose b (moved (sectionAt s k) (length s) (length r)) (sectionAt s i))
+      by true = ap length (replaced-data s r k)
+      by false =
+          let q = entry s ok i h .ends in
+          ap length (held-inside s r (sectionAt s i) q) ∙ length-data s (sectionAt s i) q
+
+  small-at : (i : ℕ) → i < countOf s → stagedAt s r k i .length .0 ≤ sizeLimit
+  small-at i h = by (eqb i k)
+    where
+      by : (b : Bool) → choose b (moved (sectionAt s k) (length s) (length r)) (sectionAt s i) .length .0 ≤ sizeLimit
+      by true = replacement-small
+      by false = let q = entry s ok i h .ends in let m = head s ok .small in omega arith
+
+  blank-holds : Holds (heldBy s r) blankSection
+  blank-holds = ap length (held-inside s r blankSection (omega arith))
+
+  pub holds-all : All (Holds (heldBy s r)) listed
+  holds-all =
+      rw (sections-are s r k ok (a .replaced))
+      (all-filled (Holds (heldBy s r)) (stagedAt s r k) blankSection placeCount (countOf s) blank-holds holds-at)
+
+  pub small-all : All (λ (x : Section). x .length .0 ≤ sizeLimit) listed
+  small-all =
+      rw (sections-are s r k ok (a .replaced))
+      (all-filled (λ (x : Section). x .length .0 ≤ sizeLimit) (stagedAt s r k) blankSection placeCount (countOf s) (omega arith) small-at)
+
+  pub listed-long : length listed ≡ placeCount
+  listed-long = ap length (sections-are s r k ok (a .replaced)) ∙ length-filled (stagedAt s r k) blankSection placeCount (countOf s)
+
+  -- the flags of the image written afresh are the base's, which fit in two bytes
+  pub flags-are : readImage s .flags < 2 ^ 16 → headerFlagsOf (afresh s r k) ≡ readImage s .flags
+  flags-are h =
+      let e : readImage s .flags ≡ headerFlagsOf s = ap (λ (x : Reading). x .flags) (reading-accepted s ok) in
+      let g : headerFlagsOf s < 2 ^ 16 = omega arith in
+      ap headerFlagsOf (afresh-is s r k ok)
+      ∙ read-flags (changedPlan s r k ok (length r)) (parts s r k ok) (changed-planned s r k ok (a .replaced) within) g ∙ sym e
+
+  -- the roll of the image written afresh
+  pub roll-is : readImage s .flags < 2 ^ 16 → flagsRecord (readImage s .flags) ++ rollOf (recordsBy (heldBy s r) listed) ≡ rollBytes (afresh s r k)
+  unfolding rollBytes
+  roll-is h = ap₂ (λ (f : ℕ) (l : List Record). flagsRecord f ++ rollOf l) (sym (flags-are h)) records-are

@@ -1,0 +1,5 @@
+pub mod Accept
+pub mod Afresh
+pub mod Same
+pub mod Held
+pub mod Shown

@@ -1,0 +1,90 @@
+-- What is shown of a section, case by case: the replacement, the base's own part, or nothing.
+-- Assumes nothing.
+use Prim.Native.Nat.{ℕ, _<_}
+use mathlib.Core.Path.{_≡_, refl, sym, ap, _∙_}
+use mathlib.Core.Bool.{Bool, true, false}
+use mathlib.Core.List.{List, []}
+use native.Mathlib.Omega.{arith}
+use borrow.Author.Tests.{eq-eqb, ne-eqb}
+use lib.Dec.{eqb}
+use lib.ListN.{length, getD, take, drop}
+use lib.Seq.{getD-set-other, take-length}
+use Rattle.eif.specs.Numbers.{placeCount}
+use Rattle.eif.specs.Logic.{choose}
+use Rattle.eif.specs.Answers.{beside}
+use Rattle.eif.specs.Reading.{blankSection, sectionAt, dataOf, readImage}
+use Rattle.eif.specs.declared.Refusal.{Refusal}
+use Rattle.eif.specs.declared.Section.{Section}
+use Rattle.eif.specs.declared.Verdict.{Verdict}
+use Rattle.eif.specs.declared.Verdict.the-variants.{Accepted, Refused}
+use Rattle.plain_laws.proofs.WriteBack.{head}
+use Rattle.staged.specs.Staged.{stagedPart, stagedVerdict, shownPart}
+use Rattle.staged.specs.View.{moved, stagedSections, placeFor, stagedPlace}
+use Rattle.staged.proofs.Accept.{staged→}
+use Rattle.staged.proofs.Afresh.{part-is, part-kept}
+
+module _ (s r : List ℕ) (k j : ℕ) where
+  pub shown-refused : (x : Refusal) → stagedVerdict s (length r) k j ≡ Refused x → shownPart s r k j ≡ []
+  unfolding shownPart
+  shown-refused x e = simp e
+
+  module _ (e : stagedVerdict s (length r) k j ≡ Accepted) where
+    -- the number of a section is one of a place
+    pub in-places : j < placeCount
+    in-places = let a = staged→ s (length r) k j e in let f = head s (a .accepted) .few in let h = a .shown in omega arith
+
+    -- the replaced section is the replacement, whole
+    pub shown-replaced : j ≡ k → shownPart s r k j ≡ r
+    unfolding shownPart stagedPart
+    shown-replaced q = simp (e, eq-eqb j k q)
+
+    -- any other is that of the base
+    pub shown-kept : (j ≡ k → ⊥) → shownPart s r k j ≡ dataOf s (sectionAt s j)
+    unfolding shownPart
+    shown-kept n =
+        let a = staged→ s (length r) k j e in
+        ap (λ (v : Verdict). beside v (stagedPart s r k j) []) e
+        ∙ part-is s r k (a .accepted) j (a .shown) ∙ part-kept s r k (a .accepted) j n
+
+    -- as the view lists it
+    pub listed-kept : (j ≡ k → ⊥)
+        → dataOf s (getD (stagedSections (readImage s .sections) k (length s) (length r)) j blankSection) ≡ shownPart s r k j
+    unfolding shownPart stagedPart stagedSections
+    listed-kept n =
+        let l = readImage s .sections in
+        ap (dataOf s) (getD-set-other l k j (moved (getD l k blankSection) (length s) (length r)) blankSection n)
+        ∙ sym (simp (e, ne-eqb j k n))
+
+-- ---- where it lies: the same, by its place
+
+module _ (s : List ℕ) (size k j : ℕ) where
+  pub place-refused : (x : Refusal) → stagedVerdict s size k j ≡ Refused x → placeFor (Refused x) 0 0 0 ≡ stagedPlace s size k j
+  unfolding stagedPlace
+  place-refused x e = simp e
+
+  module _ (e : stagedVerdict s size k j ≡ Accepted) where
+    pub place-in : j < placeCount
+    place-in = let a = staged→ s size k j e in let f = head s (a .accepted) .few in let h = a .shown in omega arith
+
+    pub place-replaced : j ≡ k → placeFor Accepted 1 0 size ≡ stagedPlace s size k j
+    unfolding stagedPlace
+    place-replaced q = simp (e, eq-eqb j k q)
+
+    pub place-kept : (j ≡ k → ⊥) → (x : Section) → x ≡ getD (stagedSections (readImage s .sections) k (length s) size) j blankSection
+        → placeFor Accepted 0 (x .position .0) (x .length .0) ≡ stagedPlace s size k j
+    unfolding stagedPlace stagedSections
+    place-kept n x q =
+        let l = readImage s .sections in
+        ap (λ (y : Section). placeFor Accepted 0 (y .position .0) (y .length .0))
+        (q ∙ getD-set-other l k j (moved (getD l k blankSection) (length s) size) blankSection n)
+        ∙ sym (simp (e, ne-eqb j k n))
+
+-- the bytes there are what is shown
+pub place-shows : (s r : List ℕ) (k j : ℕ) → stagedVerdict s (length r) k j ≡ Accepted
+    → take (stagedPlace s (length r) k j .length .0) (drop (stagedPlace s (length r) k j .start) (choose (eqb j k) r s)) ≡ shownPart s r k j
+unfolding stagedPlace shownPart stagedPart
+place-shows s r k j e = rw e (by (getD (readImage s .sections) j blankSection) (eqb j k))
+  where
+    by : (x : Section) (b : Bool) → take (choose b (length r) (x .length .0)) (drop (choose b 0 (x .position .0)) (choose b r s)) ≡ choose b r (dataOf s x)
+    by x true = take-length r
+    by x false = refl

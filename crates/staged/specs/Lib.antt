@@ -1,0 +1,3 @@
+pub mod Staged
+pub mod View
+pub mod Order

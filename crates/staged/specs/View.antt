@@ -1,0 +1,56 @@
+-- The staged view as the code has it: a section list in which the replaced section stands as if the replacement followed the base, and
+-- the data of a section of such a list.
+-- Assumes nothing.
+use Prim.Native.Nat.{ℕ, _-_}
+use mathlib.Core.List.{List}
+use mathlib.Core.Path.{_≡_}
+use lib.Dec.{ltb, eqb}
+use lib.ListN.{length, getD, set, replicate}
+use Rattle.eif.specs.Numbers.{placeCount}
+use Rattle.eif.specs.Logic.{choose}
+use Rattle.eif.specs.Answers.{beside}
+use Rattle.eif.specs.Reading.{blankSection, dataOf, readImage}
+use Rattle.eif.specs.declared.Section.{Section}
+use Rattle.eif.specs.declared.Verdict.{Verdict}
+use Rattle.staged.specs.Staged.{stagedVerdict}
+use Rattle.staged.specs.declared.Staged.{Staged}
+use Rattle.staged.specs.declared.StagedPart.{StagedPart}
+
+-- a section with its data at another position, and of another length
+abbrev pub moved : Section → ℕ → ℕ → Section
+moved x at size = record { kind = x .kind; flags = x .flags; position = record { 0 = at }; length = record { 0 = size } }
+
+-- the base has so many bytes, the replacement so many
+unfoldable pub stagedSections : List Section → ℕ → ℕ → ℕ → List Section
+stagedSections l k at size = set l k (moved (getD l k blankSection) at size)
+
+abbrev pub stagedFor : Verdict → ℕ → List Section → Staged
+stagedFor verdict flags l =
+    record { verdict = verdict; flags = beside verdict flags 0; sections = beside verdict l (replicate placeCount blankSection) }
+
+abbrev pub blankStaged : Verdict → Staged
+blankStaged verdict = record { verdict = verdict; flags = 0; sections = replicate placeCount blankSection }
+
+unfoldable pub stagedView : List ℕ → ℕ → ℕ → ℕ → Staged
+stagedView s size k j =
+    stagedFor (stagedVerdict s size k j) (readImage s .flags) (stagedSections (readImage s .sections) k (length s) size)
+
+-- the data of any section, of the base s where it starts in it, and else of the replacement r
+unfoldable pub heldBy : List ℕ → List ℕ → Section → List ℕ
+heldBy s r x =
+    choose (ltb (x .position .0) (length s)) (dataOf s x) (dataOf r (moved x (x .position .0 - length s) (x .length .0)))
+
+-- the data is as long as the section says
+abbrev pub Holds : (Section → List ℕ) → Section → Type 0
+Holds held x = length (held x) ≡ x .length .0
+
+-- ---- where the data of section j lies, of a view with section k replaced by so many bytes
+
+abbrev pub placeFor : Verdict → ℕ → ℕ → ℕ → StagedPart
+placeFor verdict inReplacement start size =
+    record { verdict = verdict; «in_replacement» = beside verdict inReplacement 0; start = beside verdict start 0; length = record { 0 = beside verdict size 0 } }
+
+unfoldable pub stagedPlace : List ℕ → ℕ → ℕ → ℕ → StagedPart
+stagedPlace s size k j =
+    let x = getD (readImage s .sections) j blankSection in
+    placeFor (stagedVerdict s size k j) (choose (eqb j k) 1 0) (choose (eqb j k) 0 (x .position .0)) (choose (eqb j k) size (x .length .0))

@@ -1,0 +1,237 @@
+// Runs cases of the staged view, one line each: what is shown of each section, and the roll beside that of the image written afresh.
+ghost use mathlib.Core.Path.{_≡_};
+ghost use lib.ListN.{length};
+use eif::DataLength;
+use eif::PLACES;
+use eif::Place;
+use eif::Plan;
+use eif::Refusal;
+use eif::SectionType;
+use eif::Verdict;
+use eif::Written;
+
+// ---- lines
+
+fn text(bytes: &[u8]) {
+    io::write_all(libc::STDOUT_FILENO, bytes);
+}
+
+fn number(n: u64) {
+    io::print_decimal(libc::STDOUT_FILENO, n);
+}
+
+fn byte(b: u8) {
+    io::print_hex(libc::STDOUT_FILENO, b as u64, 2);
+}
+
+fn hex(bytes: &[u8]) {
+    let mut i: usize = 0;
+    while i < bytes.len() {
+        byte(bytes[i]);
+        i += 1;
+    }
+}
+
+fn refusal(r: Refusal) {
+    text(b"refused ");
+    number(r.number as u64);
+    text(b" at ");
+    number(r.index);
+    text(b" byte ");
+    number(r.position);
+}
+
+fn answer(verdict: Verdict) {
+    match verdict {
+        Verdict::Accepted => text(b"accepted"),
+        Verdict::Refused(r) => refusal(r),
+    }
+}
+
+// ---- the view
+
+// What is shown of a section: the verdict, the length and the bytes.
+fn shown<'a>(base: &'a [u8], replacement: &'a [u8], replaced: u64, section: u64) {
+    text(b"replaced ");
+    number(replaced);
+    text(b", shown ");
+    number(section);
+    text(b": ");
+    let verdict = staged_view::verdict(base, replacement, replaced, section);
+    answer(verdict);
+    let part = staged_view::section(base, replacement, replaced, section);
+    let place = staged_view::place(base, replacement.len() as u64, replaced, section);
+    text(b", length ");
+    number(part.len() as u64);
+    text(b", ");
+    text(part);
+    text(b", of the replacement ");
+    number(place.in_replacement as u64);
+    text(b" from ");
+    number(place.start);
+    text(b" length ");
+    number(place.length.0);
+    text(b"\n");
+}
+
+fn rolled(written: Written) {
+    let verdict = written.verdict;
+    answer(verdict);
+    text(b", length ");
+    number(written.length);
+}
+
+// ---- the base: kernel, command line and two ramdisks
+
+fn put_base(image: &mut [u8]) {
+    case_images::put_header(image, 2, 1, 4);
+    case_images::put_section(image, 0, 548, SectionType::KERNEL, 0, b"Kern");
+    case_images::put_section(image, 1, 564, SectionType::COMMAND_LINE, 0, b"a=1");
+    case_images::put_section(image, 2, 579, SectionType::RAMDISK, 0, b"first");
+    case_images::put_section(image, 3, 596, SectionType::RAMDISK, 7, b"second");
+    case_images::seal(image);
+}
+
+fn views() {
+    let mut base = [0u8; 614];
+    put_base(&mut base);
+    shown(&base, b"mended", 2, 0);
+    shown(&base, b"mended", 2, 1);
+    shown(&base, b"mended", 2, 2);
+    shown(&base, b"mended", 2, 3);
+    shown(&base, b"", 3, 3);
+    shown(&base, b"mended", 4, 0);
+    shown(&base, b"mended", 0, 4);
+    shown(&base, b"mended", 18446744073709551615, 0);
+}
+
+// The base's refusal comes first.
+fn damaged() {
+    let mut base = [0u8; 614];
+    put_base(&mut base);
+    case_images::put_header(&mut base, 9, 1, 4);
+    shown(&base, b"mended", 9, 9);
+}
+
+// ---- the roll
+
+fn place(kind: u16, flags: u16, size: u64) -> Place {
+    Place {
+        kind,
+        flags,
+        length: DataLength(size),
+    }
+}
+
+fn told(equal: bool) {
+    if equal {
+        text(b"equal\n");
+    } else {
+        text(b"different\n");
+    }
+}
+
+// The roll of an image, and the staged roll.
+fn both<'a>(image: &[u8], base: &'a [u8], replacement: &'a [u8], replaced: u64) {
+    let mut plain = [238u8; 82];
+    let first = roll_writer::write(image, &mut plain);
+    text(b"the image's roll: ");
+    rolled(first);
+    let mut staged = [238u8; 82];
+    let second = roll_writer::write_staged(base, replacement, replaced, &mut staged);
+    text(b"; the staged roll: ");
+    rolled(second);
+    text(b", ");
+    hex(&staged);
+    text(b", ");
+    told(check::same(&plain, &staged));
+}
+
+// The plan of the image written afresh with `mended` for section 2.
+fn mended_plan() -> Plan {
+    let none = place(0, 0, 0);
+    let mut places = [none; PLACES];
+    places[0] = place(SectionType::KERNEL, 0, 4);
+    places[1] = place(SectionType::COMMAND_LINE, 0, 3);
+    places[2] = place(SectionType::RAMDISK, 0, 6);
+    places[3] = place(SectionType::RAMDISK, 7, 6);
+    Plan {
+        version: 2,
+        flags: 1,
+        memory: 0,
+        cpus: 0,
+        count: 4,
+        places,
+    }
+}
+
+fn mended() {
+    let mut base = [0u8; 614];
+    put_base(&mut base);
+    let plan = mended_plan();
+    let mut fresh = [0u8; 615];
+    let image = eif_writer::write(plan, b"Kerna=1mendedsecond", &mut fresh);
+    text(b"afresh: ");
+    rolled(image);
+    text(b"\n");
+    both(&fresh, &base, b"mended", 2);
+}
+
+// A section replaced by its own data.
+fn itself() {
+    let mut base = [0u8; 614];
+    put_base(&mut base);
+    both(&base, &base, b"second", 3);
+}
+
+// Into a room of 8 bytes, for a section.
+fn small_room(base: &[u8], replaced: u64) {
+    let mut out = [238u8; 8];
+    let answered = roll_writer::write_staged(base, &base[..0], replaced, &mut out);
+    text(b"room 8, section ");
+    number(replaced);
+    text(b": ");
+    rolled(answered);
+    text(b", ");
+    hex(&out);
+    text(b"\n");
+}
+
+fn refusals() {
+    let mut base = [0u8; 614];
+    put_base(&mut base);
+    small_room(&base, 2);
+    small_room(&base, 4);
+}
+
+// Over the limit, by the length alone: the base written afresh is 614 bytes, of which the first ramdisk is 5.
+fn limits() {
+    let mut base = [0u8; 614];
+    put_base(&mut base);
+    let most = staged_view::judge(&base, 1073741215, 2, 2);
+    let at_limit = most.verdict;
+    text(b"at the limit: ");
+    answer(at_limit);
+    let over = staged_view::judge(&base, 1073741216, 2, 2);
+    let past_limit = over.verdict;
+    text(b"\none more: ");
+    answer(past_limit);
+    let huge = staged_view::judge(&base, 18446744073709551615, 2, 2);
+    let huge_verdict = huge.verdict;
+    text(b"\nthe most: ");
+    answer(huge_verdict);
+    let both = staged_view::judge(&base, 18446744073709551615, 2, 4);
+    let both_verdict = both.verdict;
+    text(b"\nthe most, shown 4: ");
+    answer(both_verdict);
+    text(b"\n");
+}
+
+fn main() {
+    views();
+    damaged();
+    mended();
+    itself();
+    refusals();
+    limits();
+}

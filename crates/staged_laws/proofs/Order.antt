@@ -1,0 +1,54 @@
+-- A refusal of a staged view, and of its roll, carries the number, the index and the position of the first rule that applies.
+-- Assumes nothing.
+use Prim.Native.Nat.{ℕ}
+use mathlib.Core.Path.{_≡_, refl, sym, ap, ap₂, _∙_}
+use mathlib.Core.Bool.{Bool, true, false}
+use mathlib.Core.List.{List, [], _∷_}
+use lib.Dec.{ltb, leb}
+use lib.ListN.{length}
+use Rattle.eif.specs.Numbers.{sizeLimit, imageTooLong, outputTooShort, noSuchSection}
+use Rattle.eif.specs.Logic.{either, choose}
+use Rattle.eif.specs.Answers.{refuse, andThen}
+use Rattle.eif.specs.Layout.{countOf}
+use Rattle.eif.specs.Reading.{verdictOf, readImage}
+use Rattle.eif.specs.Plan.{plainSize}
+use Rattle.eif.specs.Roll.{rollBytes}
+use Rattle.eif.specs.Order.{rule, firstThatApplies, imageRules}
+use Rattle.eif.specs.declared.Refusal.{Refusal}
+use Rattle.eif.specs.declared.Verdict.{Verdict}
+use Rattle.eif.specs.declared.Verdict.the-variants.{Accepted, Refused}
+use Rattle.eif_laws.proofs.FirstApplies.{read-first, first-append}
+use Rattle.staged.specs.Staged.{stagedPlan, afresh, stagedVerdict, stagedRollVerdict, shownPart}
+use Rattle.staged.specs.Order.{stagedRules, stagedRollRules}
+use Rattle.staged.proofs.Accept.{count-is}
+
+-- one number for two tests
+both-tests : {A : Type 0} (b c : Bool) (x y : A) → choose (either b c) x y ≡ choose b x (choose c x y)
+both-tests true c x y = refl
+both-tests false c x y = refl
+
+module _ (s : List ℕ) (size k j : ℕ) where
+  abbrev long : Bool
+  long = ltb sizeLimit (plainSize (stagedPlan s k size))
+
+  -- the tests of the view by a number of sections
+  abbrev by : ℕ → Verdict
+  by n = choose (either (leb n k) (leb n j)) (refuse noSuchSection 0) (choose long (refuse imageTooLong 0) Accepted)
+
+  -- where the base is accepted its reading's count is the header's
+  same-count : (v : Verdict) → verdictOf s ≡ v → andThen v (by (readImage s .count)) ≡ andThen v (by (countOf s))
+  same-count Accepted e = ap by (count-is s e)
+  same-count (Refused r) e = refl
+
+  pub staged-first : stagedVerdict s size k j ≡ firstThatApplies (stagedRules s size k j)
+  unfolding stagedVerdict stagedRules firstThatApplies
+  staged-first =
+      same-count (verdictOf s) refl
+      ∙ ap₂ andThen (read-first s) (both-tests (leb (countOf s) k) (leb (countOf s) j) (refuse noSuchSection 0) (choose long (refuse imageTooLong 0) Accepted))
+      ∙ sym (first-append (imageRules s) _)
+
+pub staged-roll-first : (s r : List ℕ) (k room : ℕ) → stagedRollVerdict s r k room ≡ firstThatApplies (stagedRollRules s r k room)
+unfolding stagedRollVerdict stagedRollRules firstThatApplies
+staged-roll-first s r k room =
+    ap (λ (v : Verdict). andThen v (choose (ltb room (length (rollBytes (afresh s r k)))) (refuse outputTooShort 0) Accepted)) (staged-first s (length r) k k)
+    ∙ sym (first-append (stagedRules s (length r) k k) _)
