@@ -72,9 +72,13 @@ judged v =
 unfoldable pub verdictIn : View → ℕ → Verdict
 verdictIn v computed = andThen (judged v) (wholeVerdict (checksumRule v computed))
 
--- the checksum over every byte of a file but 544 to 547, which are taken out
+-- every byte of a file but 544 to 547, which are taken out
+abbrev pub checkedBytes : List ℕ → List ℕ
+checkedBytes s = take checksumAt s ++ drop headerSize s
+
+-- the checksum over them
 unfoldable pub checksumOf : List ℕ → ℕ
-checksumOf s = crc32 (take checksumAt s ++ drop headerSize s)
+checksumOf s = crc32 (checkedBytes s)
 
 abbrev pub verdictOf : List ℕ → Verdict
 verdictOf s = verdictIn (viewOf s) (checksumOf s)

@@ -11,33 +11,41 @@ pub const COMMAND: Command = Command {
     name: "check",
     summary: "say of each image whether it is accepted",
     help: "\
-usage: eif check [--quiet] FILE..
+usage: eif check [--quiet | --explain] FILE..
 
 Reads each image and prints one line for it, as
     FILE: accepted
     FILE: refused 13 at 0: checksum differs
 
-  --quiet   print nothing; the exit status tells
+  --explain   a second line: of an accepted image what its checksum promises,
+              of a refused one what to do
+  --quiet     print nothing; the exit status tells
 
 Exit status: 0 all are accepted, 1 one is refused, 2 one cannot be read.
 ",
     options: Options {
-        flags: &["--quiet"],
+        flags: &["--explain", "--quiet"],
         values: &[],
     },
     run,
 };
 
+/// What is proved of the checksum of an accepted image, and what is not.
+const PROMISE: &str = "  the checksum promises: no damage within four neighbouring bytes outside bytes 544 to \
+    547, and none to these alone, made this file of another accepted one; farther damage, a stretch \
+    that reaches into these bytes, and changes on purpose are not promised to be seen\n";
+
 fn run(args: Args) -> Result<Status, Trouble> {
     let names = args.some_operands("FILE")?;
     let read = |name: &OsStr| input::arrive(name, Keep::Nothing);
     input::each(names, read, |input| {
-        let (status, verdict) = match &input.answer {
-            Ok(_) => (Status::Fine, "accepted".to_string()),
-            Err(refusal) => (Status::Refused, refusal.to_string()),
+        let (status, verdict, why) = match &input.answer {
+            Ok(_) => (Status::Fine, "accepted".to_string(), PROMISE.to_string()),
+            Err(refusal) => (Status::Refused, refusal.to_string(), words::advice(refusal)),
         };
         if !args.has("--quiet") {
-            output::print(&words::about(&input.name, &(verdict + "\n")))?;
+            let why = if args.has("--explain") { &why } else { "" };
+            output::print(&words::about(&input.name, &format!("{verdict}\n{why}")))?;
         }
         Ok(status)
     })
