@@ -8,3 +8,4 @@ pub mod Left
 pub mod Joined
 pub mod FoldBits
 pub mod FoldWords
+pub mod Burst

@@ -5,7 +5,7 @@ use mathlib.Core.Path.{_≡_, refl, sym, ap, ap₂, _∙_}
 use native.Mathlib.Nat.{mod-lt, not-suc-le-zero, le-of-suc-le-suc}
 use lib.Arith.{bin-ind, digits-mod}
 use lib.Dec.{lit<}
-use lib.Bits.{bitXor, differ, xor-step, xor-shr, xor-comm}
+use lib.Bits.{bitXor, differ, xor-step, xor-shr, xor-comm, xor-self}
 
 pub too-big : {x : ℕ} → suc (suc x) < 2 → ⊥
 too-big h = not-suc-le-zero (le-of-suc-le-suc (le-of-suc-le-suc h))
@@ -57,3 +57,12 @@ xor-swap a b c d =
     xor-assoc a b (bitXor c d)
     ∙ ap (bitXor a) (sym (xor-assoc b c d) ∙ ap (λ (x : ℕ). bitXor x d) (xor-comm b c) ∙ xor-assoc c b d)
     ∙ sym (xor-assoc a c (bitXor b d))
+
+pub xor-cancel : (a b c : ℕ) → bitXor a b ≡ bitXor a c → b ≡ c
+xor-cancel a b c e = sym (undo b) ∙ ap (bitXor a) e ∙ undo c
+  where
+    undo : (x : ℕ) → bitXor a (bitXor a x) ≡ x
+    undo x = sym (xor-assoc a a x) ∙ ap (λ (y : ℕ). bitXor y x) (xor-self a)
+
+pub xor-zero-eq : (a b : ℕ) → bitXor a b ≡ 0 → a ≡ b
+xor-zero-eq a b e = sym (xor-cancel a b a (e ∙ sym (xor-self a)))

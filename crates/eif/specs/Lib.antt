@@ -6,6 +6,7 @@ pub mod Table
 pub mod Layout
 pub mod Reading
 pub mod Acceptance
+pub mod Burst
 pub mod Output
 pub mod Plan
 pub mod Stream

@@ -95,9 +95,13 @@ early v = andThen (located (v .header) (judged v)) (wholeAt (tailRule v) (start 
 unfoldable pub verdictIn : View → ℕ → Verdict
 verdictIn v computed = andThen (early v) (wholeAt (checksumRule v computed) checksumAt)
 
--- the checksum over every byte of a file but 544 to 547, which are taken out
+-- every byte of a file but 544 to 547, which are taken out
+abbrev pub checkedBytes : List ℕ → List ℕ
+checkedBytes s = take checksumAt s ++ drop headerSize s
+
+-- the checksum over them
 unfoldable pub checksumOf : List ℕ → ℕ
-checksumOf s = crc32 (take checksumAt s ++ drop headerSize s)
+checksumOf s = crc32 (checkedBytes s)
 
 abbrev pub verdictOf : List ℕ → Verdict
 verdictOf s = verdictIn (viewOf s) (checksumOf s)

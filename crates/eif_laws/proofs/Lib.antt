@@ -1,3 +1,4 @@
 pub mod Acceptance
 pub mod FirstApplies
 pub mod Listed
+pub mod Burst

@@ -364,6 +364,24 @@ fn input_without_end_ends() {
 }
 
 #[test]
+fn check_explains_when_told() {
+    let folder = packed();
+    damaged(&folder);
+    let explained = folder.eif("check --explain packed.eif damaged.eif");
+    assert_eq!(explained.status, 1);
+    let text = explained.text();
+    let lines: Vec<&str> = text.lines().collect();
+    assert_eq!(lines.len(), 4);
+    assert_eq!(lines[0], "packed.eif: accepted");
+    assert!(
+        lines[1].starts_with("  the checksum promises: no damage within four neighbouring bytes")
+    );
+    assert_eq!(lines[2], "damaged.eif: refused 13 at 0: checksum differs");
+    assert!(lines[3].starts_with("  what to do: "));
+    folder.eif("check --explain --quiet packed.eif").says(0, "");
+}
+
+#[test]
 fn check_is_quiet_when_told() {
     let folder = packed();
     damaged(&folder);
