@@ -69,6 +69,8 @@ show-test: kit
 	tests/show.sh target/bin/eif_show
 	$(RT) check eif_check
 	tests/check.sh target/bin/eif_check
+	$(RT) check eif_assemble
+	tests/assemble.sh target/bin/eif_assemble
 
 c-test: $(archive)
 	tests/need.sh gcc $(CC)
@@ -76,7 +78,7 @@ c-test: $(archive)
 	tests/header.sh $(CC)
 	tests/archive.sh $(EIF_LIB_DIR)/libeif_c.a include/eif.h
 	mkdir -p target/c-test
-	for name in worked boundary sign1; do \
+	for name in worked boundary sign1 staged assembler; do \
 	    $(CC) -std=c99 $(C_WARNINGS) -Iinclude tests/c/$$name.c $(EIF_LIB_DIR)/libeif_c.a -o target/c-test/$$name-c && \
 	    target/c-test/$$name-c && \
 	    $(CXX) -std=c++11 $(C_WARNINGS) -Iinclude -x c++ tests/c/$$name.c -x none $(EIF_LIB_DIR)/libeif_c.a -o target/c-test/$$name-cpp && \

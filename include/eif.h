@@ -1,6 +1,8 @@
 /* SPDX-License-Identifier: Apache-2.0 */
 /*
- * Reader, writer, registers, boot rolls and signatures' claims of enclave image files (EIF).
+ * Enclave image files (EIF): reading them, whole or as they arrive, and writing them; measured streams,
+ * registers and boot rolls; assembling an image from pieces in any order; staging one with a section
+ * replaced; what signatures claim; JSON texts, as metadata should be.
  *
  * The C interface to a static library, libeif_c.a, whose every function is proved to meet the rules
  * of docs/FORMAT.md, which is cited below by section. It links into x86-64 programs. Of other
@@ -13,20 +15,21 @@
  * What a caller owes is what C cannot say in a type:
  *   - a pointer and its length describe bytes that stay as they are during the call, but for those
  *     that the call itself writes. Where the length is 0, any pointer will do, null too;
- *   - the output buffer overlaps no input.
+ *   - the output buffer overlaps no input; of eif_assembler_step, neither buffer overlaps the record or
+ *     the other.
  *
  * The answer of a call that can refuse begins with a number (eif_arriving_finish's has it in its
  * reading): 0 where the call is accepted, and otherwise the first of the numbers below that applies, in
  * the order that FORMAT.md gives for the call. Beside a refusal
- *   - no byte of the output buffer has changed;
+ *   - no byte of the output buffer has changed, nor of an assembler's two buffers;
  *   - index is the index of the section or record for 6 to 11, 16, 17, 21 and, where a section is
  *     not packed, 20; and 0 for the others;
  *   - position is where what is at fault stands (FORMAT.md, Positions), counted from the start of the
  *     image or, where a roll was read, of the roll: a header field, the table's offset entry of the
- *     section, its own header, the record's start, or the first byte too many; and 0 for the numbers
- *     that have no place there, and for every refusal of a plan;
+ *     section, its own header, its data for 21, the record's start, or the first byte too many; and 0
+ *     for the numbers that have no place there, and for every refusal of a plan;
  *   - all else in the answer is 0, but first_ramdisk, which is EIF_NO_RAMDISK, and the states that
- *     eif_sha384_update and eif_arriving_finish answer.
+ *     eif_sha384_update, eif_arriving_finish and eif_assembler_step answer.
  * A call that reads an image first hands that refusal on as it is, position too.
  *
  * Answers have no padding, and their reserved fields are 0: equal answers are equal by memcmp.
@@ -94,6 +97,12 @@ extern "C" {
 /* The longest COSE_Sign1. A buffer of this length takes any. */
 #define EIF_MAX_SIGN1_LENGTH 281
 
+/* The bytes of every piece of a transfer but the last, and the longest record: its head, a piece's start and
+ * its data. An image of n bytes has (n + EIF_PIECE_LENGTH - 1) / EIF_PIECE_LENGTH pieces, and as many
+ * marks. */
+#define EIF_PIECE_LENGTH 4096
+#define EIF_MAX_TRANSFER_RECORD_LENGTH 4114
+
 /* What first_ramdisk is where there is no ramdisk, and beside a refusal. */
 #define EIF_NO_RAMDISK 32
 
@@ -128,8 +137,13 @@ enum eif_number {
     EIF_PAST_STREAM_END = 19,
     EIF_NOT_PACKED = 20, /* index: of the section, or 0 for bytes after the last */
     EIF_METADATA_NOT_JSON = 21, /* of eif_read_strict alone */
-    EIF_NOT_SIGN1 = 28, /* also of a claim or a signature that cannot be written */
+    EIF_PIECE_RECORD_WRONG = 22, /* 22 to 26 are of eif_assembler_step alone */
+    EIF_PIECE_OUT_OF_TURN = 23,
+    EIF_BUFFER_TOO_SHORT = 24,
+    EIF_PIECE_DIFFERS = 25,
+    EIF_PIECE_MISSING = 26,
     EIF_NO_SUCH_SECTION = 27, /* of the section to be replaced, or of the one to be shown */
+    EIF_NOT_SIGN1 = 28, /* also of a claim or a signature that cannot be written */
     EIF_MESSAGE_TOO_LONG = 29
 };
 
@@ -161,8 +175,16 @@ static inline const char *eif_meaning(uint8_t number) {
     case EIF_PAST_STREAM_END: return "stream position past the stream's end";
     case EIF_NOT_PACKED: return "section not packed, or bytes after the last section";
     case EIF_METADATA_NOT_JSON: return "metadata is not one JSON text";
-    case EIF_NOT_SIGN1: return "not one COSE_Sign1 of the accepted form";
+    case EIF_PIECE_RECORD_WRONG:
+        return "record not of a transfer's form, or a piece that the image does not have";
+    case EIF_PIECE_OUT_OF_TURN:
+        return "open record while a transfer is open, or another record while none is";
+    case EIF_BUFFER_TOO_SHORT:
+        return "buffer too short for the image or its marks, or shorter than at open";
+    case EIF_PIECE_DIFFERS: return "piece already held with other bytes";
+    case EIF_PIECE_MISSING: return "close record with a piece missing";
     case EIF_NO_SUCH_SECTION: return "section number at or past the number of sections";
+    case EIF_NOT_SIGN1: return "not one COSE_Sign1 of the accepted form";
     case EIF_MESSAGE_TOO_LONG: return "message longer than 2,305,843,009,213,693,951 bytes";
     default: return "unknown number";
     }
@@ -303,6 +325,32 @@ typedef struct eif_arriving_finished {
     eif_arriving state;  /* as it was, its end told */
     eif_reading reading; /* what eif_read answers on the bytes taken */
 } eif_arriving_finished;
+
+/* The kinds of a transfer's records. */
+enum eif_transfer_record {
+    EIF_OPEN_RECORD = 1,
+    EIF_PIECE_RECORD = 2,
+    EIF_CLOSE_RECORD = 3
+};
+
+/* A transfer whose pieces come in any order, a value that is kept beside its two buffers. Any value whatever
+ * is one; a fresh one comes from eif_assembler_new. */
+typedef struct eif_assembler {
+    uint64_t opened; /* 0: no transfer is open; a call makes it 1; any other value counts as open */
+    uint64_t length; /* the image length that the open record announced, else 0 */
+    uint64_t room;   /* the image buffer's length at open, else 0 */
+    uint64_t places; /* the mark buffer's length at open, else 0 */
+} eif_assembler;
+
+/* What a record makes of a transfer. */
+typedef struct eif_assembler_stepped {
+    uint8_t number; /* EIF_ACCEPTED, or one of 1 and 22 to 26 */
+    uint8_t reserved[7];
+    uint64_t index;      /* always 0 */
+    uint64_t position;   /* always 0 */
+    eif_assembler state; /* after the record; beside a refusal as it was */
+    uint64_t length;     /* the image length where a close record is accepted, else 0 */
+} eif_assembler_stepped;
 
 /* A length, or a refusal. */
 typedef struct eif_answer {
@@ -561,6 +609,31 @@ EIF_MUST_USE eif_registers_answer eif_staged_registers(const uint8_t *base, size
                                                        const uint8_t *replacement,
                                                        size_t replacement_length,
                                                        uint64_t replaced);
+
+/* Puts an image together from pieces that come in any order, some of them twice (FORMAT.md, Pieces out of
+ * order). Records are handed over one a call, each exactly its bytes, with the image buffer and the mark
+ * buffer as the last call left them:
+ *
+ *     eif_assembler state = eif_assembler_new();
+ *     eif_assembler_stepped done =
+ *         eif_assembler_step(state, sent, sent_length, image, image_length, marks, marks_length);
+ *     state = done.state;
+ *     ... refused where done.number is not 0: nothing has changed, and the next record can be taken;
+ *         else, where state.opened is 0, that was a close record: the image is the first done.length bytes
+ *         of image. It is not read yet: eif_read says whether it is accepted ...
+ *
+ * A record is an 8-byte length of what follows its head and a 2-byte kind, both little-endian, and then: for
+ * EIF_OPEN_RECORD the image's length in 8 bytes; for EIF_PIECE_RECORD the piece's start in 8 bytes, a multiple
+ * of EIF_PIECE_LENGTH, and its data, EIF_PIECE_LENGTH bytes or, of the last piece, the rest; for
+ * EIF_CLOSE_RECORD nothing. An open record sets the marks of the image's pieces to 0; a piece that is not
+ * held yet has its data and its mark, 1, written; no other byte of either buffer ever changes. A mark other
+ * than 0 says that the piece is held.
+ * Refusals: 22 (form), 23, 22 (start and length of a piece), 1, 24, 25, 26. */
+EIF_MUST_USE eif_assembler eif_assembler_new(void);
+EIF_MUST_USE eif_assembler_stepped eif_assembler_step(eif_assembler state, const uint8_t *sent,
+                                                      size_t sent_length, uint8_t *image,
+                                                      size_t image_length, uint8_t *marks,
+                                                      size_t marks_length);
 
 #ifdef __cplusplus
 }

@@ -1,7 +1,7 @@
 """COSE_Sign1 byte strings from an encoder that shares nothing with the library.
 
-Prints which encoder it is: cbor2, or where that is absent the one below, to which cbor2 is held where it is
-there. Then a line for each claim: algorithm, register index, register value, signature and the byte string,
+The bytes are those of the encoder below; where cbor2 is there, it is asserted to give the same. Prints whether
+it is, then a line for each claim: algorithm, register index, register value, signature and the byte string,
 the last three in hexadecimal.
 """
 import random
@@ -58,7 +58,7 @@ def claims():
                 yield algorithm, index, value, chance.randbytes(length)
 
 
-print("encoder:", "cbor2" if cbor2 else "the script's own")
+print("encoder: the script's own,", "equal to cbor2" if cbor2 else "without cbor2")
 for algorithm, index, value, signature in claims():
     encoded = sign1(algorithm, index, value, signature)
     print(algorithm, index, value.hex(), signature.hex(), encoded.hex())

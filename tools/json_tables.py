@@ -127,8 +127,8 @@ def cons(numbers, width):
 
 
 def const(name, numbers):
-    lines = [numbers[i:i + 20] for i in range(0, len(numbers), 20)]
-    body = "".join("    " + ", ".join(map(str, line)) + ",\n" for line in lines)
+    """One number to a line, which is the kit's layout."""
+    body = "".join(f"    {number},\n" for number in numbers)
     return f"pub const {name}: [u8; {len(numbers)}] = [\n{body}];\n"
 
 

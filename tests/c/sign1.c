@@ -27,8 +27,8 @@ static void check(int holds, const char *what) {
 
 static int is(eif_answer answer, unsigned number, uint64_t length) {
     static const uint8_t zeros[7] = {0};
-    return answer.number == number && answer.index == 0 && answer.length == length &&
-           memcmp(answer.reserved, zeros, sizeof zeros) == 0;
+    return answer.number == number && answer.index == 0 && answer.position == 0 &&
+           answer.length == length && memcmp(answer.reserved, zeros, sizeof zeros) == 0;
 }
 
 /* All bytes from begin up to end still have their first value. */

@@ -13,7 +13,7 @@
 
 enum { STACK_LENGTH = 1 << 18, PATTERN = 0xa5, SECTIONS = EIF_MAX_SECTIONS, METADATA = 2 };
 enum { TEXT_LENGTH = 2 * EIF_MAX_JSON_DEPTH };
-enum { SHORT_SECTION = 40, LONG_SECTION = 4000, ROOM = 1 << 18 };
+enum { SHORT_SECTION = 98, LONG_SECTION = 4000, ROOM = 1 << 18 };
 
 static uint8_t stack[STACK_LENGTH];
 static ucontext_t here, there;
@@ -40,6 +40,14 @@ static eif_digest digest;
 static eif_sign1_claim claim;
 static eif_sign1_reading sign1_reading;
 static uint8_t sign1[EIF_MAX_SIGN1_LENGTH];
+static eif_staged_part_answer staged_part;
+static eif_registers_answer staged_registers;
+static eif_assembler assembler;
+static eif_assembler_stepped stepped;
+/* An open record for an image of two pieces, the first of them, and room for both. */
+static const uint8_t open_record[18] = {8, 0, 0, 0, 0, 0, 0, 0, EIF_OPEN_RECORD, 0, 1, 16};
+static uint8_t piece_record[EIF_MAX_TRANSFER_RECORD_LENGTH] = {8, 16, 0, 0, 0, 0, 0, 0, EIF_PIECE_RECORD};
+static uint8_t assembled[2 * EIF_PIECE_LENGTH], marks[2];
 
 static void nothing(void) {}
 static void call_read(void) { reading = eif_read(image, image_length); }
@@ -84,6 +92,29 @@ static void call_sign1_write(void) {
     answer = eif_sign1_write(claim, data, 132, sign1, sizeof sign1);
 }
 static void call_sign1_read(void) { sign1_reading = eif_sign1_read(sign1, sizeof sign1); }
+/* Its last ramdisk replaced, which is shown. */
+static void call_staged_part(void) {
+    staged_part = eif_staged_part(image, image_length, data_length, SECTIONS - 1, SECTIONS - 1);
+}
+static void call_staged_roll_length(void) {
+    answer = eif_staged_roll_length(image, image_length, data, data_length, SECTIONS - 1);
+}
+static void call_staged_roll_write(void) {
+    answer = eif_staged_roll_write(image, image_length, data, data_length, SECTIONS - 1, out, sizeof out);
+}
+static void call_staged_registers(void) {
+    staged_registers = eif_staged_registers(image, image_length, data, data_length, SECTIONS - 1);
+}
+
+static void call_assembler_new(void) { assembler = eif_assembler_new(); }
+static void call_assembler_open(void) {
+    stepped = eif_assembler_step(assembler, open_record, sizeof open_record, assembled,
+                                 sizeof assembled, marks, sizeof marks);
+}
+static void call_assembler_piece(void) {
+    stepped = eif_assembler_step(stepped.state, piece_record, sizeof piece_record, assembled,
+                                 sizeof assembled, marks, sizeof marks);
+}
 
 /* The bytes of stack that a function takes, with what the switch to it takes. */
 static size_t used(void (*function)(void)) {
@@ -160,6 +191,14 @@ static const struct {
     {"eif_roll_read", call_roll_read},
     {"eif_sign1_write", call_sign1_write},
     {"eif_sign1_read", call_sign1_read},
+    {"eif_staged_part", call_staged_part},
+    {"eif_staged_roll_length", call_staged_roll_length},
+    {"eif_staged_roll_write", call_staged_roll_write},
+    {"eif_staged_registers", call_staged_registers},
+    {"eif_assembler_new", call_assembler_new},
+    {"eif_assembler_step 1", call_assembler_open},
+    {"eif_assembler_step 2", call_assembler_piece},
+    {"eif_assembler_step 2", call_assembler_piece},
 };
 
 /* Each call on an image of sections of so many bytes, within so many KiB. Answers how many take more. */
@@ -174,11 +213,13 @@ static int try_calls(size_t section, size_t kib) {
     for (size_t i = 0; i < sizeof calls / sizeof calls[0]; i++) {
         size_t bytes = used(calls[i].function) - least;
         int fits = bytes <= kib * 1024;
-        printf("stack: %-20s %6zu bytes%s\n", calls[i].name, bytes, fits ? "" : ": too many");
+        printf("stack: %-22s %6zu bytes%s\n", calls[i].name, bytes, fits ? "" : ": too many");
         failures += !fits || reading.number != 0 || arrived.reading.number != 0 ||
                     roll_reading.number != 0 || answer.number != 0 || registers.number != 0 ||
-                    fed.number != 0 || json.is_text != 1 || sign1_reading.number != 0;
+                    fed.number != 0 || sign1_reading.number != 0 ||
+                    staged_part.number != 0 || staged_registers.number != 0 || stepped.number != 0;
     }
+    failures += json.is_text != 1 || marks[0] != 1 || marks[1] != 0;
     return failures;
 }
 

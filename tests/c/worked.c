@@ -233,6 +233,7 @@ static void try_strict(const uint8_t *worked) {
             continue;
         }
         check(strict.number == EIF_METADATA_NOT_JSON && strict.index == 2, "metadata cut");
+        check(strict.position == 586, "where the metadata stands");
         check(strict.count == 0 && strict.first_ramdisk == EIF_NO_RAMDISK, "beside 21");
         image[560] ^= 1;
         check(eif_read_strict(image, image_length).number == EIF_CHECKSUM_DIFFERS, "13 before 21");

@@ -27,7 +27,7 @@ use Rattle.assembler_rules.specs.declared.Stepped.{Stepped}
 use Rattle.assembler_rules.proofs.Piece.{place-in, piece-in, held-yes, piece-kept, piece-put}
 use Rattle.assembler_rules.proofs.Faults.{PieceTaken, fault-not-open, accepted-form, accepted-piece}
 use Rattle.assembler_rules.proofs.Steps.{Answers, step-refused, step-taken, step-closed}
-use Rattle.assembler_laws.specs.Run.{Memory, memory, answer, after, run, Outside, OutsideTaken, OutsideAll}
+use Rattle.assembler_laws.specs.Run.{Memory, memory, answer, after, run, Outside, OutsideTaken, OutsideAll, OtherMarks}
 use Rattle.assembler_laws.proofs.Lists.{over-other, same-of, gap-found}
 use Rattle.assembler_laws.proofs.Accept.{LongEnough, piece-fine, close-lacks}
 
@@ -243,3 +243,9 @@ pub run-elsewhere : (rs : List (List ℕ)) (w : Memory) (i : ℕ) → OutsideAll
 unfolding run OutsideAll
 run-elsewhere [] w i h = refl
 run-elsewhere (r ∷ rs) w i h = run-elsewhere rs (after w r) i (h .1) ∙ image-elsewhere w r i (h .0)
+
+-- nor a mark but those of the pieces that are opened or brought
+pub run-marks-elsewhere : (rs : List (List ℕ)) (w : Memory) (k : ℕ) → OtherMarks k rs → getD (run w rs .marks) k 0 ≡ getD (w .marks) k 0
+unfolding run OtherMarks
+run-marks-elsewhere [] w k h = refl
+run-marks-elsewhere (r ∷ rs) w k h = run-marks-elsewhere rs (after w r) k (h .1) ∙ marks-elsewhere w r k (h .0 .0) (h .0 .1)

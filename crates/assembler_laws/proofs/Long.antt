@@ -1,19 +1,19 @@
 -- A record that is longer than any piece is refused by its kind and the turn alone, so a shorter one of that kind that is too long as well
 -- stands for it: what the program eif_assemble hands over. Assumes nothing.
-use Prim.Native.Nat.{ℕ, _+_, _<_}
+use Prim.Native.Nat.{ℕ, _+_, _%_, _<_}
 use mathlib.Core.Path.{_≡_, refl, sym, ap, _∙_}
 use mathlib.Core.Bool.{Bool, true, false, not}
 use mathlib.Core.List.{List}
 use mathlib.Core.Logic.{⊎-elim}
 use native.Mathlib.Omega.{arith}
 use borrow.Author.Tests.{le-leb, eq-eqb, ne-eqb}
-use lib.Dec.{leb}
+use lib.Dec.{leb, eqb}
 use lib.ListN.{length, length-drop}
 use Rattle.eif.specs.Numbers.{pieceRecordWrong, pieceOutOfTurn}
 use Rattle.eif.specs.Logic.{both, either, choose}
 use Rattle.eif.specs.Roll.{recordHeadSize}
 use Rattle.eif_rules.proofs.Logic.{equal-or-not}
-use Rattle.assembler_rules.specs.Records.{pieceSize, numberSize, pieceKind, sizeIn, kindIn, numberIn, dataIn, sizeFits, formed, pieceAt, offGrid}
+use Rattle.assembler_rules.specs.Records.{pieceSize, numberSize, openKind, pieceKind, closeKind, sizeIn, kindIn, numberIn, dataIn, sizeFits, formed, pieceAt, offGrid}
 use Rattle.assembler_rules.specs.Rules.{isOpened, faultOf}
 use Rattle.assembler_rules.specs.ByKind.{pieceFault}
 use Rattle.assembler_rules.specs.declared.State.{State}
@@ -35,7 +35,7 @@ long-off-grid : (n start count : ℕ) → pieceSize < count → offGrid n start 
 unfolding offGrid
 long-off-grid n start count h =
     let e : count ≡ pieceAt n start → ⊥ = λ e. omega arith in
-    rw (ne-eqb _ _ e) (at-last _ _)
+    rw (ne-eqb _ _ e) (at-last (leb n start) (not (eqb (start % pieceSize) 0)))
 
 module _ (st : State) (r x y : List ℕ) (long : LongRecord r) where
   form-by : sizeFits (kindIn r) (sizeIn r) ≡ formed r
@@ -47,7 +47,7 @@ module _ (st : State) (r x y : List ℕ) (long : LongRecord r) where
       let w = long .whole in
       let a : sizeIn r ≡ numberSize → ⊥ = λ e. omega arith in
       let b : sizeIn r ≡ 0 → ⊥ = λ e. omega arith in
-      let f : sizeFits (kindIn r) (sizeIn r) ≡ false = rw (ne-eqb _ _ h, ne-eqb _ _ a, ne-eqb _ _ b) (neither _ _) in
+      let f : sizeFits (kindIn r) (sizeIn r) ≡ false = rw (ne-eqb _ _ h, ne-eqb _ _ a, ne-eqb _ _ b) (neither (eqb (kindIn r) openKind) (eqb (kindIn r) closeKind)) in
       sym (fault-form st r x y (sym form-by ∙ f))
       ∙ sym (ap (λ (t : Bool). choose (both t (not (isOpened st))) pieceOutOfTurn pieceRecordWrong) (ne-eqb _ _ h))
 
@@ -56,7 +56,7 @@ module _ (st : State) (r x y : List ℕ) (long : LongRecord r) where
     ok =
         let l = long .longer in
         let w = long .whole in
-        let f : leb numberSize (sizeIn r) ≡ true = le-leb _ _ (omega arith) in
+        let f : leb numberSize (sizeIn r) ≡ true = le-leb numberSize (sizeIn r) (omega arith) in
         sym form-by ∙ ap (λ (n : ℕ). sizeFits n (sizeIn r)) k ∙ f
 
     by-turn : (t : Bool) → isOpened st ≡ t → faultOf st r x y ≡ choose (not t) pieceOutOfTurn pieceRecordWrong

@@ -108,6 +108,15 @@ unfoldable pub OutsideAll : ℕ → Memory → List (List ℕ) → Type 0
 OutsideAll i w [] = Unit
 OutsideAll i w (r ∷ rs) = OutsideTaken i w r × OutsideAll i (after w r) rs
 
+-- mark k is of no piece that the record opens or brings
+abbrev pub OtherMark : ℕ → List ℕ → Type 0
+OtherMark k r = (kindIn r ≡ openKind → piecesOf (numberIn r) ≤ k) × (kindIn r ≡ pieceKind → k ≡ placeIn r → ⊥)
+
+-- and so for each call in turn
+unfoldable pub OtherMarks : ℕ → List (List ℕ) → Type 0
+OtherMarks k [] = Unit
+OtherMarks k (r ∷ rs) = OtherMark k r × OtherMarks k rs
+
 -- ---- any records between the open and the close, also such as are refused
 
 -- a record that is a piece of an image of m's length agrees with m

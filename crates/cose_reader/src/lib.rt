@@ -164,21 +164,21 @@ fn parts_of(s: &[u8]) -> Parts
     }
 }
 
-// Whether the bytes are what is written for that claim.
-fn is_written(s: &[u8], claim: Claim, start: usize) -> bool
+// Whether the bytes up to an end, where they end, are what is written for that claim.
+fn is_written(s: &[u8], claim: Claim, start: usize, end: usize) -> bool
     requires { ⌜ claim ≡ claimOf (now s) ⌝ }
     requires { ⌜ start ≡ signatureStart (now s) ⌝ }
     requires { ⌜ length (now s) ≡ signatureStart (now s) + signatureSize (algorithmOf (now s)) ⌝ }
     requires { ⌜ length (now s) ≤ longest ⌝ }
+    requires { ⌜ end ≡ length (now s) ⌝ }
     ensures { λ r. ⌜ r ≡ sameBytes (now (s .entry)) (sign1Bytes (claimOf (now (s .entry))) (signatureOf (now (s .entry)))) ⌝ }
 {
-    let end = s.len();
     let mut buffer = [0u8; LONGEST];
-    let written = cose_writer::write(claim, &s[start..], &mut buffer);
+    let written = cose_writer::write(claim, &s[start..end], &mut buffer);
     if written.length != end as u64 {
         return false;
     }
-    check::same(s, &buffer[..end])
+    check::same(&s[..end], &buffer[..end])
 }
 
 // A refusal, beside which everything is zero.
@@ -205,10 +205,11 @@ pub fn read(s: &[u8]) -> Sign1Reading
     let claim = parts.claim;
     let start = parts.start;
     let size = cose_writer::signature_size(claim.algorithm);
-    if s.len() != start + size {
+    let end = start + size;
+    if s.len() != end {
         return refused();
     }
-    if !is_written(s, claim, start) {
+    if !is_written(s, claim, start, end) {
         return refused();
     }
     Sign1Reading {

@@ -1,9 +1,9 @@
 -- Words as one number: its lowest word, the number without it, with one more at its top, added to another.
 -- Assumes nothing.
-use Prim.Native.Nat.{ℕ, zero, suc, _+_, _-_, _*_, _/_, _%_, _^_, _<_, _≤_}
+use Prim.Native.Nat.{ℕ, zero, suc, _+_, _-_, _*_, _/_, _%_, _^_, _<_}
 use mathlib.Core.Path.{_≡_, refl, sym, ap, ap₂, _∙_}
 use native.Mathlib.Omega.{arith}
-use native.Mathlib.Nat.{zero-mul, mul-one, mod-eq-of-lt, mod-lt, div-eq-of-lt, suc-add, mul-assoc, zero-add, add-zero}
+use native.Mathlib.Nat.{zero-mul, mul-one, mod-eq-of-lt, mod-lt, div-eq-of-lt, suc-add, mul-assoc, zero-add}
 use lib.Pow.{shl-shr, shr-shr, pow-add, pow-pos, split}
 use lib.Bits.{bitXor, xor-shr, xor-mod, xor-zero-l, xor-zero-r, xor-comm, xor-shifted}
 use Rattle.crc32.specs.Fold.{shr, shl, num}

@@ -1,15 +1,15 @@
 -- The remainder of what is left, some bytes further: as it is, and with a word taken away.
 -- Assumes nothing.
-use Prim.Native.Nat.{ℕ, zero, suc, _+_, _-_, _*_, _/_, _%_, _^_, _<_, _≤_}
-use mathlib.Core.Path.{_≡_, refl, sym, ap, ap₂, _∙_}
+use Prim.Native.Nat.{ℕ, suc, _+_, _-_, _*_, _/_, _%_, _^_, _<_, _≤_}
+use mathlib.Core.Path.{_≡_, sym, ap, ap₂, _∙_}
 use mathlib.Core.List.{List, [], _∷_}
 use native.Mathlib.Omega.{arith}
 use native.Mathlib.Nat.{add-comm, mul-comm, mod-lt, mod-eq-of-lt, div-eq-of-lt}
 use native.Mathlib.Numerals.{add-one}
 use lib.Pow.{pow-pos}
-use lib.ListN.{length, getD, drop, length-drop}
-use lib.Seq.{drop-cons, drop-length, getD-drop}
-use lib.Bits.{bitXor, xor-shr, xor-mod, xor-comm, xor-zero-l, xor-zero-r, xor-lt, xor-shifted}
+use lib.ListN.{length, getD, drop}
+use lib.Seq.{drop-cons, drop-length}
+use lib.Bits.{bitXor, xor-shr, xor-mod, xor-comm, xor-zero-r, xor-lt, xor-shifted}
 use Rattle.octets.specs.Bytes.{AreBytes, leValue}
 use Rattle.crc32.specs.Crc.{shiftBits, crcFrom}
 use Rattle.crc32.specs.Fold.{shr, shl, spread, left}

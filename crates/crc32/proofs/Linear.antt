@@ -4,12 +4,10 @@ use Prim.Native.Nat.{ℕ, zero, suc, _+_, _*_, _/_, _%_, _^_, _<_}
 use mathlib.Core.Path.{_≡_, refl, sym, ap, ap₂, _∙_}
 use mathlib.Core.List.{List, [], _∷_, _++_}
 use native.Mathlib.Omega.{arith}
-use native.Mathlib.Nat.{div-eq-of-lt, zero-add, suc-add, mod-lt, mul-one}
+use native.Mathlib.Nat.{zero-add, suc-add, mod-lt, mul-one}
 use lib.Pow.{pow-pos, split}
-use lib.Bits.{bitXor, differ, xor-shr, xor-zero-r, xor-comm, xor-shifted, shifted-half, shifted-even}
-use lib.ListN.{length, getD, drop}
-use lib.Seq.{drop-cons}
-use native.Mathlib.Numerals.{add-one}
+use lib.Bits.{bitXor, differ, xor-zero-r, xor-comm, xor-shifted, shifted-half, shifted-even}
+use lib.ListN.{length}
 use Rattle.octets.specs.Bytes.{AreBytes, leValue}
 use Rattle.crc32.specs.Crc.{poly, shiftBit, shiftBits, crcFrom}
 use Rattle.crc32.proofs.Xor.{xor-assoc, xor-swap, xor-half, xor-odd, bit-lt, too-big}
@@ -53,22 +51,6 @@ pub crcFrom-append : (c : ℕ) (s t : List ℕ) → crcFrom c (s ++ t) ≡ crcFr
 unfolding crcFrom
 crcFrom-append c [] t = refl
 crcFrom-append c (b ∷ bs) t = crcFrom-append (shiftBits 8 (bitXor c b)) bs t
-
--- two byte strings of one length, exclusive or place by place
-abbrev pub xorEach : List ℕ → List ℕ → List ℕ
-xorEach [] t = []
-xorEach (x ∷ s) [] = []
-xorEach (x ∷ s) (y ∷ t) = bitXor x y ∷ xorEach s t
-
--- taking bytes in is linear: what two strings differ by alone decides what their remainders differ by
-pub crcFrom-linear : (a b : ℕ) (s t : List ℕ) → length s ≡ length t → crcFrom (bitXor a b) (xorEach s t) ≡ bitXor (crcFrom a s) (crcFrom b t)
-unfolding crcFrom
-crcFrom-linear a b [] [] e = refl
-crcFrom-linear a b [] (y ∷ t) e = absurd (omega arith)
-crcFrom-linear a b (x ∷ s) [] e = absurd (omega arith)
-crcFrom-linear a b (x ∷ s) (y ∷ t) e =
-    ap (λ (c : ℕ). crcFrom c (xorEach s t)) (ap (shiftBits 8) (xor-swap a b x y) ∙ shiftBits-linear 8 (bitXor a x) (bitXor b y))
-    ∙ crcFrom-linear (shiftBits 8 (bitXor a x)) (shiftBits 8 (bitXor b y)) s t (omega arith)
 
 pub shiftBits-add : (j k c : ℕ) → shiftBits k (shiftBits j c) ≡ shiftBits (j + k) c
 unfolding shiftBits

@@ -2,8 +2,8 @@
 //
 // `checksum` takes one slice. For bytes in several slices: `update` from START, slice by slice, and `finish` at the end.
 //
-// There is no table. The bits of a slice, first bit first, are a polynomial over the two elements 0 and 1, and sought is its remainder modulo
-// the polynomial P of the standard. P divides
+// There is no table. The bits of a slice, first bit first, and 32 zero bits after them are a polynomial over the two elements 0 and 1, and
+// sought is its remainder modulo the polynomial P of the standard. P divides
 //
 //     f(x) = x^300 + x^155 + x^117 + x^89 + 1,
 //

@@ -143,7 +143,7 @@ impl SectionType {
 // ---- answers
 
 // Why something is refused: the answer number, the index of the section or record that it is about, else 0, and where in the
-// file or the roll the field at fault stands, else 0 (FORMAT.md, Answer numbers).
+// file or the roll the field at fault stands, else 0 (FORMAT.md, Answer numbers and Positions).
 pub struct Refusal {
     pub number: u8,
     pub index: u64,
@@ -217,13 +217,14 @@ pub enum Verdict {
 }
 
 impl Verdict {
-    // A refusal that is about no one place.
+    // A refusal with no position.
     pub fn refuse(number: u8, index: u64) -> Verdict
         ensures { λ r. ⌜ r ≡ refuse number index ⌝ }
     {
         Verdict::refuse_at(number, index, 0)
     }
 
+    // A refusal about what stands at a position.
     pub fn refuse_at(number: u8, index: u64, position: u64) -> Verdict
         ensures { λ r. ⌜ r ≡ refuseAt number index position ⌝ }
     {

@@ -7,9 +7,9 @@ mod arrival;
 mod assembly;
 mod measure;
 mod sections;
-mod strict;
 mod signature;
 mod staging;
+mod strict;
 
 ghost use mathlib.Core.Path.{_≡_};
 ghost use mathlib.Core.List.{map};

@@ -3,7 +3,7 @@ ghost use mathlib.Core.Path.{_≡_};
 ghost use Rattle.json_machine.specs.Machine.{jsonVerdict};
 ghost use Rattle.eif_strict.specs.Strict.{readStrict};
 ghost use Rattle.eif_c.specs.Flat.{flatReading};
-ghost use Rattle.eif_c.specs.Strict.{flatJson};
+ghost use Rattle.eif_c.specs.Strict.{textFlag, faultPlace, flatJson};
 use json::JsonVerdict;
 
 // `is_text` is 1 where the bytes are one JSON text, and `place` then 0; else it is 0 and `place` that of the fault.
@@ -14,20 +14,31 @@ pub struct EifJson {
     pub place: u64,
 }
 
+fn text_flag(verdict: JsonVerdict) -> u8
+    ensures { λ r. ⌜ r ≡ textFlag verdict ⌝ }
+{
+    match verdict {
+        JsonVerdict::Text => 1,
+        JsonVerdict::Fault(_) => 0,
+    }
+}
+
+fn fault_place(verdict: JsonVerdict) -> u64
+    ensures { λ r. ⌜ r ≡ faultPlace verdict ⌝ }
+{
+    match verdict {
+        JsonVerdict::Text => 0,
+        JsonVerdict::Fault(place) => place as u64,
+    }
+}
+
 fn flat_json(verdict: JsonVerdict) -> EifJson
     ensures { λ r. ⌜ r ≡ flatJson verdict ⌝ }
 {
-    match verdict {
-        JsonVerdict::Text => EifJson {
-            is_text: 1,
-            reserved: [0u8; 7],
-            place: 0,
-        },
-        JsonVerdict::Fault(place) => EifJson {
-            is_text: 0,
-            reserved: [0u8; 7],
-            place: place as u64,
-        },
+    EifJson {
+        is_text: text_flag(verdict),
+        reserved: [0u8; 7],
+        place: fault_place(verdict),
     }
 }
 

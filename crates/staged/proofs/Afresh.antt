@@ -50,7 +50,7 @@ module _ (l : List Place) (k size : ℕ) (h : k < length l) where
       (λ (n : j ≡ k → ⊥). ap (λ (x : Place). x .kind) (place-other j n))
       (equal-or-not j k)
 
-  flags-kept : (j : ℕ) → placeAt changed j .flags ≡ placeAt l j .flags
+  pub flags-kept : (j : ℕ) → placeAt changed j .flags ≡ placeAt l j .flags
   flags-kept j =
       ⊎-elim
       (λ (e : j ≡ k). rw e (ap (λ (x : Place). x .flags) place-same))

@@ -1,3 +1,4 @@
 pub mod Staged
 pub mod View
 pub mod Order
+pub mod Worked

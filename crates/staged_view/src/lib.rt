@@ -109,15 +109,16 @@ pub fn judge(base: &[u8], size: u64, replaced: u64, shown: u64) -> Staged
 {
     let reading = eif_reader::read(base);
     let verdict = reading.verdict;
+    let no_such = Verdict::refuse(Refusal::NO_SUCH_SECTION, 0);
     let Verdict::Accepted = verdict else {
         return refused(verdict);
     };
     let count = reading.count as u64;
     if count <= replaced {
-        return refused(Verdict::refuse(Refusal::NO_SUCH_SECTION, 0));
+        return refused(no_such);
     }
     if count <= shown {
-        return refused(Verdict::refuse(Refusal::NO_SUCH_SECTION, 0));
+        return refused(no_such);
     }
     let k = replaced as usize;
     if too_long(reading, k, size) {

@@ -61,22 +61,25 @@ fn sealed(label: &[u8], image: &mut [u8]) {
 // ---- images
 
 // Version 4: kernel at 548, command line at 561, and at 574 the metadata, which ends the file.
-fn with_metadata(label: &[u8], image: &mut [u8], lent: &[u8]) {
+fn put_metadata(image: &mut [u8], lent: &[u8]) {
     case_images::put_header(image, 4, 1, 3);
     case_images::put_section(image, 0, 548, SectionType::KERNEL, 0, b"K");
     case_images::put_section(image, 1, 561, SectionType::COMMAND_LINE, 0, b"a");
     case_images::put_section(image, 2, 574, SectionType::METADATA, 0, lent);
-    if lent.len() <= 256 {
-        let end = 586 + lent.len();
-        if end <= image.len() {
-            sealed(label, &mut image[..end]);
-        }
+}
+
+fn seal_first(label: &[u8], image: &mut [u8], size: usize) {
+    if size <= image.len() {
+        sealed(label, &mut image[0..size]);
     }
 }
 
 fn metadata(label: &[u8], lent: &[u8]) {
     let mut image = [0u8; 842];
-    with_metadata(label, &mut image, lent);
+    if lent.len() <= 256 {
+        put_metadata(&mut image, lent);
+        seal_first(label, &mut image, 586 + lent.len());
+    }
 }
 
 // Three sections with one byte each, at 548, 561 and 574; no checksum.

@@ -188,6 +188,10 @@ verdict-kept : (s : List ℕ) (v : Verdict) → readingOf (viewOf s) v .verdict 
 verdict-kept s Accepted = refl
 verdict-kept s (Refused r) = refl
 
-pub read-strict-first : (s : List ℕ) → readStrict s .verdict ≡ firstThatApplies (strictRules s)
+-- the reading carries that verdict
+pub strict-verdict : (s : List ℕ) → readStrict s .verdict ≡ strictVerdict s
 unfolding readStrict
-read-strict-first s = verdict-kept s (strictVerdict s) ∙ strict-first s
+strict-verdict s = verdict-kept s (strictVerdict s)
+
+pub read-strict-first : (s : List ℕ) → readStrict s .verdict ≡ firstThatApplies (strictRules s)
+read-strict-first s = strict-verdict s ∙ strict-first s

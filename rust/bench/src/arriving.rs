@@ -47,9 +47,9 @@ pub fn measure(length: usize) {
             table::length(length),
             table::cell(library),
             table::cell(twin),
-            table::ratio(twin.median, library.median),
+            table::ratio(twin, library),
             table::cell(whole),
-            table::ratio(library.median, whole.median),
+            table::ratio(library, whole),
         ]);
     }
 }

@@ -3,7 +3,7 @@
 use crate::sample::{bytes, Sample};
 use crate::scratch::Scratch;
 use crate::table::row;
-use crate::timing::{compare, times, Time};
+use crate::timing::{compare, times};
 use eif::{Digest, Sha384, Stream};
 use eif_twin as twin;
 use std::fs::File;
@@ -65,16 +65,7 @@ pub fn registers_beside_parts(length: usize) {
                 .fold(0, usize::wrapping_add)
         },
     ]);
-    row("registers", length, (registers, together(read, hashed)));
-}
-
-/// The time of two calls.
-fn together(one: Time, other: Time) -> Time {
-    Time {
-        low: one.low + other.low,
-        median: one.median + other.median,
-        high: one.high + other.high,
-    }
+    row("registers", length, (registers, read + hashed));
 }
 
 fn file_digest(file: &Path) -> io::Result<Digest> {
@@ -129,12 +120,12 @@ pub fn file(length: usize) -> io::Result<()> {
     row(
         "SHA-384 of a file, OpenSSL without SIMD",
         length,
-        (library, plain.less(start)),
+        (library, plain - start),
     );
     row(
         "SHA-384 of a file, OpenSSL as it comes",
         length,
-        (library, simd.less(start)),
+        (library, simd - start),
     );
     Ok(())
 }

@@ -2,7 +2,7 @@
 
 use crate::sample::Sample;
 use crate::table;
-use crate::timing::{times, Call, Time};
+use crate::timing::{times, Call};
 use eif::{Stream, StreamPosition};
 use eif_twin as twin;
 use std::hint::black_box;
@@ -38,21 +38,17 @@ fn row(name: &str, image: &[u8], copied: &[u8], library: Call, other: Call) {
         &mut || eif::read(black_box(image)).map_or(0, |image| image.sections().len()),
         &mut || copy(copied, &mut out),
     ]);
-    let copying = seconds(library) - seconds(read);
+    let copying = library - read;
     table::line(&[
         name.to_string(),
         table::length(image.len()),
         table::cell(library),
         table::cell(other),
-        table::ratio(seconds(other), seconds(library)),
-        table::seconds(copying),
+        table::ratio(other, library),
+        table::cell(copying),
         table::cell(plain),
-        table::ratio(seconds(plain), copying),
+        table::ratio(plain, copying),
     ]);
-}
-
-fn seconds(time: Time) -> f64 {
-    time.median
 }
 
 /// A row for each call on an image of `length` bytes.

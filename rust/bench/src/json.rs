@@ -99,6 +99,6 @@ pub fn beside_program(program: &str, words: &[&str], length: usize) -> io::Resul
         &mut || usize::from(accepts(&small).unwrap_or(false)),
         &mut || usize::from(accepts(&full).unwrap_or(false)),
     ]);
-    row("JSON file, records", length, (library, whole.less(start)));
+    row("JSON file, records", length, (library, whole - start));
     Ok(())
 }

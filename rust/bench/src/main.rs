@@ -5,6 +5,7 @@
 //! changes from round to round. The word `json` on the command line measures JSON texts alone.
 
 mod arriving;
+mod checksum;
 mod foreign;
 mod hashing;
 mod images;
@@ -87,8 +88,8 @@ fn main() -> io::Result<()> {
     }
     println!();
     println!(
-        "{} rounds, {} where a call takes longer than half a second; all built for release. A time is the median over the rounds, and \
-         behind it stand, in per cent of it, how far the quartiles lie from it. The twin computes the checksum by a table of 256 entries, \
+        "{} rounds, {} where a call takes longer than half a second; all built for release. A time is the median over the rounds; behind it \
+         stand the least and the upper quartile. A ratio is that of the medians, and behind it that of the least times. The twin computes the checksum by a table of 256 entries, \
          SHA-384 by the standard's loops, and for the registers hashes all three streams. Each has an output buffer of its own, which its \
          first, untimed call fills and which is not cleared between calls; inputs are the same bytes in the same place, in the caches as \
          the call before left them.",
@@ -98,6 +99,11 @@ fn main() -> io::Result<()> {
     println!();
     println!("Reading an image, beside the checksum alone of other libraries over as many bytes.");
     reading::by_length(&reading_lengths(), &folder)?;
+    println!();
+    println!(
+        "The checksum alone: what feeding a slice to an arriving image takes, less feeding it nothing."
+    );
+    checksum::by_length(&[8, 64, 200, 548, 4 * KIB, 16 * KIB, 64 * KIB, MIB, 16 * MIB]);
     arriving_in_pieces();
     copying();
     hashing_beside_twin();

@@ -54,10 +54,7 @@ fn line(measured: &Measured) {
         return;
     };
     let beside = |other: Option<Time>| match other {
-        Some(other) => [
-            table::cell(other),
-            table::ratio(other.median, library.median),
-        ],
+        Some(other) => [table::cell(other), table::ratio(other, library)],
         None => ["not here".to_string(), "-".to_string()],
     };
     let mut cells = vec![
@@ -65,7 +62,7 @@ fn line(measured: &Measured) {
         table::cell(library),
         format!("{:.2}", gigabytes(measured.length, library)),
         table::cell(twin),
-        table::ratio(twin.median, library.median),
+        table::ratio(twin, library),
     ];
     cells.extend(beside(measured.times[2]));
     cells.extend(beside(measured.times[3]));

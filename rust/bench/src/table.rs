@@ -3,7 +3,7 @@
 use crate::timing::Time;
 
 /// A time.
-pub fn seconds(seconds: f64) -> String {
+fn seconds(seconds: f64) -> String {
     match seconds {
         s if s >= 1e-3 => format!("{:.2} ms", s * 1e3),
         s if s >= 1e-6 => format!("{:.2} µs", s * 1e6),
@@ -11,26 +11,26 @@ pub fn seconds(seconds: f64) -> String {
     }
 }
 
-/// A median, and how far the quartiles lie from it in per cent of it.
+/// A median, the least time and the quartile above the median.
 pub fn cell(time: Time) -> String {
-    let per_cent = |seconds: f64| (seconds / time.median - 1.0) * 100.0;
-    format!(
-        "{} ({:+.0} {:+.0})",
-        seconds(time.median),
-        per_cent(time.low),
-        per_cent(time.high)
-    )
+    let [median, least, high] = [time.median, time.least, time.high].map(seconds);
+    format!("{median} ({least}, {high})")
 }
 
-/// A ratio with as many digits as tell something.
-pub fn ratio(one: f64, other: f64) -> String {
-    let ratio = one / other;
-    let digits = match ratio {
+fn digits(ratio: f64) -> String {
+    let digits = match ratio.abs() {
         r if r >= 10.0 => 1,
         r if r >= 0.1 => 2,
         _ => 4,
     };
     format!("{ratio:.digits$}")
+}
+
+/// The ratio of two medians and, behind it, that of the least times.
+pub fn ratio(one: Time, other: Time) -> String {
+    let medians = digits(one.median / other.median);
+    let least = digits(one.least / other.least);
+    format!("{medians} ({least})")
 }
 
 /// A length as people say it.
@@ -62,7 +62,7 @@ pub fn row(call: &str, bytes: usize, (library, other): (Time, Time)) {
         length(bytes),
         cell(library),
         cell(other),
-        ratio(library.median, other.median),
+        ratio(library, other),
     ]);
 }
 

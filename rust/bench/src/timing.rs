@@ -1,6 +1,7 @@
 //! Times of calls that take turns.
 
 use std::hint::black_box;
+use std::ops::{Add, Sub};
 use std::time::{Duration, Instant};
 
 /// How many rounds there are.
@@ -15,31 +16,47 @@ const ROUND_TIME: Duration = Duration::from_millis(4);
 /// A call that is measured. Its answer only keeps the compiler from leaving it out.
 pub type Call<'a> = &'a mut dyn FnMut() -> usize;
 
-/// Seconds for one call: the median over the rounds, and the quartiles below and above it.
+/// Seconds for one call: the median over the rounds, the least, and the quartile above the median.
 #[derive(Clone, Copy)]
 pub struct Time {
-    pub low: f64,
+    pub least: f64,
     pub median: f64,
     pub high: f64,
 }
 
 impl Time {
-    /// This time less that of a start alone.
-    pub fn less(self, start: Time) -> Time {
-        Time {
-            low: self.low - start.median,
-            median: self.median - start.median,
-            high: self.high - start.median,
-        }
-    }
-
     fn of(mut times: Vec<f64>) -> Time {
         times.sort_by(f64::total_cmp);
         let at = |quarter: usize| times[(times.len() - 1) * quarter / 4];
         Time {
-            low: at(1),
+            least: at(0),
             median: at(2),
             high: at(3),
+        }
+    }
+}
+
+impl Add for Time {
+    type Output = Time;
+
+    fn add(self, other: Time) -> Time {
+        Time {
+            least: self.least + other.least,
+            median: self.median + other.median,
+            high: self.high + other.high,
+        }
+    }
+}
+
+impl Sub for Time {
+    type Output = Time;
+
+    /// What is left of a time without a part that was measured beside it.
+    fn sub(self, other: Time) -> Time {
+        Time {
+            least: self.least - other.least,
+            median: self.median - other.median,
+            high: self.high - other.median,
         }
     }
 }

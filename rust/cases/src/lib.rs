@@ -1,5 +1,5 @@
-//! The examples of docs/FORMAT.md, of FIPS 180-4 and of RFC 8259's rules as data, for the tests of the library
-//! and of the twin.
+//! The examples of docs/FORMAT.md, the published ones of SHA-384, texts for each rule of RFC 8259 and COSE_Sign1
+//! byte strings as data, for the tests of the library and of the twin.
 //!
 //! What builds the examples judges nothing and has a checksum of its own, bit by bit, so a test
 //! never trusts what it tests.

@@ -49,8 +49,14 @@ pub fn strict_cases() -> Vec<ImageCase> {
         ],
     );
     case("no metadata in version 3", other.image(), ACCEPTED);
+    cases.extend(judged_before());
+    cases
+}
 
-    // What is judged before.
+/// Metadata that is cut off, in images that are refused for something judged before it.
+fn judged_before() -> Vec<ImageCase> {
+    let mut cases = Vec::new();
+    let mut case = |name, image, answer: Answer| cases.push(ImageCase::new(name, image, answer));
     let mut image = with_metadata(2, b"{");
     image[CHECKSUM_AT] ^= 1;
     case("metadata cut off, and 13", image, (13, 0, 544));

@@ -174,6 +174,18 @@ pub fn compare_staged(rng: &mut Rng, ordinal: u64, given: &StagedInput, tally: &
     );
 
     let length = afresh.and_then(|image| twin::roll_length(&image));
+    compare_staged_roll(rng, input, given, length, tally);
+    compare_staged_registers(input, replacement, replaced, tally);
+}
+
+fn compare_staged_roll(
+    rng: &mut Rng,
+    input: &Input,
+    given: &StagedInput,
+    length: Result<usize, twin::Refusal>,
+    tally: &mut Tally,
+) {
+    let (base, replacement, replaced) = (input.bytes, &given.replacement[..], given.replaced);
     let number = compare_length(
         input,
         "staged roll length",
@@ -191,7 +203,6 @@ pub fn compare_staged(rng: &mut Rng, ordinal: u64, given: &StagedInput, tally: &
         |out| twin::write_staged_roll(base, replacement, replaced, out),
     );
     tally.add(Call::StagedRollWrite, number);
-    compare_staged_registers(input, replacement, replaced, tally);
 }
 
 fn compare_staged_registers(input: &Input, replacement: &[u8], replaced: u64, tally: &mut Tally) {

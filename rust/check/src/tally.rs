@@ -4,7 +4,7 @@ use std::fmt;
 use std::ops::AddAssign;
 
 /// How many kinds of call there are.
-const CALLS: usize = 19;
+const CALLS: usize = 20;
 
 /// Answer numbers are below this.
 const NUMBERS: usize = 30;
@@ -50,6 +50,8 @@ pub enum Call {
     StagedRollWrite,
     /// Its registers.
     StagedRegisters,
+    /// A record of a transfer.
+    Assemble,
 }
 
 impl Call {
@@ -74,6 +76,7 @@ impl Call {
         Call::StagedRollLength,
         Call::StagedRollWrite,
         Call::StagedRegisters,
+        Call::Assemble,
     ];
 
     /// The numbers that FORMAT.md lets this call answer.
@@ -97,6 +100,7 @@ impl Call {
                 image.chain([27]).collect()
             }
             Call::StagedRollWrite => image.chain([14, 27]).collect(),
+            Call::Assemble => vec![0, 1, 22, 23, 24, 25, 26],
         };
         numbers.sort();
         numbers

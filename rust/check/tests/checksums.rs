@@ -40,7 +40,7 @@ fn lengths() -> impl Iterator<Item = usize> {
 
 #[test]
 fn every_length() {
-    let bytes = Rng::of_input(11, 0).bytes((1 << 24) + 8);
+    let bytes = Rng::of_input(11, 0).bytes((1 << 24) + 16);
     for length in lengths() {
         let slice = &bytes[length % 8..][..length];
         assert_eq!(checksum([slice]), twin(slice), "{length} bytes");

@@ -20,6 +20,7 @@ const STATES: u64 = 40_000;
 const SIGN1S: u64 = 100_000;
 const CLAIMS: u64 = 40_000;
 const STAGED: u64 = 60_000;
+const TRANSFERS: u64 = 40_000;
 
 /// Writes a line that is seen also where the test passes.
 fn say(line: &str) {
@@ -129,6 +130,13 @@ fn long_replacements(seed: u64, tally: &mut Tally) {
     }
 }
 
+fn transfers(seed: u64, ordinals: Range<u64>, tally: &mut Tally) {
+    for ordinal in ordinals {
+        let mut rng = Rng::of_input(seed.rotate_left(40), ordinal);
+        compare_transfer(&mut rng, ordinal, tally);
+    }
+}
+
 /// Images longer than they may be. No call looks at their bytes.
 fn long_images(seed: u64, tally: &mut Tally) {
     let mut rng = Rng::of_input(seed, u64::MAX);
@@ -161,6 +169,30 @@ fn long_rolls(tally: &mut Tally) {
     }
 }
 
+/// One of `parts` equal shares of the inputs; the long ones are made once.
+fn run(seed: u64, times: u64, part: u64, parts: u64) -> Tally {
+    let mut tally = Tally::default();
+    images(seed, share(IMAGES * times, part, parts), &mut tally);
+    plans(seed, share(PLANS * times, part, parts), &mut tally);
+    rolls(seed, share(ROLLS * times, part, parts), &mut tally);
+    messages(seed, share(MESSAGES * times, part, parts), &mut tally);
+    readings(seed, share(READINGS * times, part, parts), &mut tally);
+    arrivals(seed, share(ARRIVALS * times, part, parts), &mut tally);
+    states(seed, share(STATES * times, part, parts), &mut tally);
+    sign1s(seed, share(SIGN1S * times, part, parts), &mut tally);
+    claims(seed, share(CLAIMS * times, part, parts), &mut tally);
+    staged(seed, share(STAGED * times, part, parts), &mut tally);
+    transfers(seed, share(TRANSFERS * times, part, parts), &mut tally);
+    if part == 0 {
+        long_images(seed, &mut tally);
+        long_replacements(seed, &mut tally);
+    }
+    if part == parts - 1 {
+        long_rolls(&mut tally);
+    }
+    tally
+}
+
 #[test]
 fn library_and_twin_agree() {
     let seed = variable("EIF_SEED", SEED);
@@ -169,29 +201,8 @@ fn library_and_twin_agree() {
     let parts = thread::available_parallelism().map_or(2, |n| n.get() as u64);
     let mut total = Tally::default();
     thread::scope(|scope| {
-        let run = |part: u64| {
-            let mut tally = Tally::default();
-            images(seed, share(IMAGES * times, part, parts), &mut tally);
-            plans(seed, share(PLANS * times, part, parts), &mut tally);
-            rolls(seed, share(ROLLS * times, part, parts), &mut tally);
-            messages(seed, share(MESSAGES * times, part, parts), &mut tally);
-            readings(seed, share(READINGS * times, part, parts), &mut tally);
-            arrivals(seed, share(ARRIVALS * times, part, parts), &mut tally);
-            states(seed, share(STATES * times, part, parts), &mut tally);
-            sign1s(seed, share(SIGN1S * times, part, parts), &mut tally);
-            claims(seed, share(CLAIMS * times, part, parts), &mut tally);
-            staged(seed, share(STAGED * times, part, parts), &mut tally);
-            if part == 0 {
-                long_images(seed, &mut tally);
-                long_replacements(seed, &mut tally);
-            }
-            if part == parts - 1 {
-                long_rolls(&mut tally);
-            }
-            tally
-        };
         let threads: Vec<_> = (0..parts)
-            .map(|part| scope.spawn(move || run(part)))
+            .map(|part| scope.spawn(move || run(seed, times, part, parts)))
             .collect();
         for thread in threads {
             match thread.join() {

@@ -24,6 +24,7 @@ fn every_answer(image: &[u8]) -> Vec<(&'static str, Result<(), Refusal>)> {
     let mut out = [0xaa; 16];
     let mut answers = vec![
         ("read", eif::read(image).map(|_| ())),
+        ("strict", eif::read_strict(image).map(|_| ())),
         ("arriving", arriving.finish().map(|_| ())),
         ("registers", eif::registers(image).map(|_| ())),
         ("roll length", eif::roll_length(image).map(|_| ())),

@@ -28,7 +28,7 @@ fn reading_of(parts: &Sign1Parts) -> Sign1Reading {
     }
 }
 
-/// 28 at 0, and zeros beside it.
+/// 28 at 0, and zeros beside it, the position too.
 fn refused() -> Sign1Reading {
     Sign1Reading {
         number: 28,
@@ -41,7 +41,7 @@ fn refused() -> Sign1Reading {
 fn check_written(parts: &Sign1Parts, bytes: &[u8]) {
     let mut out = Output::new(bytes.len() + 1, 0x5a);
     let written = raw::sign1_write(claim_of(parts), &parts.signature, out.lend());
-    assert_eq!((written.number, written.index), (0, 0));
+    assert_eq!((written.number, written.index, written.position), (0, 0, 0));
     assert_eq!(written.length, bytes.len() as u64);
     assert_eq!(out.start(bytes.len()), bytes);
     assert!(out.only_start_changed(bytes.len()));
@@ -107,7 +107,11 @@ fn room() {
         for room in 0..needed {
             let mut out = Output::new(room, 0x33);
             let written = raw::sign1_write(claim_of(&parts), &parts.signature, out.lend());
-            assert_eq!((written.number, written.index, written.length), (14, 0, 0));
+            assert_eq!(
+                (written.number, written.index, written.position),
+                (14, 0, 0)
+            );
+            assert_eq!(written.length, 0);
             assert!(out.only_start_changed(0));
         }
         check_written(&parts, &parts.bytes());
@@ -129,8 +133,8 @@ fn lengths_of_signatures() {
                     _ => 28,
                 };
                 assert_eq!(
-                    (written.number, written.index),
-                    (number, 0),
+                    (written.number, written.index, written.position),
+                    (number, 0, 0),
                     "{algorithm} {length}"
                 );
                 assert!(out.only_start_changed(written.length as usize));

@@ -110,6 +110,11 @@ impl Args {
             .ok_or_else(|| Trouble::usage(format!("{option} is missing")))
     }
 
+    /// The operands, of which there may be none.
+    pub fn any_operands(&self) -> &[OsString] {
+        &self.operands
+    }
+
     /// The operands, of which there must be one or more.
     pub fn some_operands(&self, what: &str) -> Result<&[OsString], Trouble> {
         match &self.operands[..] {

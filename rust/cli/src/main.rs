@@ -7,12 +7,15 @@
 mod args;
 mod commands;
 mod content;
+mod disk;
 mod input;
 mod json;
 mod objects;
 mod output;
 mod progress;
+mod records;
 mod status;
+mod transfer;
 mod words;
 
 use commands::{Command, COMMANDS};

@@ -77,6 +77,18 @@ impl Output {
     }
 }
 
+/// Whether a file may be given this name, asked before any work is done for it.
+pub fn check_place(name: &OsStr, force: bool) -> Result<(), Trouble> {
+    match fs::metadata(name) {
+        Ok(found) if !found.is_file() => {
+            let error = io::Error::other("is there and is not a file that can be replaced");
+            Err(Trouble::system(name, error))
+        }
+        Ok(_) if !force => Err(Trouble::Exists(name.to_os_string())),
+        _ => Ok(()),
+    }
+}
+
 /// Whether a file with data is there. Devices and pipes are written to, never replaced.
 fn is_regular(name: &OsStr) -> bool {
     fs::metadata(name).is_ok_and(|found| found.is_file())

@@ -376,7 +376,13 @@ fn check_explains_when_told() {
     assert!(
         lines[1].starts_with("  the checksum promises: no damage within four neighbouring bytes")
     );
-    assert_eq!(lines[2], "damaged.eif: refused 13 at 0: checksum differs");
+    assert!(lines[1].ends_with(
+        "; farther damage, a stretch that reaches into these bytes, and changes on purpose are not promised to be seen"
+    ));
+    assert_eq!(
+        lines[2],
+        "damaged.eif: refused 13 at 0 byte 544: checksum differs"
+    );
     assert!(lines[3].starts_with("  what to do: "));
     folder.eif("check --explain --quiet packed.eif").says(0, "");
 }

@@ -12,16 +12,19 @@ use std::os::unix::net::UnixStream;
 use std::process::Stdio;
 
 /// Every subcommand with files in the places of its inputs.
-const READERS: [&str; 13] = [
+const READERS: [&str; 16] = [
     "show FILE",
     "show --strict FILE",
     "check FILE",
     "check --strict FILE",
     "json FILE",
     "compare FILE good",
+    "compare good good --replace 2=FILE",
     "registers FILE",
     "signature FILE",
     "roll FILE",
+    "stage FILE 2 good",
+    "stage good 2 FILE",
     "extract FILE 0",
     "stream FILE whole",
     "pack --kernel FILE --cmdline x --ramdisk good --output out",
@@ -147,11 +150,13 @@ fn to_full(folder: &Folder, words: &str) -> Ended {
     command.stdout(full).output().unwrap().into()
 }
 
+/// What the system says of a disk without room.
+const FULL: &str = "No space left on device (os error 28)";
+
 #[test]
 fn a_full_disk() {
     let folder = with_good();
     let names = folder.names();
-    let error = "No space left on device (os error 28)";
     for words in [
         "show good",
         "show --json good",
@@ -164,6 +169,9 @@ fn a_full_disk() {
         "signature good",
         "signature --json good",
         "roll good",
+        "stage good 2 old",
+        "stage --json good 2 old",
+        "stage good 2 old --output -",
         "extract good 0",
         "stream good whole",
         "pack --kernel kernel --cmdline x --ramdisk old --output -",
@@ -171,16 +179,28 @@ fn a_full_disk() {
         "--version",
         "pack --help",
     ] {
-        to_full(&folder, words).complains(2, &format!("eif: standard output: {error}\n"));
+        to_full(&folder, words).complains(2, &format!("eif: standard output: {FULL}\n"));
     }
-    for words in ["roll good", "extract good 0", "stream good whole"] {
+    assert_eq!(folder.names(), names);
+}
+
+#[test]
+fn a_full_disk_by_name() {
+    let folder = with_good();
+    let names = folder.names();
+    for words in [
+        "roll good",
+        "stage good 2 old",
+        "extract good 0",
+        "stream good whole",
+    ] {
         let ended = folder.eif(&format!("{words} --output /dev/full"));
-        ended.complains(2, &format!("eif: /dev/full: {error}\n"));
+        ended.complains(2, &format!("eif: /dev/full: {FULL}\n"));
     }
     let pack = "pack --kernel kernel --cmdline x --ramdisk old --output /dev/full --force";
     folder
         .eif(pack)
-        .complains(2, &format!("eif: /dev/full: {error}\n"));
+        .complains(2, &format!("eif: /dev/full: {FULL}\n"));
     assert_eq!(folder.names(), names);
 }
 
@@ -268,6 +288,18 @@ const WRONG: &[(&str, &str)] = &[
     ("compare good", "B is missing"),
     ("compare good good good", "good is one too many"),
     ("compare - -", "- is named twice"),
+    ("compare good - --replace 2=-", "- is named twice"),
+    (
+        "compare good good --replace 2",
+        "--replace is no INDEX=FILE",
+    ),
+    (
+        "compare good good --replace x=good",
+        "INDEX is no number: x",
+    ),
+    ("stage good 2", "REPLACEMENT is missing"),
+    ("stage good two good", "INDEX is no number: two"),
+    ("stage - 2 -", "- is named twice"),
     ("registers", "FILE is missing"),
     ("registers - -", "- is named twice"),
     ("signature", "FILE is missing"),
@@ -286,6 +318,14 @@ const WRONG: &[(&str, &str)] = &[
         "extract good 99999999999999999999",
         "INDEX is no number: 99999999999999999999",
     ),
+    ("split", "IMAGE is missing"),
+    ("split good good", "good is one too many"),
+    ("assemble", "--output is missing"),
+    (
+        "assemble --output -",
+        "--output needs the name of a file here",
+    ),
+    ("assemble --output out - -", "- is named twice"),
     ("stream good", "whole, boot or app is missing"),
     ("stream good all", "no stream all: whole, boot or app"),
     ("pack", "--output is missing"),

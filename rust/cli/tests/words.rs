@@ -6,7 +6,7 @@ mod common;
 use common::{repository_text, Folder};
 use eif::sign1::Algorithm;
 use eif::{Architecture, Reason, Refusal, SectionType};
-use eif_cases::{located_images, located_rolls};
+use eif_cases::{located_images, located_rolls, strict_cases};
 use std::process::Command;
 
 /// `(NAME, VALUE)` of each `#define` of the header with a value.
@@ -127,6 +127,11 @@ fn the_header_has_the_same_limits() {
         ("EIF_MAX_JSON_DEPTH", eif::json::MAX_DEPTH),
         ("EIF_DIGEST_LENGTH", eif::DIGEST_LENGTH),
         ("EIF_MAX_SIGN1_LENGTH", eif::sign1::MAX_LENGTH),
+        ("EIF_PIECE_LENGTH", eif::assembler::PIECE_LENGTH),
+        (
+            "EIF_MAX_TRANSFER_RECORD_LENGTH",
+            eif::assembler::MAX_RECORD_LENGTH,
+        ),
     ] {
         assert_eq!(macro_value(&header, name), value.to_string(), "{name}");
     }
@@ -234,7 +239,7 @@ fn row_with(rows: &[Vec<String>], refusal: &Refusal, place: Option<String>) -> u
     found.unwrap_or_else(|| panic!("{refusal}: {place}: not in docs/MANUAL.md"))
 }
 
-/// Every row is met but for those of numbers that no small file gets.
+/// Every row is met.
 #[test]
 fn the_manual_has_the_same_places() {
     let images = manual_rows("| an image refused by |");
@@ -243,8 +248,12 @@ fn the_manual_has_the_same_places() {
         let refusal = eif::read(&case.image).expect_err("refused");
         met[row_with(&images, &refusal, refusal.place_in_image())] = true;
     }
-    let unmet = images.iter().zip(met).filter(|(_, met)| !met);
-    assert!(unmet.map(|(row, _)| &row[0]).eq(["21"]));
+    for case in strict_cases() {
+        if let Err(refusal) = eif::read_strict(&case.image) {
+            met[row_with(&images, &refusal, refusal.place_in_image())] = true;
+        }
+    }
+    assert!(met.into_iter().all(|met| met));
 
     let rolls = manual_rows("| a roll refused by |");
     let mut met = vec![false; rolls.len()];
@@ -285,7 +294,7 @@ fn help_manual_and_man_page_have_the_same_subcommands_and_options() {
     let names = subcommands(&folder);
     assert_eq!(
         names.join(" "),
-        "show check compare registers signature roll pack extract stream json"
+        "show check compare registers signature roll stage pack extract stream json split assemble"
     );
     for name in names {
         let help = folder.run([&name[..], "--help"]);

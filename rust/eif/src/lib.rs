@@ -15,6 +15,7 @@
 //! | [`registers()`] | registers 0, 1 and 2, as the platform measures the image |
 //! | [`Sha384`] | SHA-384, fed in pieces |
 //! | [`write_roll`], [`roll_length`], [`roll_to_vec`], [`read_roll`] | the boot roll |
+//! | [`Assembler`], [`assembler::records`] | an image from pieces that come in any order, some of them twice; its records |
 //! | [`sign1::read`], [`sign1::write`], [`sign1::to_vec`] | what a signature claims, not verified |
 //! | [`staged::section`], [`staged::roll_to_vec`], [`staged::registers`] | the same of an image with one section replaced, and no second image |
 //!
@@ -86,6 +87,7 @@
 #![deny(missing_docs)]
 
 mod arriving;
+pub mod assembler;
 mod image;
 pub mod json;
 mod numbers;
@@ -101,6 +103,7 @@ pub mod staged;
 mod stream;
 
 pub use arriving::Arriving;
+pub use assembler::Assembler;
 pub use image::{read, read_strict, Image, Reading, Section};
 pub use numbers::{
     Architecture, DataLength, FilePosition, RollPosition, SectionType, StreamPosition, UnknownName,

@@ -96,10 +96,20 @@ reasons! {
         "do not use it; fetch it again, and if the answer stays, tell the builder";
     21 MetadataNotJson: "metadata is not one JSON text",
         "do not use it; tell the builder";
-    28 NotSign1: "not one COSE_Sign1 of the accepted form",
-        "do not rely on the signature; tell the builder";
+    22 PieceRecordWrong: "record not of a transfer's form, or a piece that the image does not have",
+        "have the record sent again";
+    23 PieceOutOfTurn: "open record while a transfer is open, or another record while none is",
+        "go on with the transfer that is open; where none is, have its open record sent first";
+    24 BufferTooShort: "buffer too short for the image or its marks, or shorter than at open",
+        "nothing is wrong with the record; mend the calling program";
+    25 PieceDiffers: "piece already held with other bytes",
+        "one of the two is not the sender's: finish the transfer, and if the image is refused, begin again";
+    26 PieceMissing: "close record with a piece missing",
+        "nothing is lost: have the missing pieces sent, and then the close record again";
     27 NoSuchSection: "section number at or past the number of sections",
         "nothing is wrong with the file; look the section's number up with eif show";
+    28 NotSign1: "not one COSE_Sign1 of the accepted form",
+        "do not rely on the signature; tell the builder";
     29 MessageTooLong: "message longer than 2,305,843,009,213,693,951 bytes",
         "nothing is wrong with the file; mend the calling program";
 }

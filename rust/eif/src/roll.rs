@@ -99,7 +99,7 @@ impl<'a> Roll<'a> {
         &self.records
     }
 
-    /// The data of record `index`.
+    /// The data of the record at place `index` in [`records`](Roll::records), which does not count the flags record.
     ///
     /// # Panics
     ///
@@ -108,7 +108,7 @@ impl<'a> Roll<'a> {
         self.data_of(self.records()[index])
     }
 
-    /// Record `index` and its data, if there is such a record.
+    /// The record at place `index` in [`records`](Roll::records) and its data, if there is one.
     pub fn get(&self, index: usize) -> Option<(RollRecord, &'a [u8])> {
         let record = *self.records().get(index)?;
         Some((record, self.data_of(record)))

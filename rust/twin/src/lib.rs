@@ -14,6 +14,7 @@
 #![forbid(unsafe_code)]
 #![deny(missing_docs)]
 
+mod assembler;
 mod crc32;
 mod image;
 mod json;
@@ -27,6 +28,7 @@ mod staged;
 mod stream;
 mod strict;
 
+pub use assembler::Transfer;
 pub use crc32::Crc32;
 pub use image::{read, Reading, Section};
 pub use json::check_json;

@@ -38,7 +38,7 @@ returns c =
     c .refused .ensures ∙ read-sized (s w) (λ e. let p = start w in let q = size w in omega arith)
 
 is-written-requires : tie.Need-is-written-requires
-is-written-requires c κs = (claim (c .before), (start (c .before), (sized c, omega arith)))
+is-written-requires c κs = (claim (c .before), (start (c .before), (sized c, (omega arith, omega arith))))
 
 returns-2 : tie.Need-returns-2
 returns-2 c =

@@ -1,10 +1,10 @@
 -- `crc32::empty` meets its contract: the words under the window are folded as bits, and the window moves on with nothing new.
 -- Assumes nothing.
-use Prim.Native.Nat.{ℕ, _+_, _-_, _*_, _%_, _^_, _<_, _≤_}
-use mathlib.Core.Path.{_≡_, refl, sym, ap, ap₂, _∙_}
+use Prim.Native.Nat.{ℕ, _+_, _-_, _*_, _^_, _<_, _≤_}
+use mathlib.Core.Path.{_≡_, sym, ap, ap₂, _∙_}
 use lib.Bits.{bitXor, xor-zero-l, xor-zero-r}
 use lib.Dec.{lit<}
-use lib.ListN.{getD, set}
+use lib.ListN.{getD}
 use Rattle.crc32.specs.Fold.{shr, spread, carried, left, mix, window, Words}
 use Rattle.crc32.proofs.FoldBits.{bits-turn-under, carried-none}
 use Rattle.crc32.proofs.FoldWords.{added-low, window-out, window-empty, words-set, emptied}

@@ -1,6 +1,6 @@
 -- `crc32::rest` meets its contract: what is left, with what is carried added to it, has one remainder all along.
 -- Assumes nothing.
-use Prim.Native.Nat.{ℕ, _+_, _-_, _^_, _<_, _≤_}
+use Prim.Native.Nat.{_+_, _-_, _^_, _<_, _≤_}
 use mathlib.Core.Path.{_≡_, refl, sym, ap, _∙_}
 use lib.ListN.{length}
 use Rattle.crc32.specs.Fold.{left, carried}

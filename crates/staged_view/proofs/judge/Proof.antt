@@ -25,13 +25,13 @@ use Rattle.staged_view.proofs.judge.Lts as lts
 -- both numbers are those of sections
 module _ (c : tie.Else2) where
   abbrev file : List ℕ
-  file = now (c .before .before .before .before .before .before .before .args .base)
+  file = now (c .before .before .before .before .before .before .before .before .args .base)
 
   abbrev got : Reading
-  got = c .before .before .before .before .before .read .result
+  got = c .before .before .before .before .before .before .read .result
 
   abbrev got-is : got ≡ readImage file
-  got-is = c .before .before .before .before .before .read .ensures
+  got-is = c .before .before .before .before .before .before .read .ensures
 
   abbrev ok : got .verdict ≡ Accepted
   ok = c .before .before .before .enum-told .given .1
@@ -45,7 +45,7 @@ module _ (c : tie.Else2) where
 
 returns : tie.Need-returns
 returns c =
-    let w = c .before .before .before in
+    let w = c .before .before .before .before in
     let a = w .before .before .args in
     let t = c .before .enum-told2 .given in
     c .refused .ensures ∙ ap blankStaged (t .1)
@@ -55,17 +55,17 @@ returns-2 : tie.Need-returns-2
 returns-2 c =
     let w = c .before .before .before .before .before .before in
     let a = w .before .before .args in
-    c .refused2 .ensures ∙ ap blankStaged (c .before .refuse .ensures)
+    c .refused2 .ensures ∙ ap blankStaged (c .before .before .before .before .before .refuse .ensures)
     ∙ no-replaced (now (a .base)) (w .read .result) (w .read .ensures) (a .size) (a .replaced) (a .shown)
-    (c .before .before .before .before .enum-told .given .1) (c .before .before .if1 .taken)
+    (c .before .before .before .enum-told .given .1) (c .before .if1 .taken)
 
 returns-3 : tie.Need-returns-3
 returns-3 c =
     let w = c .before .before .before .before .before .before .before in
     let a = w .before .before .args in
-    c .refused3 .ensures ∙ ap blankStaged (c .before .refuse2 .ensures)
+    c .refused3 .ensures ∙ ap blankStaged (c .before .before .before .before .before .before .refuse .ensures)
     ∙ no-shown (now (a .base)) (w .read .result) (w .read .ensures) (a .size) (a .replaced) (a .shown)
-    (c .before .before .before .before .before .enum-told .given .1) (c .before .before .before .if1 .left) (c .before .before .if2 .taken)
+    (c .before .before .before .before .enum-told .given .1) (c .before .before .if1 .left) (c .before .if2 .taken)
 
 too-long-requires : tie.Need-too-long-requires
 too-long-requires c κs =
@@ -75,8 +75,8 @@ too-long-requires c κs =
 returns-4 : tie.Need-returns-4
 returns-4 c =
     let z = c .before .before .before .before in
-    let a = z .before .before .before .before .before .before .before .args in
-    c .refused4 .ensures ∙ ap blankStaged (c .before .refuse3 .ensures)
+    let a = z .before .before .before .before .before .before .before .before .args in
+    c .refused4 .ensures ∙ ap blankStaged (c .before .refuse2 .ensures)
     ∙ over-limit (file z) (got z) (got-is z) (a .size) (a .replaced) (a .shown) (ok z) (z .before .if1 .left) (z .if2 .left)
     (sym (c .before .before .if3 .taken) ∙ c .before .before .before .too-long .ensures)
 
@@ -95,7 +95,7 @@ array-set-from-sections c =
 returns-5 : tie.Need-returns-5
 returns-5 c =
     let z = c .before .before .before .before .before in
-    let a = z .before .before .before .before .before .before .before .args in
+    let a = z .before .before .before .before .before .before .before .before .args in
     ap (λ (x : Section). record { verdict = got z .verdict; flags = got z .flags; sections = set (got z .sections) (a .replaced) x }) (c .moved-to .ensures)
     ∙ fine (file z) (got z) (got-is z) (a .size) (a .replaced) (a .shown) (ok z) (z .before .if1 .left) (z .if2 .left)
     (sym (c .before .before .before .if3 .left) ∙ c .before .before .before .before .too-long .ensures)
@@ -105,15 +105,14 @@ judge-spec =
     tie.close
     (tie.spec
     (λ c κs. search needs)
+    (λ c κs. search needs)
     (λ c. search needs)
     (λ c. search needs)
     (λ c κs. search needs)
     returns
     (λ c. search needs)
     (λ c κs. search needs)
-    (λ c κs. search needs)
     returns-2
-    (λ c κs. search needs)
     (λ c κs. search needs)
     returns-3
     too-long-requires

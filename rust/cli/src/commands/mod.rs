@@ -1,10 +1,11 @@
 //! The subcommands, each in a file of its own.
 //!
-//! A new one (assemble) is a file here and a row in the table.
+//! A new one is a file here and a row in the table.
 
 use crate::args::{Args, Options};
 use crate::status::{Status, Trouble};
 
+mod assemble;
 mod check;
 mod compare;
 mod extract;
@@ -14,6 +15,7 @@ mod registers;
 mod roll;
 mod show;
 mod signature;
+mod split;
 mod stage;
 mod stream;
 
@@ -29,7 +31,7 @@ pub struct Command {
 }
 
 /// All of them, in the order of the overview.
-pub const COMMANDS: [Command; 11] = [
+pub const COMMANDS: [Command; 13] = [
     show::COMMAND,
     check::COMMAND,
     compare::COMMAND,
@@ -41,4 +43,6 @@ pub const COMMANDS: [Command; 11] = [
     extract::COMMAND,
     stream::COMMAND,
     json::COMMAND,
+    split::COMMAND,
+    assemble::COMMAND,
 ];

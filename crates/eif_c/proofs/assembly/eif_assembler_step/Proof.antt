@@ -6,7 +6,7 @@ use Rattle.eif_c.proofs.assembly.eif_assembler_step.Tie as tie
 
 returns : tie.Need-returns
 returns c =
-    let s = c .before .before .before .before .before .before .before .step .ensures in
+    let s = c .before .before .before .before .before .before .before .before .step .ensures in
     (cc, (s .1 .0, s .1 .1))
 
 pub eif-assembler-step-spec : {M : Type 1} → statement M

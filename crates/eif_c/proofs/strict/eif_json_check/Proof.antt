@@ -12,4 +12,4 @@ eif-json-check-spec =
     (tie.spec
     (λ c κs. search needs)
     (λ c κs. search needs)
-    (λ c. c .flat-json .ensures ∙ ap flatJson (c .before .check .ensures)))
+    (λ c. c .flat-json .ensures ∙ ap flatJson (c .before .check .ensures .0)))
