@@ -2,7 +2,7 @@
 SHELL := /bin/sh
 .DEFAULT_GOAL := help
 .NOTPARALLEL:
-.PHONY: help run test test-large prove kit staticlib eif show-test c-test rust-test rust-lint install-test bench doc install
+.PHONY: help run test test-large prove kit staticlib eif map written-test show-test c-test rust-test rust-lint install-test bench doc install
 
 IMAGE ?= samples/worked.eif
 PREFIX ?= /usr/local
@@ -18,12 +18,12 @@ endif
 C_WARNINGS := -Wall -Wextra -Werror -pedantic
 VERSION := $(shell sed -n 's/^#define EIF_VERSION "\(.*\)"/\1/p' include/eif.h)
 
-# With EIF_LIB_DIR set, the archive in that folder is taken as it is.
+# With EIF_LIB_DIR set, the archive in that folder is taken as it is. It is not exported: a make within this one would take it as set, and
+# build no archive.
 ifeq ($(origin EIF_LIB_DIR),undefined)
 EIF_LIB_DIR := $(CURDIR)/target/staticlib
 archive := staticlib
 endif
-export EIF_LIB_DIR
 
 help:
 	@echo 'make eif                  the command: target/bin/eif'
@@ -34,6 +34,7 @@ help:
 	@echo 'make rust-lint doc        lints of the Rust code, its documentation'
 	@echo 'make test-large           the tests that keep images of 1 GiB in memory: minutes, 4 GiB'
 	@echo 'make bench                speed beside the plain Rust twin, zlib, libdeflate and OpenSSL, with plots; BENCH_LARGE=1: images of 1 GiB too; BENCH=json: JSON texts alone'
+	@echo 'make map                  the map of the crates, docs/map.svg, and the table of definitions in README.md'
 	@echo 'make install PREFIX=dir   command, man page, C header, archive, pkg-config file'
 
 kit:
@@ -45,12 +46,14 @@ run: kit
 	@$(RT) check eif_check >target/run.log 2>&1 || { cat target/run.log; exit 1; }
 	@target/bin/eif_check <'$(IMAGE)'
 
-# Where cargo is too old for the Rust tests, the rest is tried all the same and the last line says what is missing. Otherwise the
-# last line is the kit's verdict.
-test: kit show-test c-test
+# The proofs come first, and the tests use what they built. The last line says the kit's verdict again; where cargo is too old for the
+# Rust tests, all the rest is tried and the last line says what is missing.
+test: kit
+	@tests/prove.sh $(RT)
+	@$(MAKE) --no-print-directory written-test show-test c-test
 	@if tests/cargo.sh $(CARGO); then $(MAKE) --no-print-directory rust-test install-test; fi
-	@$(RT) ci
 	@tests/cargo.sh $(CARGO)
+	@cat target/verdict
 
 prove: kit
 	@$(RT) ci
@@ -63,6 +66,20 @@ eif: $(archive)
 	cd rust && $(CARGO) build --release $(CARGO_FLAGS) -p eif-cli
 	@mkdir -p target/bin
 	install -m 755 rust/target/release/eif target/bin/eif
+
+map:
+	tests/need.sh python3 python3
+	tools/map.py
+	tools/believe.py
+
+# What tools/ has written is what it would write, what the documents name is there, and the layout is that of rt fmt.
+written-test: kit
+	tests/need.sh python3 python3
+	tools/map.py --check
+	tools/believe.py --check
+	tools/json_tables.py --check
+	tools/names.py --check
+	$(RT) fmt --check
 
 show-test: kit
 	$(RT) check eif_show

@@ -1,18 +1,7 @@
 #!/bin/sh
 # assemble.sh PROGRAM: what the program that puts an image together from records writes, to the byte: pieces in any order and twice, records that
 # are refused, records that are longer than any, input that is cut, and images that are too long for its buffer.
-set -eu
-program=$1
-folder=$(mktemp -d)
-trap 'rm -rf "$folder"' EXIT
-
-# expect WHAT LINES: of the records that are piped in
-expect() {
-    "$program" >"$folder/output"
-    printf "$2" >"$folder/expected"
-    cmp -s "$folder/output" "$folder/expected" || { echo "assemble: $1: wrong output:"; cat "$folder/output"; exit 1; }
-    echo "assemble: $1: ok"
-}
+. tests/expect.sh
 
 # number VALUE: 8 bytes, little-endian
 number() {
@@ -46,24 +35,15 @@ piece() {
     cat "$folder/data"
 }
 
-# image: 10,000 bytes: an empty command line at 548 and a kernel of zeros at 560. Its checksum is zlib's.
+# image: 10,000 bytes, its kernel of zeros. Its checksum is zlib's.
 image=$folder/image
 truncate -s 10000 "$image"
-put() {
-    printf "$2" | dd of="$image" bs=1 seek="$1" conv=notrunc status=none
-}
-put 0 '.eif\0\002'
-put 27 '\002'
-put 34 '\002\044'
-put 42 '\002\060'
-put 298 '\044\324'
-put 544 '\127\241\372\157'
-put 549 '\002'
-put 561 '\001'
-put 570 '\044\324'
+put_two_sections "$image"
+put_in "$image" 298 '\044\324'
+put_in "$image" 544 '\127\241\372\157'
+put_in "$image" 570 '\044\324'
 
 rows='eif 2 2\n0 2 548 0\n1 1 560 9428\n'
-worked='eif 2 3\n0 1 548 1\n1 2 561 1\n2 3 574 0\n'
 refused() {
     printf 'refused %s at 0 byte 0\\n' "$@"
 }

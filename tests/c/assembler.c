@@ -3,12 +3,9 @@
  * layouts, null pointers with length 0, answers without padding. Compiles as C99 and as C++.
  * Prints one line and ends with status 0, or says what differs and ends with status 1.
  */
-#include "eif.h"
+#include "check.h"
 
-#include <stdio.h>
-#include <string.h>
-
-enum { LENGTH = 2 * EIF_PIECE_LENGTH + 3, ROOM = LENGTH + 5, PLACES = 4, STAYS = 0xaa };
+enum { LENGTH = 2 * EIF_PIECE_LENGTH + 3, ROOM = LENGTH + 5, PLACES = 4 };
 
 /* The layout of each struct, as the Rust interface has it. A wrong size is a negative array length. */
 typedef char layout_of_state[sizeof(eif_assembler) == 32 ? 1 : -1];
@@ -17,19 +14,10 @@ typedef char layout_of_stepped[sizeof(eif_assembler_stepped) == 64 ? 1 : -1];
 typedef char layout_of_stepped_state[offsetof(eif_assembler_stepped, state) == 24 ? 1 : -1];
 typedef char layout_of_stepped_length[offsetof(eif_assembler_stepped, length) == 56 ? 1 : -1];
 
-static int failures = 0;
-
 /* What is sent, and what the station has. */
 static uint8_t content[LENGTH];
 static eif_assembler state;
 static uint8_t image[ROOM], marks[PLACES];
-
-static void check(int holds, const char *what) {
-    if (!holds) {
-        printf("differs: %s\n", what);
-        failures++;
-    }
-}
 
 static void put_number(uint8_t *bytes, uint64_t number) {
     for (unsigned i = 0; i < 8; i++) {
@@ -68,10 +56,9 @@ static eif_assembler_stepped close_it(void) {
 
 /* An answer with this number, and a state as it was where that is a refusal. */
 static void expect(eif_assembler_stepped done, unsigned number, const char *what) {
-    static const uint8_t zeros[7] = {0};
     int same = memcmp(&done.state, &state, sizeof state) == 0;
     check(done.number == number && done.index == 0 && done.position == 0 &&
-              memcmp(done.reserved, zeros, sizeof zeros) == 0 && (number == 0 || same) &&
+              zero(done.reserved, sizeof done.reserved) && (number == 0 || same) &&
               (number == 0 || done.length == 0),
           what);
     state = done.state;
@@ -112,9 +99,7 @@ static void try_transfer(void) {
     expect(done, EIF_ACCEPTED, "the close");
     check(done.length == LENGTH && state.opened == 0 && state.length == 0, "what a close answers");
     check(memcmp(image, content, LENGTH) == 0 && marks_are(1, 1, 1), "the image");
-    for (size_t i = LENGTH; i < ROOM; i++) {
-        check(image[i] == STAYS, "bytes after the image");
-    }
+    check(stays(image, LENGTH, ROOM), "bytes after the image");
     expect(piece(content, 0), EIF_PIECE_OUT_OF_TURN, "a piece after the close");
 }
 
@@ -130,11 +115,7 @@ static void try_null(void) {
 
 static void try_padding(void) {
     eif_assembler_stepped one, other;
-    memset(&one, 0x55, sizeof one);
-    memset(&other, 0xaa, sizeof other);
-    one = close_it();
-    other = close_it();
-    check(memcmp(&one, &other, sizeof one) == 0, "equal answers by memcmp");
+    CHECK_TWICE(one, other, close_it(), "equal answers by memcmp");
 }
 
 int main(void) {
@@ -148,8 +129,5 @@ int main(void) {
     try_transfer();
     try_null();
     try_padding();
-    if (failures == 0) {
-        printf("assembler: as promised\n");
-    }
-    return failures != 0;
+    return ended("assembler: as promised");
 }

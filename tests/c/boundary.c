@@ -3,10 +3,7 @@
  * padding, words. Compiles as C99 and as C++.
  * Prints one line and ends with status 0, or says what differs and ends with status 1.
  */
-#include "eif.h"
-
-#include <stdio.h>
-#include <string.h>
+#include "check.h"
 
 /* The layout of each struct, as the Rust interface has it. A wrong size is a negative array length. */
 typedef char layout_of_json[sizeof(eif_json_answer) == 16 ? 1 : -1];
@@ -46,15 +43,6 @@ typedef char layout_of_roll_flags[offsetof(eif_roll_reading, flags) == 2 ? 1 : -
 typedef char layout_of_roll_records[offsetof(eif_roll_reading, records) == 32 ? 1 : -1];
 
 enum { IMAGE_LENGTH = 585, ROLL_LENGTH = 53 };
-
-static int failures = 0;
-
-static void check(int holds, const char *what) {
-    if (!holds) {
-        printf("differs: %s\n", what);
-        failures++;
-    }
-}
 
 static eif_stream_position start(void) {
     eif_stream_position position;
@@ -106,39 +94,11 @@ static void try_null(const uint8_t *image) {
     check(eif_roll_write(image, IMAGE_LENGTH, NULL, 0).number == EIF_OUTPUT_TOO_SHORT, "roll to null");
 }
 
-/* Leaves bytes on the stack, where the next call's answer is made. */
-static unsigned soil(unsigned char byte) {
-    volatile unsigned char bytes[16384];
-    unsigned sum = 0;
-    for (size_t i = 0; i < sizeof bytes; i++) {
-        bytes[i] = byte;
-    }
-    for (size_t i = 0; i < sizeof bytes; i++) {
-        sum += bytes[i];
-    }
-    return sum;
-}
-
-static int zero(const uint8_t *bytes, size_t length) {
-    for (size_t i = 0; i < length; i++) {
-        if (bytes[i] != 0) {
-            return 0;
-        }
-    }
-    return 1;
-}
-
 /* An accepted image or, with a shorter length, a refused one. */
 static void try_reading(const uint8_t *image, size_t length,
                         eif_reading (*read)(const uint8_t *, size_t)) {
     static eif_reading one, other;
-    memset(&one, 0x55, sizeof one);
-    memset(&other, 0xaa, sizeof other);
-    soil(0x11);
-    one = read(image, length);
-    soil(0xee);
-    other = read(image, length);
-    check(memcmp(&one, &other, sizeof one) == 0, "equal readings by memcmp");
+    CHECK_TWICE(one, other, read(image, length), "equal readings by memcmp");
     check(one.reserved == 0 && one.reserved_after == 0, "reserved of a reading");
     for (unsigned i = 0; i < EIF_MAX_SECTIONS; i++) {
         check(one.sections[i].reserved == 0, "reserved of a section");
@@ -149,13 +109,7 @@ static void try_reading(const uint8_t *image, size_t length,
 static void try_json(const char *text) {
     static eif_json_answer one, other;
     const uint8_t *bytes = (const uint8_t *)text;
-    memset(&one, 0x55, sizeof one);
-    memset(&other, 0xaa, sizeof other);
-    soil(0x11);
-    one = eif_json_check(bytes, strlen(text));
-    soil(0xee);
-    other = eif_json_check(bytes, strlen(text));
-    check(memcmp(&one, &other, sizeof one) == 0, "equal JSON answers by memcmp");
+    CHECK_TWICE(one, other, eif_json_check(bytes, strlen(text)), "equal JSON answers by memcmp");
     check(zero(one.reserved, sizeof one.reserved), "reserved of a JSON answer");
 }
 
@@ -180,13 +134,7 @@ static void try_stream_sections(const uint8_t *image, size_t length,
 
 static void try_roll_reading(const uint8_t *roll, size_t length) {
     static eif_roll_reading one, other;
-    memset(&one, 0x55, sizeof one);
-    memset(&other, 0xaa, sizeof other);
-    soil(0x11);
-    one = eif_roll_read(roll, length);
-    soil(0xee);
-    other = eif_roll_read(roll, length);
-    check(memcmp(&one, &other, sizeof one) == 0, "equal roll readings by memcmp");
+    CHECK_TWICE(one, other, eif_roll_read(roll, length), "equal roll readings by memcmp");
     check(one.reserved == 0 && one.reserved_after == 0, "reserved of a roll reading");
     for (unsigned i = 0; i < EIF_MAX_SECTIONS; i++) {
         check(one.records[i].reserved == 0, "reserved of a record");
@@ -196,25 +144,13 @@ static void try_roll_reading(const uint8_t *roll, size_t length) {
 
 static void try_answer(const uint8_t *image, size_t length, uint8_t *out, size_t out_length) {
     static eif_answer one, other;
-    memset(&one, 0x55, sizeof one);
-    memset(&other, 0xaa, sizeof other);
-    soil(0x11);
-    one = eif_roll_write(image, length, out, out_length);
-    soil(0xee);
-    other = eif_roll_write(image, length, out, out_length);
-    check(memcmp(&one, &other, sizeof one) == 0, "equal answers by memcmp");
+    CHECK_TWICE(one, other, eif_roll_write(image, length, out, out_length), "equal answers by memcmp");
     check(zero(one.reserved, sizeof one.reserved), "reserved of an answer");
 }
 
 static void try_registers(const uint8_t *image, size_t length) {
     static eif_registers_answer one, other;
-    memset(&one, 0x55, sizeof one);
-    memset(&other, 0xaa, sizeof other);
-    soil(0x11);
-    one = eif_registers(image, length);
-    soil(0xee);
-    other = eif_registers(image, length);
-    check(memcmp(&one, &other, sizeof one) == 0, "equal registers by memcmp");
+    CHECK_TWICE(one, other, eif_registers(image, length), "equal registers by memcmp");
     check(zero(one.reserved, sizeof one.reserved), "reserved of registers");
 }
 
@@ -222,20 +158,8 @@ static void try_arriving(const uint8_t *image, size_t length) {
     static eif_arriving_fed one, other;
     static eif_arriving_finished end, other_end;
     eif_arriving state = eif_arriving_begin();
-    memset(&one, 0x55, sizeof one);
-    memset(&other, 0xaa, sizeof other);
-    soil(0x11);
-    one = eif_arriving_feed(state, image, length, UINT64_MAX);
-    soil(0xee);
-    other = eif_arriving_feed(state, image, length, UINT64_MAX);
-    check(memcmp(&one, &other, sizeof one) == 0, "equal arriving states by memcmp");
-    memset(&end, 0x55, sizeof end);
-    memset(&other_end, 0xaa, sizeof other_end);
-    soil(0x11);
-    end = eif_arriving_finish(one.state);
-    soil(0xee);
-    other_end = eif_arriving_finish(one.state);
-    check(memcmp(&end, &other_end, sizeof end) == 0, "equal ends by memcmp");
+    CHECK_TWICE(one, other, eif_arriving_feed(state, image, length, UINT64_MAX), "equal arriving states by memcmp");
+    CHECK_TWICE(end, other_end, eif_arriving_finish(one.state), "equal ends by memcmp");
 }
 
 /* A piece that is taken or, with a larger total, one that is refused. */
@@ -244,13 +168,7 @@ static void try_sha384(uint64_t total) {
     static eif_sha384_fed one, other;
     eif_sha384 state = eif_sha384_begin();
     state.total = total;
-    memset(&one, 0x55, sizeof one);
-    memset(&other, 0xaa, sizeof other);
-    soil(0x11);
-    one = eif_sha384_update(state, piece, sizeof piece);
-    soil(0xee);
-    other = eif_sha384_update(state, piece, sizeof piece);
-    check(memcmp(&one, &other, sizeof one) == 0, "equal states by memcmp");
+    CHECK_TWICE(one, other, eif_sha384_update(state, piece, sizeof piece), "equal states by memcmp");
     check(zero(one.reserved, sizeof one.reserved), "reserved of a state");
 }
 
@@ -297,9 +215,5 @@ int main(void) {
     try_sha384(0);
     try_sha384(EIF_MAX_MESSAGE_LENGTH);
     try_words();
-    if (failures != 0) {
-        return 1;
-    }
-    printf("boundary: as promised\n");
-    return 0;
+    return ended("boundary: as promised");
 }

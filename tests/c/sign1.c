@@ -3,43 +3,15 @@
  * answers without padding. Compiles as C99 and as C++.
  * Prints one line and ends with status 0, or says what differs and ends with status 1.
  */
-#include "eif.h"
+#include "check.h"
 
-#include <stdio.h>
-#include <string.h>
-
-enum { LENGTH = 213, SIGNATURE_LENGTH = 96, STAYS = 0xaa };
+enum { LENGTH = 213, SIGNATURE_LENGTH = 96 };
 
 /* The layout of each struct, as the Rust interface has it. A wrong size is a negative array length. */
 typedef char layout_of_claim[sizeof(eif_sign1_claim) == 64 ? 1 : -1];
 typedef char layout_of_claim_value[offsetof(eif_sign1_claim, register_value) == 16 ? 1 : -1];
 typedef char layout_of_reading[sizeof(eif_sign1_reading) == 24 + 64 + 16 ? 1 : -1];
 typedef char layout_of_reading_claim[offsetof(eif_sign1_reading, claim) == 24 ? 1 : -1];
-
-static int failures = 0;
-
-static void check(int holds, const char *what) {
-    if (!holds) {
-        printf("differs: %s\n", what);
-        failures++;
-    }
-}
-
-static int is(eif_answer answer, unsigned number, uint64_t length) {
-    static const uint8_t zeros[7] = {0};
-    return answer.number == number && answer.index == 0 && answer.position == 0 &&
-           answer.length == length && memcmp(answer.reserved, zeros, sizeof zeros) == 0;
-}
-
-/* All bytes from begin up to end still have their first value. */
-static int stays(const uint8_t *bytes, size_t begin, size_t end) {
-    for (size_t i = begin; i < end; i++) {
-        if (bytes[i] != STAYS) {
-            return 0;
-        }
-    }
-    return 1;
-}
 
 /* ES384, register 0, of the value 0, 1, 2 and so on. */
 static eif_sign1_claim claim_of(uint64_t algorithm) {
@@ -149,30 +121,10 @@ static void try_null(void) {
           "no signature, no output");
 }
 
-/* Leaves bytes on the stack, where the next call's answer is made. */
-static unsigned soil(unsigned char byte) {
-    volatile unsigned char bytes[16384];
-    unsigned sum = 0;
-    for (size_t i = 0; i < sizeof bytes; i++) {
-        bytes[i] = byte;
-    }
-    for (size_t i = 0; i < sizeof bytes; i++) {
-        sum += bytes[i];
-    }
-    return sum;
-}
-
 static void try_equal(const uint8_t *bytes, size_t length) {
     static eif_sign1_reading one, other;
-    static const uint8_t zeros[7] = {0};
-    memset(&one, 0x55, sizeof one);
-    memset(&other, 0xaa, sizeof other);
-    soil(0x11);
-    one = eif_sign1_read(bytes, length);
-    soil(0xee);
-    other = eif_sign1_read(bytes, length);
-    check(memcmp(&one, &other, sizeof one) == 0, "equal readings by memcmp");
-    check(memcmp(one.reserved, zeros, sizeof zeros) == 0, "reserved of a reading");
+    CHECK_TWICE(one, other, eif_sign1_read(bytes, length), "equal readings by memcmp");
+    check(zero(one.reserved, sizeof one.reserved), "reserved of a reading");
 }
 
 int main(void) {
@@ -188,9 +140,5 @@ int main(void) {
     try_null();
     try_equal(expected, LENGTH);
     try_equal(expected, LENGTH - 1);
-    if (failures != 0) {
-        return 1;
-    }
-    printf("COSE_Sign1: as promised\n");
-    return 0;
+    return ended("COSE_Sign1: as promised");
 }

@@ -1,6 +1,6 @@
 /*
  * How much stack each call takes: on an image of EIF_SHORT_LENGTH bytes at most held to EIF_SHORT_STACK_KIB, on
- * a longer one to EIF_STACK_KIB. Each call runs on a stack of its own that was filled with a pattern; what is
+ * longer ones to LONG_STACK_KIB and EIF_STACK_KIB. Each call runs on a stack of its own that was filled with a pattern; what is
  * left of the pattern was not used.
  * Prints a line for each call and ends with status 0, or says which takes more and ends with status 1.
  */
@@ -13,13 +13,15 @@
 
 enum { STACK_LENGTH = 1 << 18, PATTERN = 0xa5, SECTIONS = EIF_MAX_SECTIONS, METADATA = 2 };
 enum { TEXT_LENGTH = 2 * EIF_MAX_JSON_DEPTH };
-enum { SHORT_SECTION = 98, LONG_SECTION = 4000, ROOM = 1 << 18 };
+enum { SHORT_SECTION = 98, LONG_SECTION = 4000, LONGER_SECTION = 9000, ROOM = 1 << 20 };
+/* What an image of less than 256 KiB is held to: only a longer one takes the large window of the checksum. */
+enum { LONG_STACK_KIB = 16 };
 
 static uint8_t stack[STACK_LENGTH];
 static ucontext_t here, there;
 
 static eif_plan plan;
-static uint8_t data[SECTIONS * LONG_SECTION], text[TEXT_LENGTH];
+static uint8_t data[SECTIONS * LONGER_SECTION], text[TEXT_LENGTH];
 static uint8_t image[ROOM], out[ROOM], roll[ROOM];
 static size_t data_length, image_length, roll_length;
 static eif_stream_position start;
@@ -226,6 +228,7 @@ static int try_calls(size_t section, size_t kib) {
 int main(void) {
     int failures = try_calls(SHORT_SECTION, EIF_SHORT_STACK_KIB);
     failures += image_length > EIF_SHORT_LENGTH;
-    failures += try_calls(LONG_SECTION, EIF_STACK_KIB);
+    failures += try_calls(LONG_SECTION, LONG_STACK_KIB);
+    failures += try_calls(LONGER_SECTION, EIF_STACK_KIB);
     return failures != 0;
 }

@@ -4,12 +4,9 @@
  * padding. Compiles as C99 and as C++.
  * Prints one line and ends with status 0, or says what differs and ends with status 1.
  */
-#include "eif.h"
+#include "check.h"
 
-#include <stdio.h>
-#include <string.h>
-
-enum { COUNT = 4, BASE_LENGTH = 548 + 4 * 12 + 6 + 5 + 3 + 5, ROOM = 1024, STAYS = 0xaa };
+enum { COUNT = 4, BASE_LENGTH = 548 + 4 * 12 + 6 + 5 + 3 + 5, ROOM = 1024 };
 
 /* The layout, as the Rust interface has it. A wrong size is a negative array length. */
 typedef char layout_of_part[sizeof(eif_staged_part_answer) == 40 ? 1 : -1];
@@ -22,31 +19,7 @@ enum { MENDED = sizeof mended - 1 };
 
 static uint8_t base[BASE_LENGTH], afresh[ROOM];
 static size_t afresh_length;
-static int failures = 0;
-
-static void check(int holds, const char *what) {
-    if (!holds) {
-        printf("differs: %s\n", what);
-        failures++;
-    }
-}
-
 static const uint8_t *bytes_of(const char *text) { return (const uint8_t *)text; }
-
-/* All bytes from begin up to end still have their first value. */
-static int stays(const uint8_t *bytes, size_t begin, size_t end) {
-    for (size_t i = begin; i < end; i++) {
-        if (bytes[i] != STAYS) {
-            return 0;
-        }
-    }
-    return 1;
-}
-
-static int is(eif_answer answer, unsigned number, uint64_t length) {
-    return answer.number == number && answer.index == 0 && answer.position == 0 &&
-           answer.length == length;
-}
 
 /* Kernel, command line and two ramdisks, of which the first has so many bytes. */
 static eif_plan plan_of(uint64_t ramdisk) {
@@ -146,30 +119,10 @@ static void try_null(void) {
           EIF_OUTPUT_TOO_SHORT, "no room");
 }
 
-/* Leaves bytes on the stack, where the next call's answer is made. */
-static unsigned soil(unsigned char byte) {
-    volatile unsigned char bytes[16384];
-    unsigned sum = 0;
-    for (size_t i = 0; i < sizeof bytes; i++) {
-        bytes[i] = byte;
-    }
-    for (size_t i = 0; i < sizeof bytes; i++) {
-        sum += bytes[i];
-    }
-    return sum;
-}
-
 static void try_equal(uint64_t shown) {
     static eif_staged_part_answer one, other;
-    static const uint8_t zeros[6] = {0};
-    memset(&one, 0x55, sizeof one);
-    memset(&other, 0xaa, sizeof other);
-    soil(0x11);
-    one = eif_staged_part(base, sizeof base, MENDED, 2, shown);
-    soil(0xee);
-    other = eif_staged_part(base, sizeof base, MENDED, 2, shown);
-    check(memcmp(&one, &other, sizeof one) == 0, "equal parts by memcmp");
-    check(memcmp(one.reserved, zeros, sizeof zeros) == 0, "reserved of a part");
+    CHECK_TWICE(one, other, eif_staged_part(base, sizeof base, MENDED, 2, shown), "equal parts by memcmp");
+    check(zero(one.reserved, sizeof one.reserved), "reserved of a part");
 }
 
 int main(void) {
@@ -182,9 +135,5 @@ int main(void) {
     try_equal(0);
     try_equal(2);
     try_equal(COUNT);
-    if (failures != 0) {
-        return 1;
-    }
-    printf("staged: as the image written afresh\n");
-    return 0;
+    return ended("staged: as the image written afresh");
 }

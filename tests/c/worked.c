@@ -2,12 +2,9 @@
  * The worked example of docs/FORMAT.md through the C interface. Compiles as C99 and as C++.
  * Prints one line and ends with status 0, or says what differs and ends with status 1.
  */
-#include "eif.h"
+#include "check.h"
 
-#include <stdio.h>
-#include <string.h>
-
-enum { IMAGE_LENGTH = 586, ROLL_LENGTH = 54, STAYS = 0xaa };
+enum { IMAGE_LENGTH = 586, ROLL_LENGTH = 54 };
 
 static eif_stream_position at(uint64_t value) {
     eif_stream_position position;
@@ -22,33 +19,8 @@ static const uint8_t expected_roll[ROLL_LENGTH] = {
     0x00, 0, 0, 0, 0, 0, 0, 0, 0x03, 0,
     0x00, 0, 0, 0, 0, 0, 0, 0, 0x00, 0};
 
-static int failures = 0;
-
-static void check(int holds, const char *what) {
-    if (!holds) {
-        printf("differs: %s\n", what);
-        failures++;
-    }
-}
-
-/* Every refusal of this kind here has index and position 0. */
-static int is(eif_answer answer, unsigned number, uint64_t length) {
-    return answer.number == number && answer.index == 0 && answer.position == 0 &&
-           answer.length == length;
-}
-
 static int refused(eif_reading reading, unsigned number, uint64_t index, uint64_t position) {
     return reading.number == number && reading.index == index && reading.position == position;
-}
-
-/* All bytes from begin up to end still have their first value. */
-static int stays(const uint8_t *bytes, size_t begin, size_t end) {
-    for (size_t i = begin; i < end; i++) {
-        if (bytes[i] != STAYS) {
-            return 0;
-        }
-    }
-    return 1;
 }
 
 /* The 586 bytes, each field at its place; the checksum is that of an independent implementation. */
@@ -475,9 +447,5 @@ int main(void) {
     try_sha384();
     try_roll(image);
     try_flags();
-    if (failures != 0) {
-        return 1;
-    }
-    printf("worked example: all equal\n");
-    return 0;
+    return ended("worked example: all equal");
 }

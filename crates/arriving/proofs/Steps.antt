@@ -16,7 +16,7 @@ use Rattle.crc32.proofs.Linear.{crcFrom-append}
 use Rattle.eif.specs.Numbers.{placeCount}
 use Rattle.eif.specs.Layout.{headerSize, sectionHeaderSize, checksumAt}
 use Rattle.arriving.specs.State.{keptFrom, checkedAfter, countLimit}
-use Rattle.arriving.specs.Calls.{keptOver, headsOver, grown, fed}
+use Rattle.arriving.specs.Calls.{keptOver, headersOver, grown, fed}
 use Rattle.arriving.specs.declared.Arriving.{Arriving}
 
 -- ---- parts, cut to what there is
@@ -45,33 +45,33 @@ drop-min m l =
 
 -- ---- the own header of one section
 
-module _ (heads : List ℕ) (at from n : ℕ) (piece : List ℕ) where
+module _ (headers : List ℕ) (at from n : ℕ) (piece : List ℕ) where
   -- it is held whole
-  pub head-held : sectionHeaderSize ≤ n - from → heads ≡ keptOver heads at from n piece
+  pub head-held : sectionHeaderSize ≤ n - from → headers ≡ keptOver headers at from n piece
   unfolding keptOver over
   head-held h = let z : sectionHeaderSize - (n - from) ≡ 0 = omega arith in rw z refl
 
   -- it lies past the piece
-  pub head-ahead : length piece ≤ from - n → heads ≡ keptOver heads at from n piece
+  pub head-ahead : length piece ≤ from - n → headers ≡ keptOver headers at from n piece
   unfolding keptOver over
   head-ahead h = rw (drop-of-length-le piece {i = from - n} h, take-nil (sectionHeaderSize - (n - from))) refl
 
   pub head-kept : {now : List ℕ} {held skip size : ℕ} → held ≡ n - from → skip ≡ from - n → size ≡ min (sectionHeaderSize - held) (length piece - skip)
-      → now ≡ over heads (at + held) (take size (drop skip piece)) → now ≡ keptOver heads at from n piece
+      → now ≡ over headers (at + held) (take size (drop skip piece)) → now ≡ keptOver headers at from n piece
   unfolding keptOver
   head-kept {now} {held} {skip} {size} a b c e =
       e
-      ∙ ap (λ (k : ℕ). over heads (at + held) (take k (drop skip piece))) (c ∙ ap (λ (k : ℕ). min (sectionHeaderSize - held) k) (sym (length-drop skip piece)))
-      ∙ ap (over heads (at + held)) (take-min (sectionHeaderSize - held) (drop skip piece))
-      ∙ ap₂ (λ (k m : ℕ). over heads (at + k) (take (sectionHeaderSize - k) (drop m piece))) a b
+      ∙ ap (λ (k : ℕ). over headers (at + held) (take k (drop skip piece))) (c ∙ ap (λ (k : ℕ). min (sectionHeaderSize - held) k) (sym (length-drop skip piece)))
+      ∙ ap (over headers (at + held)) (take-min (sectionHeaderSize - held) (drop skip piece))
+      ∙ ap₂ (λ (k m : ℕ). over headers (at + k) (take (sectionHeaderSize - k) (drop m piece))) a b
 
 -- ---- and of the next
 
-pub heads-step : (header piece heads : List ℕ) (n i : ℕ) → i < placeCount
-    → headsOver header n piece (placeCount - (i + 1)) (i + 1) (keptOver heads (sectionHeaderSize * i) (keptFrom header i) n piece)
-    ≡ headsOver header n piece (placeCount - i) i heads
-unfolding headsOver
-heads-step header piece heads n i h =
+pub headers-step : (header piece headers : List ℕ) (n i : ℕ) → i < placeCount
+    → headersOver header n piece (placeCount - (i + 1)) (i + 1) (keptOver headers (sectionHeaderSize * i) (keptFrom header i) n piece)
+    ≡ headersOver header n piece (placeCount - i) i headers
+unfolding headersOver
+headers-step header piece headers n i h =
     let m : placeCount - i ≡ suc (placeCount - (i + 1)) = omega arith in
     rw (m, add-one i) refl
 
@@ -93,9 +93,9 @@ sum-parts c n piece {end} {start} a b =
 
 -- ---- the state
 
-pub grown-is : (a : Arriving) (piece : List ℕ) {header heads : List ℕ} {c : ℕ} → header ≡ over (a .header) (a .taken) piece
-    → heads ≡ headsOver header (a .taken) piece placeCount 0 (a .heads) → c ≡ crcFrom (a .checksum) (checkedAfter (a .taken) piece)
-    → _≡_ {A = Arriving} (record { taken = a .taken + length piece; header = header; heads = heads; checksum = c; ended = a .ended }) (grown a piece)
+pub grown-is : (a : Arriving) (piece : List ℕ) {header headers : List ℕ} {c : ℕ} → header ≡ over (a .header) (a .taken) piece
+    → headers ≡ headersOver header (a .taken) piece placeCount 0 (a .headers) → c ≡ crcFrom (a .checksum) (checkedAfter (a .taken) piece)
+    → _≡_ {A = Arriving} (record { taken = a .taken + length piece; header = header; headers = headers; checksum = c; ended = a .ended }) (grown a piece)
 unfolding grown
 grown-is a piece x y z = cc
 

@@ -9,10 +9,11 @@ use lib.ListN.{length, take, drop}
 use Rattle.octets.specs.Over.{over}
 use Rattle.crc32.specs.Crc.{crcFrom, ones32}
 use Rattle.eif.specs.Numbers.{placeCount}
-use Rattle.eif.specs.Logic.{choose}
-use Rattle.eif.specs.Layout.{sectionHeaderSize, View, viewFrom}
+use Rattle.octets.specs.Logic.{choose}
+use Rattle.eif.specs.Layout.{sectionHeaderSize, View}
 use Rattle.eif.specs.Reading.{readView}
 use Rattle.eif.specs.declared.Reading.{Reading}
+use Rattle.eif_judge.specs.Kept.{viewFrom}
 use Rattle.arriving.specs.State.{keptFrom, checkedAfter, countLimit}
 use Rattle.arriving.specs.declared.Arriving.{Arriving}
 use Rattle.arriving.specs.declared.Fed.{Fed}
@@ -23,13 +24,13 @@ use Rattle.arriving.specs.declared.Finished.{Finished}
 -- the twelve bytes at a place that are kept of the file from a position on, after a piece that comes after n bytes: those that are
 -- held stay, and the bytes of the piece before that position are left out
 unfoldable pub keptOver : List ℕ → ℕ → ℕ → ℕ → List ℕ → List ℕ
-keptOver heads at from n piece = over heads (at + (n - from)) (take (sectionHeaderSize - (n - from)) (drop (from - n) piece))
+keptOver headers at from n piece = over headers (at + (n - from)) (take (sectionHeaderSize - (n - from)) (drop (from - n) piece))
 
 -- the same for m places from place i on
-unfoldable pub headsOver : List ℕ → ℕ → List ℕ → ℕ → ℕ → List ℕ → List ℕ
-headsOver header n piece zero i heads = heads
-headsOver header n piece (suc m) i heads =
-    headsOver header n piece m (suc i) (keptOver heads (sectionHeaderSize * i) (keptFrom header i) n piece)
+unfoldable pub headersOver : List ℕ → ℕ → List ℕ → ℕ → ℕ → List ℕ → List ℕ
+headersOver header n piece zero i headers = headers
+headersOver header n piece (suc m) i headers =
+    headersOver header n piece m (suc i) (keptOver headers (sectionHeaderSize * i) (keptFrom header i) n piece)
 
 -- the state after bytes for which the counter has room; the header is filled first, so that its table is known
 unfoldable pub grown : Arriving → List ℕ → Arriving
@@ -38,7 +39,7 @@ grown a piece =
     record {
       taken = a .taken + length piece;
       header = header;
-      heads = headsOver header (a .taken) piece placeCount 0 (a .heads);
+      headers = headersOver header (a .taken) piece placeCount 0 (a .headers);
       checksum = crcFrom (a .checksum) (checkedAfter (a .taken) piece);
       ended = a .ended;
     }
@@ -53,7 +54,7 @@ fed a piece allowance =
 -- ---- the end
 
 abbrev pub viewIn : Arriving → View
-viewIn a = viewFrom (a .header) (a .heads) (a .taken)
+viewIn a = viewFrom (a .header) (a .headers) (a .taken)
 
 -- the reading of what was kept, by the rules of the whole reader
 unfoldable pub answerOf : Arriving → Reading
@@ -61,7 +62,7 @@ answerOf a = readView (viewIn a) (bitXor ones32 (a .checksum))
 
 -- the state once the end is told
 unfoldable pub toldEnd : Arriving → Arriving
-toldEnd a = record { taken = a .taken; header = a .header; heads = a .heads; checksum = a .checksum; ended = 1 }
+toldEnd a = record { taken = a .taken; header = a .header; headers = a .headers; checksum = a .checksum; ended = 1 }
 
 unfoldable pub finished : Arriving → Finished
 finished a = record { state = toldEnd a; reading = answerOf a }

@@ -5,7 +5,7 @@ use mathlib.Core.List.{List, [], _∷_, _++_}
 use lib.ListN.{length, take, drop}
 use Rattle.crc32.specs.Crc.{crcFrom, ones32}
 use Rattle.eif.specs.Numbers.{placeCount}
-use Rattle.eif.specs.Layout.{headerSize, sectionHeaderSize, checksumAt, offsetAt}
+use Rattle.eif.specs.Layout.{headerSize, sectionHeaderSize, checksumAt, checksumEnd, offsetAt}
 use Rattle.eif.specs.Plan.{joinFrom}
 use Rattle.arriving.specs.declared.Arriving.{Arriving}
 
@@ -23,18 +23,18 @@ unfoldable pub keptFrom : List ℕ → ℕ → ℕ
 keptFrom header i = max headerSize (offsetAt header i)
 
 -- as much of it as has come
-abbrev pub headIn : List ℕ → List ℕ → ℕ → List ℕ
-headIn header s i = padded sectionHeaderSize (drop (keptFrom header i) s)
+abbrev pub headerIn : List ℕ → List ℕ → ℕ → List ℕ
+headerIn header s i = padded sectionHeaderSize (drop (keptFrom header i) s)
 
 -- all of them, one after the other
-unfoldable pub headsOf : List ℕ → List ℕ → List ℕ
-headsOf header s = joinFrom (headIn header s) placeCount 0
+unfoldable pub headersOf : List ℕ → List ℕ → List ℕ
+headersOf header s = joinFrom (headerIn header s) placeCount 0
 
 -- ---- the checksum
 
--- of bytes that come after n others, those that the checksum is over: all but the bytes 544 to 547 of the file
+-- of bytes that come after n others, those that the checksum is over: all but the checksum's own of the file
 abbrev pub checkedAfter : ℕ → List ℕ → List ℕ
-checkedAfter n s = take (checksumAt - n) s ++ drop (headerSize - n) s
+checkedAfter n s = take (checksumAt - n) s ++ drop (checksumEnd - n) s
 
 -- ---- the state
 
@@ -44,7 +44,7 @@ keptOf s =
     record {
       taken = length s;
       header = padded headerSize s;
-      heads = headsOf (padded headerSize s) s;
+      headers = headersOf (padded headerSize s) s;
       checksum = crcFrom ones32 (checkedAfter 0 s);
       ended = 0;
     }

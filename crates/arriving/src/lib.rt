@@ -11,13 +11,13 @@ ghost use Rattle.crc32.specs.Crc.{crcFrom};
 ghost use Rattle.eif.specs.Numbers.{placeCount};
 ghost use Rattle.eif.specs.Layout.{sectionHeaderSize};
 ghost use Rattle.arriving.specs.State.{countLimit, keptFrom, checkedAfter, stateOf};
-ghost use Rattle.arriving.specs.Calls.{keptOver, headsOver, grown, fed, finished};
+ghost use Rattle.arriving.specs.Calls.{keptOver, headersOver, grown, fed, finished};
 use eif::Header;
 use eif::Reading;
 use eif::SectionHeader;
 
 // Twelve bytes for each place of the section table.
-pub const HEADS: usize = SectionHeader::SIZE * eif::PLACES;
+pub const HEADERS: usize = SectionHeader::SIZE * eif::PLACES;
 
 // The largest count of bytes; the counter stops there.
 pub const COUNT_LIMIT: u64 = 0xFFFFFFFFFFFFFFFF;
@@ -29,7 +29,7 @@ pub const COUNT_LIMIT: u64 = 0xFFFFFFFFFFFFFFFF;
 pub struct Arriving {
     pub taken: u64,
     pub header: [u8; Header::SIZE],
-    pub heads: [u8; HEADS],
+    pub headers: [u8; HEADERS],
     pub checksum: u32,
     pub ended: u64,
 }
@@ -80,9 +80,9 @@ fn kept_from(header: &[u8], i: usize) -> u64
 }
 
 // The bytes of one of them that a piece has, which comes after `taken` bytes: `held` came before, and `skip` of the piece lie before it.
-fn keep_head(heads: &mut [u8], at: usize, from: u64, taken: u64, piece: &[u8])
-    requires { ⌜ at + sectionHeaderSize ≤ length (now heads) ⌝ }
-    ensures { λ _. ⌜ now (heads .exit) ≡ keptOver (now (heads .entry)) at from taken (now (piece .entry)) ⌝ }
+fn keep_header(headers: &mut [u8], at: usize, from: u64, taken: u64, piece: &[u8])
+    requires { ⌜ at + sectionHeaderSize ≤ length (now headers) ⌝ }
+    ensures { λ _. ⌜ now (headers .exit) ≡ keptOver (now (headers .entry)) at from taken (now (piece .entry)) ⌝ }
 {
     let held = past(taken, from);
     let skip = past(from, taken);
@@ -96,17 +96,17 @@ fn keep_head(heads: &mut [u8], at: usize, from: u64, taken: u64, piece: &[u8])
     }
     let start = skip as usize;
     let end = start + lesser(size - held, len - skip) as usize;
-    octets::copy(heads, at + held as usize, &piece[start..end]);
+    octets::copy(headers, at + held as usize, &piece[start..end]);
 }
 
-fn keep_heads(heads: &mut [u8], header: &[u8], taken: u64, piece: &[u8])
-    requires { ⌜ length (now heads) ≡ sectionHeaderSize * placeCount ⌝ }
-    ensures { λ _. ⌜ now (heads .exit) ≡ headsOver (now (header .entry)) taken (now (piece .entry)) placeCount 0 (now (heads .entry)) ⌝ }
+fn keep_headers(headers: &mut [u8], header: &[u8], taken: u64, piece: &[u8])
+    requires { ⌜ length (now headers) ≡ sectionHeaderSize * placeCount ⌝ }
+    ensures { λ _. ⌜ now (headers .exit) ≡ headersOver (now (header .entry)) taken (now (piece .entry)) placeCount 0 (now (headers .entry)) ⌝ }
 {
     let mut i: usize = 0;
     while i < eif::PLACES {
-        keep_head(
-            heads,
+        keep_header(
+            headers,
             SectionHeader::SIZE * i,
             kept_from(header, i),
             taken,
@@ -141,7 +141,7 @@ pub fn begin() -> Arriving
     Arriving {
         taken: 0,
         header: [0u8; Header::SIZE],
-        heads: [0u8; HEADS],
+        headers: [0u8; HEADERS],
         checksum: crc32::START,
         ended: 0,
     }
@@ -155,12 +155,12 @@ fn grow(state: Arriving, piece: &[u8]) -> Arriving
     let taken = state.taken;
     let mut header = state.header;
     octets::copy(&mut header, taken as usize, piece);
-    let mut heads = state.heads;
-    keep_heads(&mut heads, &header, taken, piece);
+    let mut headers = state.headers;
+    keep_headers(&mut headers, &header, taken, piece);
     Arriving {
         taken: taken + piece.len() as u64,
         header,
-        heads,
+        headers,
         checksum: remainder(state.checksum, taken, piece),
         ended: state.ended,
     }
@@ -189,14 +189,13 @@ pub fn finish(state: Arriving) -> Finished
     ensures { λ r. ⌜ r ≡ finished state ⌝ }
 {
     let header = state.header;
-    let heads = state.heads;
-    let early = eif_judge::judge(&header, &heads, state.taken);
-    let stored = octets::be32(&header, Header::CHECKSUM_AT);
-    let reading = eif_judge::seal(early, stored, crc32::finish(state.checksum));
+    let headers = state.headers;
+    let none = [0u8; 0];
+    let reading = eif_judge::read(&header, &headers, state.taken, state.checksum, &none);
     let told = Arriving {
         taken: state.taken,
         header,
-        heads,
+        headers,
         checksum: state.checksum,
         ended: 1,
     };

@@ -17,7 +17,7 @@ fn worked(image: &mut [u8]) {
     case_images::put_section(image, 0, 548, SectionType::KERNEL, 0, b"K");
     case_images::put_section(image, 1, 561, SectionType::COMMAND_LINE, 0, b"a");
     case_images::put_section(image, 2, 574, SectionType::RAMDISK, 0, b"");
-    case_images::seal(image);
+    case_images::put_checksum(image);
 }
 
 // ---- answers
@@ -44,7 +44,7 @@ fn refusal(r: Refusal) {
 fn accepted(reading: Reading) {
     labelled(b": accepted, version ", reading.version as u64);
     labelled(b", sections ", reading.count as u64);
-    labelled(b", ramdisk mark ", reading.ramdisks as u64);
+    labelled(b", ramdisk mark ", reading.ramdisk_mark as u64);
 }
 
 fn answer(reading: Reading) {

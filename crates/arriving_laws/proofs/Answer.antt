@@ -16,9 +16,9 @@ use Rattle.eif.specs.Numbers.{sizeLimit, placeCount, imageTooLong}
 use Rattle.eif.specs.Answers.{refuse}
 use Rattle.eif.specs.Layout.{headerSize, sectionHeaderSize, offsetsAt, viewOf, offsetAt}
 use Rattle.eif.specs.Reading.{checksumOf, blankReading, readView, readImage}
-use Rattle.eif_rules.proofs.Reading.{read-too-long}
-use Rattle.eif_rules.proofs.Agree.{Agree, Lies, read-same}
-use Rattle.arriving.specs.State.{padded, keptFrom, headIn, headsOf, keptOf, stateOf, countLimit}
+use Rattle.eif_lemmas.proofs.Reading.{read-too-long}
+use Rattle.eif_lemmas.proofs.Agree.{Agree, Lies, read-same}
+use Rattle.arriving.specs.State.{padded, keptFrom, headerIn, headersOf, keptOf, stateOf, countLimit}
 use Rattle.arriving.specs.Calls.{viewIn, answerOf}
 use Rattle.arriving_laws.proofs.Padded.{length-padded, padded-part, join-part}
 
@@ -34,15 +34,15 @@ module _ (s : List ℕ) where
 
   -- a field of the own header of section i
   head-part : (i : ℕ) → Lies (viewOf s) i → (k at : ℕ) → at + k ≤ sectionHeaderSize
-      → field k (sectionHeaderSize * i + at) (headsOf header s) ≡ field k (offsetAt s i + at) s
-  unfolding field headsOf keptFrom
+      → field k (sectionHeaderSize * i + at) (headersOf header s) ≡ field k (offsetAt s i + at) s
+  unfolding field headersOf keptFrom
   head-part i l k at g =
       let e : offsetAt header i ≡ offsetAt s i = header-part (omega (arith, l .starts, l .ends)) 8 (offsetsAt + 8 * i) (omega (arith, l .place)) in
       let o : keptFrom header i ≡ offsetAt s i = omega (arith, e, l .starts) in
       let fits : at + k ≤ length (drop (offsetAt s i) s) = rw (length-drop (offsetAt s i) s) (omega (arith, l .ends)) in
       ap beValue
-      (join-part (headIn header s) (λ j. length-padded sectionHeaderSize (drop (keptFrom header j) s)) k at placeCount 0 i (l .place) g
-      ∙ ap (λ (j : ℕ). take k (drop at (headIn header s j))) (zero-add i)
+      (join-part (headerIn header s) (λ j. length-padded sectionHeaderSize (drop (keptFrom header j) s)) k at placeCount 0 i (l .place) g
+      ∙ ap (λ (j : ℕ). take k (drop at (headerIn header s j))) (zero-add i)
       ∙ ap (λ (n : ℕ). take k (drop at (padded sectionHeaderSize (drop n s)))) o
       ∙ padded-part k at sectionHeaderSize (drop (offsetAt s i) s) g fits
       ∙ ap (take k) (drop-drop at (offsetAt s i) s))
@@ -54,7 +54,7 @@ module _ (s : List ℕ) where
         sizes = refl;
         headers = header-part;
         kinds = λ i l.
-            ap (λ (n : ℕ). field 2 n (headsOf header s)) (sym (add-zero (sectionHeaderSize * i)))
+            ap (λ (n : ℕ). field 2 n (headersOf header s)) (sym (add-zero (sectionHeaderSize * i)))
             ∙ head-part i l 2 0 (omega arith) ∙ ap (λ (n : ℕ). field 2 n s) (add-zero (offsetAt s i));
         flags = λ i l. head-part i l 2 2 (omega arith);
         ownSizes = λ i l. head-part i l 8 4 (omega arith);

@@ -17,7 +17,7 @@ use Rattle.arriving.specs.Calls.{fed, answerOf, toldEnd, finished}
 use Rattle.arriving.specs.declared.Arriving.{Arriving}
 use Rattle.arriving.specs.declared.Fed.{Fed}
 use Rattle.arriving.proofs.Steps.{take-min, fed-open, fed-ended}
-use Rattle.arriving_laws.specs.Runs.{Call, feed, finish, after, run, fresh, takenBy, takenIn, told, handed, stateAt, Turn, CanTake, Sending, unsent, turn, turns}
+use Rattle.arriving_laws.specs.Runs.{Call, feed, finish, afterCall, afterCalls, fresh, takenBy, takenIn, told, handed, stateAt, Turn, CanTake, Sending, unsent, turn, turns}
 use Rattle.arriving_laws.proofs.Growth.{taken-of, open-of, state-grows}
 use Rattle.arriving_laws.proofs.Answer.{image-too-long, answer-of}
 
@@ -67,7 +67,7 @@ told-answer a = refl
 
 -- ---- after the end is told nothing changes, and nothing is taken
 
-pub after-told : (a : Arriving) (c : Call) → after (toldEnd a) c ≡ toldEnd a
+pub after-told : (a : Arriving) (c : Call) → afterCall (toldEnd a) c ≡ toldEnd a
 after-told a (feed piece allowance) = ap (λ (f : Fed). f .state) (fed-told a piece allowance)
 after-told a finish = finish-state (toldEnd a) ∙ told-again a
 
@@ -75,10 +75,10 @@ none-told : (a : Arriving) (c : Call) → takenBy (toldEnd a) c ≡ []
 none-told a (feed piece allowance) = ap (λ (f : Fed). take (f .count) piece) (fed-told a piece allowance)
 none-told a finish = refl
 
-run-told : (a : Arriving) (cs : List Call) → run (toldEnd a) cs ≡ toldEnd a
-unfolding run
+run-told : (a : Arriving) (cs : List Call) → afterCalls (toldEnd a) cs ≡ toldEnd a
+unfolding afterCalls
 run-told a [] = refl
-run-told a (c ∷ cs) = ap (λ (b : Arriving). run b cs) (after-told a c) ∙ run-told a cs
+run-told a (c ∷ cs) = ap (λ (b : Arriving). afterCalls b cs) (after-told a c) ∙ run-told a cs
 
 taken-told : (a : Arriving) (cs : List Call) → takenIn (toldEnd a) cs ≡ []
 unfolding takenIn
@@ -97,14 +97,14 @@ taken-from s (feed piece allowance ∷ cs) =
     (ap (λ (f : Fed). takenIn (f .state) cs) (fed-state s piece allowance) ∙ taken-from (s ++ take allowance piece) cs)
 taken-from s (finish ∷ cs) = ap (λ (a : Arriving). takenIn a cs) (finish-state (stateOf s)) ∙ taken-told (stateOf s) cs
 
-run-from : (s : List ℕ) (cs : List Call) → run (stateOf s) cs ≡ stateAt (told cs) (s ++ handed cs)
-unfolding run told handed
+run-from : (s : List ℕ) (cs : List Call) → afterCalls (stateOf s) cs ≡ stateAt (told cs) (s ++ handed cs)
+unfolding afterCalls told handed
 run-from s [] = ap stateOf (sym (append-nil s))
 run-from s (feed piece allowance ∷ cs) =
-    ap (λ (f : Fed). run (f .state) cs) (fed-state s piece allowance) ∙ run-from (s ++ take allowance piece) cs
+    ap (λ (f : Fed). afterCalls (f .state) cs) (fed-state s piece allowance) ∙ run-from (s ++ take allowance piece) cs
     ∙ ap (stateAt (told cs)) (append-assoc s (take allowance piece) (handed cs))
 run-from s (finish ∷ cs) =
-    ap (λ (a : Arriving). run a cs) (finish-state (stateOf s)) ∙ run-told (stateOf s) cs ∙ ap (λ (l : List ℕ). toldEnd (stateOf l)) (sym (append-nil s))
+    ap (λ (a : Arriving). afterCalls a cs) (finish-state (stateOf s)) ∙ run-told (stateOf s) cs ∙ ap (λ (l : List ℕ). toldEnd (stateOf l)) (sym (append-nil s))
 
 -- ---- the laws of any run of calls from the fresh state
 
@@ -114,19 +114,19 @@ module _ (cs : List Call) where
   taken-is = taken-from [] cs
 
   -- the state is the defined state of exactly the bytes taken
-  pub run-state : run fresh cs ≡ stateAt (told cs) (takenIn fresh cs)
+  pub run-state : afterCalls fresh cs ≡ stateAt (told cs) (takenIn fresh cs)
   run-state = run-from [] cs ∙ ap (stateAt (told cs)) (sym taken-is)
 
   -- finishing gives the whole reader's answer on the bytes taken, refusal and index included; also where the end was told before
-  pub run-answer : finished (run fresh cs) .reading ≡ readImage (takenIn fresh cs)
-  run-answer = finish-reading (run fresh cs) ∙ ap answerOf run-state ∙ either-way (told cs) (takenIn fresh cs)
+  pub run-answer : finished (afterCalls fresh cs) .reading ≡ readImage (takenIn fresh cs)
+  run-answer = finish-reading (afterCalls fresh cs) ∙ ap answerOf run-state ∙ either-way (told cs) (takenIn fresh cs)
     where
       either-way : (b : Bool) (s : List ℕ) → answerOf (stateAt b s) ≡ readImage s
       either-way true s = told-answer (stateOf s) ∙ answer-of s
       either-way false s = answer-of s
 
   -- the counter has the number of bytes taken, and stops where 64 bits end
-  pub run-counter : run fresh cs .taken ≡ min countLimit (length (takenIn fresh cs))
+  pub run-counter : afterCalls fresh cs .taken ≡ min countLimit (length (takenIn fresh cs))
   run-counter = ap (λ (a : Arriving). a .taken) run-state ∙ either-way (told cs) (takenIn fresh cs) ∙ length-take countLimit (takenIn fresh cs)
     where
       either-way : (b : Bool) (s : List ℕ) → stateAt b s .taken ≡ length (take countLimit s)
@@ -134,34 +134,34 @@ module _ (cs : List Call) where
       either-way false s = taken-of s
 
   -- past the limit of an image, as where the counter stops, the answer is 1
-  pub run-too-long : sizeLimit < length (takenIn fresh cs) → numberOf (finished (run fresh cs) .reading .verdict) ≡ imageTooLong
+  pub run-too-long : sizeLimit < length (takenIn fresh cs) → numberOf (finished (afterCalls fresh cs) .reading .verdict) ≡ imageTooLong
   run-too-long h = ap (λ (r : Reading). numberOf (r .verdict)) (run-answer ∙ image-too-long (takenIn fresh cs) h)
 
   module _ (going : told cs ≡ false) where
-    open-state : run fresh cs ≡ stateOf (takenIn fresh cs)
+    open-state : afterCalls fresh cs ≡ stateOf (takenIn fresh cs)
     open-state = run-state ∙ ap (λ (b : Bool). stateAt b (takenIn fresh cs)) going
 
     module _ (piece : List ℕ) (allowance : ℕ) where
       -- until the end is told, a piece is taken up to the allowance
-      pub count-open : fed (run fresh cs) piece allowance .count ≡ min allowance (length piece)
+      pub count-open : fed (afterCalls fresh cs) piece allowance .count ≡ min allowance (length piece)
       count-open = ap (λ (a : Arriving). fed a piece allowance .count) open-state ∙ ap (λ (f : Fed). f .count) (fed-state (takenIn fresh cs) piece allowance)
 
       -- so at least one byte, where there is one and one is allowed
-      pub takes-one : 0 < allowance → 0 < length piece → 0 < fed (run fresh cs) piece allowance .count
+      pub takes-one : 0 < allowance → 0 < length piece → 0 < fed (afterCalls fresh cs) piece allowance .count
       takes-one h g = rw count-open (omega arith)
 
   module _ (ended : told cs ≡ true) where
-    ended-state : run fresh cs ≡ toldEnd (stateOf (takenIn fresh cs))
+    ended-state : afterCalls fresh cs ≡ toldEnd (stateOf (takenIn fresh cs))
     ended-state = run-state ∙ ap (λ (b : Bool). stateAt b (takenIn fresh cs)) ended
 
     -- after the end is told nothing is taken
-    pub count-ended : (piece : List ℕ) (allowance : ℕ) → fed (run fresh cs) piece allowance .count ≡ 0
+    pub count-ended : (piece : List ℕ) (allowance : ℕ) → fed (afterCalls fresh cs) piece allowance .count ≡ 0
     count-ended piece allowance =
         ap (λ (a : Arriving). fed a piece allowance .count) ended-state ∙ ap (λ (f : Fed). f .count) (fed-told (stateOf (takenIn fresh cs)) piece allowance)
 
     -- and no call changes the state
-    pub ended-stays : (c : Call) → after (run fresh cs) c ≡ run fresh cs
-    ended-stays c = ap (λ (a : Arriving). after a c) ended-state ∙ after-told (stateOf (takenIn fresh cs)) c ∙ sym ended-state
+    pub ended-stays : (c : Call) → afterCall (afterCalls fresh cs) c ≡ afterCalls fresh cs
+    ended-stays c = ap (λ (a : Arriving). afterCall a c) ended-state ∙ after-told (stateOf (takenIn fresh cs)) c ∙ sym ended-state
 
 -- ---- a file handed over in turns
 

@@ -4,7 +4,7 @@ use Prim.Native.Nat.{ℕ, _<_}
 use mathlib.Core.Bool.{Bool, true, false}
 use mathlib.Core.List.{List, [], _∷_, _++_}
 use lib.ListN.{take, drop}
-use Rattle.eif.specs.Logic.{choose}
+use Rattle.octets.specs.Logic.{choose}
 use Rattle.arriving.specs.State.{stateOf}
 use Rattle.arriving.specs.Calls.{fed, toldEnd, finished}
 use Rattle.arriving.specs.declared.Arriving.{Arriving}
@@ -17,13 +17,13 @@ pub data Call : Type 0 where
   finish : Call
 
 -- the state after a call, and after a run of them
-abbrev pub after : Arriving → Call → Arriving
-after a (feed piece allowance) = fed a piece allowance .state
-after a finish = finished a .state
+abbrev pub afterCall : Arriving → Call → Arriving
+afterCall a (feed piece allowance) = fed a piece allowance .state
+afterCall a finish = finished a .state
 
-unfoldable pub run : Arriving → List Call → Arriving
-run a [] = a
-run a (c ∷ cs) = run (after a c) cs
+unfoldable pub afterCalls : Arriving → List Call → Arriving
+afterCalls a [] = a
+afterCalls a (c ∷ cs) = afterCalls (afterCall a c) cs
 
 -- the state before the first byte
 abbrev pub fresh : Arriving
@@ -36,7 +36,7 @@ takenBy a finish = []
 
 unfoldable pub takenIn : Arriving → List Call → List ℕ
 takenIn a [] = []
-takenIn a (c ∷ cs) = takenBy a c ++ takenIn (after a c) cs
+takenIn a (c ∷ cs) = takenBy a c ++ takenIn (afterCall a c) cs
 
 -- whether a run tells the end
 unfoldable pub told : List Call → Bool

@@ -3,10 +3,10 @@
 // the marks and a sum of the image buffer's bytes.
 ghost use Prim.Native.Nat.{_≤_, _<_};
 ghost use lib.ListN.{length};
-use assembler_rules::PIECE_SIZE;
-use assembler_rules::Record;
-use assembler_rules::RecordKind;
-use assembler_rules::State;
+use assembler::PIECE_SIZE;
+use assembler::Record;
+use assembler::RecordKind;
+use assembler::State;
 use eif::RecordHead;
 use eif::Refusal;
 use eif::Verdict;
@@ -77,7 +77,7 @@ fn state_text(state: State) {
 
 // One call, and what it answers and leaves.
 fn call(state: State, sent: &[u8], image: &mut [u8], marks: &mut [u8]) -> State {
-    let stepped = assembler::step(state, sent, image, marks);
+    let stepped = assembler_step::step(state, sent, image, marks);
     let verdict = stepped.verdict;
     let next = stepped.state;
     answer(verdict);
@@ -228,7 +228,7 @@ fn rows(first: usize, end: usize, image: &mut [u8], marks: &mut [u8])
     requires { ⌜ end ≤ 31 ⌝ }
 {
     let sendings = SENDINGS;
-    let mut state = assembler::new();
+    let mut state = assembler_step::new();
     let mut i = first;
     while i < end {
         let next = send_cut(state, sendings[i], image, marks);

@@ -9,9 +9,10 @@ use borrow.Author.Tests.{lt-leb, le-leb, eq-eqb, ne-eqb}
 use lib.Dec.{eqb}
 use lib.ListN.{length, drop, getD, drop-of-length-le}
 use lib.Seq.{drop-cons}
-use Rattle.eif.specs.Logic.{both}
-use Rattle.assembler_rules.specs.Records.{pieceSize, offGrid}
-use Rattle.assembler_rules.specs.Rules.{same, allHeld}
+use Rattle.octets.specs.Logic.{both}
+use Rattle.assembler.specs.Records.{pieceSize, offGrid}
+use Rattle.octets.specs.Same.{sameBytes}
+use Rattle.assembler.specs.Rules.{allHeld}
 
 -- ---- two byte strings
 
@@ -19,8 +20,8 @@ both-false : (b : Bool) → both b false ≡ false
 both-false true = refl
 both-false false = refl
 
-pub same-lengths : (a b : List ℕ) → (length a ≡ length b → ⊥) → false ≡ same a b
-unfolding same
+pub same-lengths : (a b : List ℕ) → (length a ≡ length b → ⊥) → false ≡ sameBytes a b
+unfolding sameBytes
 same-lengths [] [] h = absurd (h refl)
 same-lengths [] (y ∷ b) h = refl
 same-lengths (x ∷ a) [] h = refl
@@ -29,18 +30,18 @@ same-lengths (x ∷ a) (y ∷ b) h =
 
 module _ (a b : List ℕ) (k : ℕ) where
   module _ (ha : k < length a) (hb : k < length b) where
-    same-here : same (drop k a) (drop k b) ≡ both (eqb (getD a k 0) (getD b k 0)) (same (drop (k + 1) a) (drop (k + 1) b))
-    unfolding same
+    same-here : sameBytes (drop k a) (drop k b) ≡ both (eqb (getD a k 0) (getD b k 0)) (sameBytes (drop (k + 1) a) (drop (k + 1) b))
+    unfolding sameBytes
     same-here = rw (add-one, drop-cons a k 0 ha, drop-cons b k 0 hb) refl
 
-    pub same-step : getD a k 0 ≡ getD b k 0 → same (drop (k + 1) a) (drop (k + 1) b) ≡ same (drop k a) (drop k b)
-    same-step e = sym (same-here ∙ ap (λ (t : Bool). both t (same (drop (k + 1) a) (drop (k + 1) b))) (eq-eqb _ _ e))
+    pub same-step : getD a k 0 ≡ getD b k 0 → sameBytes (drop (k + 1) a) (drop (k + 1) b) ≡ sameBytes (drop k a) (drop k b)
+    same-step e = sym (same-here ∙ ap (λ (t : Bool). both t (sameBytes (drop (k + 1) a) (drop (k + 1) b))) (eq-eqb _ _ e))
 
-    pub same-differs : (getD a k 0 ≡ getD b k 0 → ⊥) → false ≡ same (drop k a) (drop k b)
-    same-differs h = sym (same-here ∙ ap (λ (t : Bool). both t (same (drop (k + 1) a) (drop (k + 1) b))) (ne-eqb _ _ h))
+    pub same-differs : (getD a k 0 ≡ getD b k 0 → ⊥) → false ≡ sameBytes (drop k a) (drop k b)
+    same-differs h = sym (same-here ∙ ap (λ (t : Bool). both t (sameBytes (drop (k + 1) a) (drop (k + 1) b))) (ne-eqb _ _ h))
 
-  pub same-end : length a ≤ k → length b ≤ k → true ≡ same (drop k a) (drop k b)
-  unfolding same
+  pub same-end : length a ≤ k → length b ≤ k → true ≡ sameBytes (drop k a) (drop k b)
+  unfolding sameBytes
   same-end ha hb = rw (drop-of-length-le a ha, drop-of-length-le b hb) refl
 
 -- ---- marks

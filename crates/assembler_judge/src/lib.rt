@@ -3,13 +3,14 @@ ghost use mathlib.Core.Path.{_≡_};
 ghost use Prim.Native.Nat.{_+_, _<_, _≤_};
 ghost use lib.ListN.{length};
 ghost use Rattle.eif.specs.Roll.{recordHeadSize};
-ghost use Rattle.assembler_rules.specs.Records.{numberSize, numberIn, dataIn, formed, piecesOf, offGrid, placeIn};
-ghost use Rattle.assembler_rules.specs.Rules.{same, allHeld, held, heldWithOther, tooSmall, shortFor, faultOf};
-ghost use Rattle.assembler_rules.specs.ByKind.{openFault, pieceFault, closeFault};
-use assembler_rules::PIECE_SIZE;
-use assembler_rules::Record;
-use assembler_rules::RecordKind;
-use assembler_rules::State;
+ghost use Rattle.assembler.specs.Records.{numberSize, numberIn, dataIn, formed, piecesOf, offGrid, placeIn};
+ghost use Rattle.octets.specs.Same.{sameBytes};
+ghost use Rattle.assembler.specs.Rules.{allHeld, held, heldWithOther, tooSmall, shortFor, faultOf};
+ghost use Rattle.assembler.specs.ByKind.{openFault, pieceFault, closeFault};
+use assembler::PIECE_SIZE;
+use assembler::Record;
+use assembler::RecordKind;
+use assembler::State;
 use eif::RecordHead;
 use eif::Refusal;
 
@@ -110,7 +111,7 @@ fn all_held(marks: &[u8]) -> bool
 
 // Whether two byte strings are equal.
 fn is_same(a: &[u8], b: &[u8]) -> bool
-    ensures { λ r. ⌜ r ≡ same (now (a .entry)) (now (b .entry)) ⌝ }
+    ensures { λ r. ⌜ r ≡ sameBytes (now (a .entry)) (now (b .entry)) ⌝ }
 {
     if a.len() != b.len() {
         return false;

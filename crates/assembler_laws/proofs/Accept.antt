@@ -6,14 +6,14 @@ use mathlib.Core.List.{List}
 use borrow.Author.Tests.{lt-leb, le-ltb, eq-eqb}
 use lib.ListN.{length, take}
 use Rattle.eif.specs.Numbers.{sizeLimit, pieceMissing}
-use Rattle.eif.specs.Logic.{either, choose}
-use Rattle.assembler_rules.specs.Records.{pieceSize, openKind, pieceKind, closeKind, kindIn, numberIn, dataIn, formed, piecesOf, pieceAt, offGrid}
-use Rattle.assembler_rules.specs.Rules.{allHeld, heldWithOther, tooSmall, shorterThanAtOpen, shortFor, faultOf, isOpened}
-use Rattle.assembler_rules.specs.ByKind.{openFault, pieceFault, closeFault}
-use Rattle.assembler_rules.specs.declared.State.{State}
-use Rattle.assembler_rules.proofs.Faults.{pick-yes, pick-no, fault-open, fault-piece, fault-close}
+use Rattle.octets.specs.Logic.{either, choose}
+use Rattle.assembler.specs.Records.{pieceSize, openKind, pieceKind, closeKind, kindIn, numberIn, dataIn, formed, piecesOf, pieceSizeAt, offGrid}
+use Rattle.assembler.specs.Rules.{allHeld, heldWithOther, tooSmall, shorterThanAtOpen, shortFor, faultOf, isOpened}
+use Rattle.assembler.specs.ByKind.{openFault, pieceFault, closeFault}
+use Rattle.assembler.specs.declared.State.{State}
+use Rattle.assembler.proofs.Faults.{pick-yes, pick-no, fault-open, fault-piece, fault-close}
 
-grid-fine : (n start count : ℕ) → start < n → start % pieceSize ≡ 0 → count ≡ pieceAt n start → offGrid n start count ≡ false
+grid-fine : (n start count : ℕ) → start < n → start % pieceSize ≡ 0 → count ≡ pieceSizeAt n start → offGrid n start count ≡ false
 unfolding offGrid
 grid-fine n start count a b c = simp (lt-leb _ _ a, eq-eqb _ _ b, eq-eqb _ _ c)
 
@@ -44,7 +44,7 @@ module _ (st : State) (r x y : List ℕ) (ok : formed r ≡ true) where
       sym (pick-no _ _ _ (room-fine (numberIn r) (length x) (length y) b p) ∙ pick-no _ _ _ (le-ltb sizeLimit (numberIn r) a) ∙ fault-open st r x y ok k c)
 
   module _ (open-now : isOpened st ≡ true) (enough : LongEnough st x y) where
-    pub piece-fine : kindIn r ≡ pieceKind → numberIn r < st .length → numberIn r % pieceSize ≡ 0 → length (dataIn r) ≡ pieceAt (st .length) (numberIn r)
+    pub piece-fine : kindIn r ≡ pieceKind → numberIn r < st .length → numberIn r % pieceSize ≡ 0 → length (dataIn r) ≡ pieceSizeAt (st .length) (numberIn r)
         → heldWithOther r x y ≡ false → faultOf st r x y ≡ 0
     unfolding pieceFault
     piece-fine k a b c d =

@@ -8,13 +8,13 @@ use mathlib.Core.Logic.{⊎-elim}
 use native.Mathlib.Omega.{arith}
 use lib.ListN.{length, take, drop, getD, replicate}
 use Rattle.eif.specs.Numbers.{sizeLimit}
-use Rattle.eif_rules.proofs.Logic.{not-both, zero-or, equal-or-not}
-use Rattle.assembler_rules.specs.Records.{openKind, pieceKind, closeKind, kindIn, numberIn, piecesOf, pieceAt}
-use Rattle.assembler_rules.specs.Rules.{allHeld, isOpened}
-use Rattle.assembler_rules.specs.Step.{freshState}
-use Rattle.assembler_rules.specs.declared.Stepped.{Stepped}
-use Rattle.assembler_rules.proofs.Form.{formed-kinds}
-use Rattle.assembler_rules.proofs.Faults.{accepted-form, accepted-open, accepted-piece, accepted-close}
+use Rattle.eif_lemmas.proofs.Logic.{not-both, zero-or, equal-or-not}
+use Rattle.assembler.specs.Records.{openKind, pieceKind, closeKind, kindIn, numberIn, piecesOf, pieceSizeAt}
+use Rattle.assembler.specs.Rules.{allHeld, isOpened}
+use Rattle.assembler.specs.Step.{freshState}
+use Rattle.assembler.specs.declared.Stepped.{Stepped}
+use Rattle.assembler.proofs.Form.{formed-kinds}
+use Rattle.assembler.proofs.Faults.{accepted-form, accepted-open, accepted-piece, accepted-close}
 use Rattle.assembler_laws.specs.Run.{Memory, memory, answer, after, run, Every, Agrees, StaysOpen, AnyBetween}
 use Rattle.assembler_laws.proofs.Lists.{gap-found}
 use Rattle.assembler_laws.proofs.Calls.{faultAt, refused-keeps, no-fault, close-ends}
@@ -38,7 +38,7 @@ module _ (m x y : List ℕ) (image-room : length m ≤ length x) (mark-room : pi
             let t = accepted-piece (w .state) r (w .image) (w .marks) z k in
             let s = size-is m x y image-room mark-room w g in
             let i : numberIn r < length m = rw s at (t .inside) in
-            let e = t .sized ∙ ap (λ (n : ℕ). pieceAt n (numberIn r)) s in
+            let e = t .sized ∙ ap (λ (n : ℕ). pieceSizeAt n (numberIn r)) s in
             one-piece m x y image-room mark-room w g r
             (record {
               form = accepted-form (w .state) r (w .image) (w .marks) z;

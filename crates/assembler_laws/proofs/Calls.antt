@@ -13,22 +13,23 @@ use lib.ListN.{length, take, drop, getD, set, replicate, length-set, length-repl
 use lib.Seq.{length-take-le, take-at, drop-at, getD-set-same, getD-set-other}
 use Rattle.octets.specs.Over.{over}
 use Rattle.octets.proofs.Over.{length-over, over-parts}
-use Rattle.eif.specs.Logic.{both, choose}
+use Rattle.octets.specs.Logic.{both, choose}
 use Rattle.eif.specs.Answers.{refuse}
 use Rattle.eif.specs.declared.Verdict.{Verdict}
 use Rattle.eif.specs.declared.Verdict.the-variants.{Accepted}
-use Rattle.eif_rules.proofs.Logic.{equal-or-not, zero-or}
-use Rattle.assembler_rules.specs.Records.{openKind, pieceKind, closeKind, kindIn, numberIn, dataIn, formed, piecesOf, placeIn}
+use Rattle.eif_lemmas.proofs.Logic.{equal-or-not, zero-or}
+use Rattle.assembler.specs.Records.{openKind, pieceKind, closeKind, kindIn, numberIn, dataIn, formed, piecesOf, placeIn}
 use Rattle.eif.specs.Numbers.{pieceOutOfTurn, pieceMissing}
-use Rattle.assembler_rules.specs.Rules.{held, standing, faultOf, isOpened}
-use Rattle.assembler_rules.specs.Step.{freshState, stepped, imageAfter, marksAfter}
-use Rattle.assembler_rules.specs.declared.State.{State}
-use Rattle.assembler_rules.specs.declared.Stepped.{Stepped}
-use Rattle.assembler_rules.proofs.Piece.{place-in, piece-in, held-yes, piece-kept, piece-put}
-use Rattle.assembler_rules.proofs.Faults.{PieceTaken, fault-not-open, accepted-form, accepted-piece}
-use Rattle.assembler_rules.proofs.Steps.{Answers, step-refused, step-taken, step-closed}
+use Rattle.assembler.specs.Rules.{held, standing, faultOf, isOpened}
+use Rattle.assembler.specs.Step.{freshState, stepped, imageAfter, marksAfter}
+use Rattle.assembler.specs.declared.State.{State}
+use Rattle.assembler.specs.declared.Stepped.{Stepped}
+use Rattle.assembler.proofs.Piece.{place-in, piece-in, held-yes, piece-kept, piece-put}
+use Rattle.assembler.proofs.Faults.{PieceTaken, fault-not-open, accepted-form, accepted-piece}
+use Rattle.assembler.proofs.Steps.{Answers, step-refused, step-taken, step-closed}
 use Rattle.assembler_laws.specs.Run.{Memory, memory, answer, after, run, Outside, OutsideTaken, OutsideAll, OtherMarks}
-use Rattle.assembler_laws.proofs.Lists.{over-other, same-of, gap-found}
+use Rattle.eif_lemmas.proofs.Same.{equal-same}
+use Rattle.assembler_laws.proofs.Lists.{over-other, gap-found}
 use Rattle.assembler_laws.proofs.Accept.{LongEnough, piece-fine, close-lacks}
 
 pub both-none : (t : Bool) → both t false ≡ false
@@ -116,7 +117,7 @@ module _ (w : Memory) (r : List ℕ) (z : faultAt w r ≡ 0) (k : kindIn r ≡ p
       piece-fine (w .state) r (put .image) (put .marks) (accepted-form (w .state) r (w .image) (w .marks) z) (t .open-now)
       (record { image-room = rw i (t .image-room); mark-room = rw j (t .mark-room); image-kept = rw i (t .image-kept); marks-kept = rw j (t .marks-kept) })
       k (t .inside) (t .on-grid) (t .sized)
-      (ap (λ (t : Bool). both (held r (put .marks)) (not t)) (same-of (standing r (put .image)) (dataIn r) put-stands) ∙ both-none (held r (put .marks)))
+      (ap (λ (t : Bool). both (held r (put .marks)) (not t)) (equal-same (standing r (put .image)) (dataIn r) put-stands) ∙ both-none (held r (put .marks)))
 
   pub put-held : held r (put .marks) ≡ true
   put-held =

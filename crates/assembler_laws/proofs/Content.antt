@@ -1,5 +1,5 @@
 -- A complete set of pieces that do not disagree is the set of pieces of one image, the pieces joined in the order of their starts;
--- so the ticket's claim: any order and any repeats of the set give that image at close. Assumes nothing.
+-- so what is promised: any order and any repeats of the set give that image at close. Assumes nothing.
 use Prim.Native.Nat.{ℕ, zero, suc, _+_, _*_, _-_, _/_, _%_, _<_}
 use mathlib.Core.Path.{_≡_, refl, sym, ap, ap₂, subst, _∙_}
 use mathlib.Core.Bool.{Bool, true, false}
@@ -10,12 +10,12 @@ use borrow.Author.Tests.{eqb-true, eqb-false}
 use lib.Dec.{eqb}
 use lib.ListN.{length, take, drop, getD, length-take, length-drop, take-append-drop, drop-of-length-le}
 use lib.Seq.{getD-take, getD-drop, drop-drop, ext-getD}
-use Rattle.eif.specs.Logic.{choose}
+use Rattle.octets.specs.Logic.{choose}
 use Rattle.eif.specs.Table.{filled}
-use Rattle.eif_rules.proofs.Table.{filled-at, length-filled}
-use Rattle.assembler_rules.specs.Records.{pieceSize, numberIn, dataIn, piecesOf, placeIn}
+use Rattle.eif_lemmas.proofs.Table.{filled-at, length-filled}
+use Rattle.assembler.specs.Records.{pieceSize, numberIn, dataIn, piecesOf, placeIn}
 use Rattle.assembler_laws.specs.Run.{Memory, run, PieceOf, Every, Sent, Pieces, Transfer, Assembled}
-use Rattle.assembler_laws.specs.Set.{PieceFor, In, CompleteSet, bytesAt, joinedFrom, imageOf, AnyOrder, SetTransfer}
+use Rattle.assembler_laws.specs.Set.{PieceFor, In, CompleteSet, bytesFor, joinedFrom, imageOf, AnyOrder, SetTransfer}
 use Rattle.assembler_laws.proofs.Transfer.{assembled}
 
 -- ---- the first record of a place
@@ -24,19 +24,19 @@ record Found (ps : List (List ℕ)) (k : ℕ) : Type 0 where
   sent : List ℕ
   member : In ps sent
   place : placeIn sent ≡ k
-  bytes : bytesAt ps k ≡ dataIn sent
+  bytes : bytesFor ps k ≡ dataIn sent
 
 found-by : (r : List ℕ) (rs : List (List ℕ)) (k : ℕ) (t : Bool) → eqb (placeIn r) k ≡ t → Sent k (r ∷ rs) → (Sent k rs → Found rs k) → Found (r ∷ rs) k
-unfolding In Sent bytesAt
+unfolding In Sent bytesFor
 found-by r rs k true e h next =
-    record { sent = r; member = inl refl; place = eqb-true _ _ e; bytes = ap (λ (t : Bool). choose t (dataIn r) (bytesAt rs k)) e }
+    record { sent = r; member = inl refl; place = eqb-true _ _ e; bytes = ap (λ (t : Bool). choose t (dataIn r) (bytesFor rs k)) e }
 found-by r rs k false e h next =
     let f = next (⊎-elim (λ z. absurd (eqb-false _ _ e z)) (λ s. s) h) in
     record {
       sent = f .sent;
       member = inr (f .member);
       place = f .place;
-      bytes = ap (λ (t : Bool). choose t (dataIn r) (bytesAt rs k)) e ∙ f .bytes;
+      bytes = ap (λ (t : Bool). choose t (dataIn r) (bytesFor rs k)) e ∙ f .bytes;
     }
 
 found : (ps : List (List ℕ)) (k : ℕ) → Sent k ps → Found ps k
@@ -53,7 +53,7 @@ sent-in (p ∷ ps) r h = ⊎-elim (λ e. inl (ap placeIn e)) (λ m. inr (sent-in
 
 module _ (n : ℕ) (ps : List (List ℕ)) (all : CompleteSet n ps) where
   abbrev byteAt : ℕ → ℕ
-  byteAt i = getD (bytesAt ps (i / pieceSize)) (i % pieceSize) 0
+  byteAt i = getD (bytesFor ps (i / pieceSize)) (i % pieceSize) 0
 
   -- byte by byte
   content : List ℕ
@@ -71,7 +71,7 @@ module _ (n : ℕ) (ps : List (List ℕ)) (all : CompleteSet n ps) where
     fit : PieceFor n r
     fit = all .fit r m
 
-    bytes-here : bytesAt ps (placeIn r) ≡ dataIn r
+    bytes-here : bytesFor ps (placeIn r) ≡ dataIn r
     bytes-here =
         let f = found ps (placeIn r) (sent-in ps r m) in
         let g = all .fit (f .sent) (f .member) in
@@ -96,7 +96,7 @@ module _ (n : ℕ) (ps : List (List ℕ)) (all : CompleteSet n ps) where
         sym
         (getD-take pieceSize (drop (numberIn r) content) j 0 (omega arith) ∙ getD-drop (numberIn r) content j 0
         ∙ content-at (numberIn r + j) (omega arith)
-        ∙ ap₂ (λ (a b : ℕ). getD (bytesAt ps a) b 0) p q
+        ∙ ap₂ (λ (a b : ℕ). getD (bytesFor ps a) b 0) p q
         ∙ ap (λ (b : List ℕ). getD b j 0) bytes-here))
 
     piece-of : PieceOf content r
@@ -106,7 +106,7 @@ module _ (n : ℕ) (ps : List (List ℕ)) (all : CompleteSet n ps) where
         record { form = fit .form; kind = fit .kind; inside = omega arith; on-grid = fit .on-grid; bytes-are = bytes-are }
 
   -- the piece of each place
-  bytes-of : (k : ℕ) → k < piecesOf n → bytesAt ps k ≡ take pieceSize (drop (k * pieceSize) content)
+  bytes-of : (k : ℕ) → k < piecesOf n → bytesFor ps k ≡ take pieceSize (drop (k * pieceSize) content)
   bytes-of k h =
       let f = found ps k (all .cover k h) in
       let g = all .fit (f .sent) (f .member) in

@@ -1,4 +1,4 @@
--- Laws of lists that the transfer stands on: bytes written over a part, seen place by place; equal strings; rows of marks.
+-- Laws of lists that the transfer stands on: bytes written over a part, seen place by place; rows of marks.
 -- Assumes nothing.
 use Prim.Native.Nat.{ℕ, zero, suc, _+_, _-_, _<_, _≤_}
 use mathlib.Core.Path.{_≡_, refl, sym, ap, _∙_}
@@ -13,8 +13,8 @@ use lib.ListN.{length, take, drop, getD, set, length-set, length-append, length-
 use lib.Seq.{getD-set-same, getD-set-other, getD-append-add, getD-drop, ext-getD}
 use Rattle.octets.specs.Over.{over}
 use Rattle.octets.proofs.Over.{le-or-lt}
-use Rattle.eif.specs.Logic.{both}
-use Rattle.assembler_rules.specs.Rules.{same, allHeld}
+use Rattle.octets.specs.Logic.{both}
+use Rattle.assembler.specs.Rules.{allHeld}
 
 -- ---- over, place by place
 
@@ -49,16 +49,6 @@ starts-with l a x e h f g =
         let n : i ≡ length a + (i - length a) = omega arith in
         g i p ∙ ap (λ (k : ℕ). getD x k 0) n ∙ sym (getD-drop (length a) x (i - length a) 0)
         ∙ sym (getD-append-add a (drop (length a) x) (i - length a) 0) ∙ sym (ap (λ (k : ℕ). getD (a ++ drop (length a) x) k 0) n)
-
--- ---- equal strings
-
-pub same-self : (l : List ℕ) → same l l ≡ true
-unfolding same
-same-self [] = refl
-same-self (b ∷ l) = ap (λ (t : Bool). both t (same l l)) (eq-eqb b b refl) ∙ same-self l
-
-pub same-of : (a b : List ℕ) → a ≡ b → same a b ≡ true
-same-of a b e = ap (λ (l : List ℕ). same l b) e ∙ same-self b
 
 -- ---- rows of marks
 

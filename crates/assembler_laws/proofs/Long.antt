@@ -10,15 +10,15 @@ use borrow.Author.Tests.{le-leb, eq-eqb, ne-eqb}
 use lib.Dec.{leb, eqb}
 use lib.ListN.{length, length-drop}
 use Rattle.eif.specs.Numbers.{pieceRecordWrong, pieceOutOfTurn}
-use Rattle.eif.specs.Logic.{both, either, choose}
+use Rattle.octets.specs.Logic.{both, either, choose}
 use Rattle.eif.specs.Roll.{recordHeadSize}
-use Rattle.eif_rules.proofs.Logic.{equal-or-not}
-use Rattle.assembler_rules.specs.Records.{pieceSize, numberSize, openKind, pieceKind, closeKind, sizeIn, kindIn, numberIn, dataIn, sizeFits, formed, pieceAt, offGrid}
-use Rattle.assembler_rules.specs.Rules.{isOpened, faultOf}
-use Rattle.assembler_rules.specs.ByKind.{pieceFault}
-use Rattle.assembler_rules.specs.declared.State.{State}
-use Rattle.assembler_rules.proofs.Form.{formed-fits}
-use Rattle.assembler_rules.proofs.Faults.{pick-yes, fault-form, fault-not-open, fault-piece}
+use Rattle.eif_lemmas.proofs.Logic.{equal-or-not}
+use Rattle.assembler.specs.Records.{pieceSize, numberSize, openKind, pieceKind, closeKind, sizeIn, kindIn, numberIn, dataIn, sizeFits, formed, pieceSizeAt, offGrid}
+use Rattle.assembler.specs.Rules.{isOpened, faultOf}
+use Rattle.assembler.specs.ByKind.{pieceFault}
+use Rattle.assembler.specs.declared.State.{State}
+use Rattle.assembler.proofs.Form.{formed-fits}
+use Rattle.assembler.proofs.Faults.{pick-yes, fault-form, fault-not-open, fault-piece}
 use Rattle.assembler_laws.specs.Long.{LongRecord, longFault}
 
 neither : (a b : Bool) → choose a false (both b false) ≡ false
@@ -34,7 +34,7 @@ at-last false false = refl
 long-off-grid : (n start count : ℕ) → pieceSize < count → offGrid n start count ≡ true
 unfolding offGrid
 long-off-grid n start count h =
-    let e : count ≡ pieceAt n start → ⊥ = λ e. omega arith in
+    let e : count ≡ pieceSizeAt n start → ⊥ = λ e. omega arith in
     rw (ne-eqb _ _ e) (at-last (leb n start) (not (eqb (start % pieceSize) 0)))
 
 module _ (st : State) (r x y : List ℕ) (long : LongRecord r) where

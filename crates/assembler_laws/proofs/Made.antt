@@ -14,10 +14,10 @@ use Rattle.octets.specs.Bytes.{leBytes, leField}
 use Rattle.octets.proofs.Value.{leField-at, length-leBytes}
 use Rattle.octets.proofs.Over.{le-or-lt}
 use Rattle.eif.specs.Numbers.{sizeLimit}
-use Rattle.eif_rules.proofs.Logic.{equal-or-not}
-use Rattle.assembler_rules.specs.Records.{pieceSize, numberSize, openKind, pieceKind, sizeIn, kindIn, numberIn, dataIn, sizeFits, formed, piecesOf, placeIn}
-use Rattle.assembler_rules.specs.Step.{freshState}
-use Rattle.assembler_rules.proofs.Form.{formed-fits}
+use Rattle.eif_lemmas.proofs.Logic.{equal-or-not}
+use Rattle.assembler.specs.Records.{pieceSize, numberSize, openKind, pieceKind, sizeIn, kindIn, numberIn, dataIn, sizeFits, formed, piecesOf, placeIn}
+use Rattle.assembler.specs.Step.{freshState}
+use Rattle.assembler.proofs.Form.{formed-fits}
 use Rattle.assembler_laws.specs.Run.{memory, OpenFor, PieceOf, Close, Every, Sent, Pieces, Transfer}
 use Rattle.assembler_laws.specs.Made.{recordOf, openRecord, closeRecord, pieceOf, piecesFrom, allPieces}
 

@@ -12,14 +12,14 @@ use Rattle.octets.specs.Over.{over}
 use Rattle.octets.proofs.Over.{length-over}
 use Rattle.eif.specs.Numbers.{pieceMissing}
 use Rattle.eif.specs.Answers.{refuse}
-use Rattle.eif_rules.proofs.Logic.{not-both, zero-or, equal-or-not}
-use Rattle.assembler_rules.specs.Records.{openKind, pieceKind, closeKind, kindIn, numberIn, piecesOf, placeIn}
-use Rattle.assembler_rules.specs.Rules.{isOpened}
-use Rattle.assembler_rules.specs.Step.{openState, stepped}
-use Rattle.assembler_rules.specs.declared.Stepped.{Stepped}
-use Rattle.assembler_rules.proofs.Form.{formed-kinds}
-use Rattle.assembler_rules.proofs.Faults.{accepted-form, accepted-open, accepted-close}
-use Rattle.assembler_rules.proofs.Steps.{step-opened, step-taken}
+use Rattle.eif_lemmas.proofs.Logic.{not-both, zero-or, equal-or-not}
+use Rattle.assembler.specs.Records.{openKind, pieceKind, closeKind, kindIn, numberIn, piecesOf, placeIn}
+use Rattle.assembler.specs.Rules.{isOpened}
+use Rattle.assembler.specs.Step.{openState, stepped}
+use Rattle.assembler.specs.declared.Stepped.{Stepped}
+use Rattle.assembler.proofs.Form.{formed-kinds}
+use Rattle.assembler.proofs.Faults.{accepted-form, accepted-open, accepted-close}
+use Rattle.assembler.proofs.Steps.{step-opened, step-taken}
 use Rattle.assembler_laws.specs.Run.{Memory, memory, answer, after, run, Every, WithoutPiece}
 use Rattle.assembler_laws.proofs.Lists.{over-in, gap-found}
 use Rattle.assembler_laws.proofs.Accept.{LongEnough}

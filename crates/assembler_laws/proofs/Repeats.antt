@@ -11,27 +11,29 @@ use lib.Dec.{eqb}
 use lib.ListN.{length, take, drop, getD, length-take, length-drop, length-set}
 use lib.Seq.{getD-take, getD-drop, getD-set-other, ext-getD}
 use Rattle.octets.proofs.Over.{length-over, le-or-lt}
-use Rattle.eif.specs.Logic.{both}
+use Rattle.octets.specs.Logic.{both}
 use Rattle.eif.specs.declared.Verdict.the-variants.{Accepted}
-use Rattle.eif_rules.proofs.Logic.{both-true, not-both, zero-or, equal-or-not}
-use Rattle.assembler_rules.specs.Records.{pieceSize, openKind, pieceKind, closeKind, kindIn, numberIn, dataIn, pieceAt, placeIn}
-use Rattle.assembler_rules.specs.Rules.{isOpened, same, held, standing}
-use Rattle.assembler_rules.specs.Step.{stepped}
-use Rattle.assembler_rules.proofs.Form.{formed-kinds}
-use Rattle.assembler_rules.proofs.Faults.{accepted-form, accepted-open, accepted-piece}
+use Rattle.eif_lemmas.proofs.Logic.{both-true, not-both, zero-or, equal-or-not}
+use Rattle.assembler.specs.Records.{pieceSize, openKind, pieceKind, closeKind, kindIn, numberIn, dataIn, pieceSizeAt, placeIn}
+use Rattle.octets.specs.Same.{sameBytes}
+use Rattle.assembler.specs.Rules.{isOpened, held, standing}
+use Rattle.assembler.specs.Step.{stepped}
+use Rattle.assembler.proofs.Form.{formed-kinds}
+use Rattle.assembler.proofs.Faults.{accepted-form, accepted-open, accepted-piece}
 use Rattle.assembler_laws.specs.Run.{Memory, answer, after, run, StaysOpen, Repeated}
-use Rattle.assembler_laws.proofs.Lists.{over-other, same-of}
+use Rattle.eif_lemmas.proofs.Same.{equal-same}
+use Rattle.assembler_laws.proofs.Lists.{over-other}
 use Rattle.assembler_laws.proofs.Accept.{LongEnough, piece-fine}
 use Rattle.assembler_laws.proofs.Calls.{faultAt, both-none, bool-or, no-fault, refused-keeps, repeat-keeps, put, put-left, put-stands, put-held, close-ends}
 
 -- equal by the test is equal
-same-true : (a b : List ℕ) → same a b ≡ true → a ≡ b
-unfolding same
+same-true : (a b : List ℕ) → sameBytes a b ≡ true → a ≡ b
+unfolding sameBytes
 same-true [] [] e = refl
 same-true [] (y ∷ b) e = not-both e
 same-true (x ∷ a) [] e = not-both e
 same-true (x ∷ a) (y ∷ b) e =
-    let h = both-true (eqb x y) (same a b) e in
+    let h = both-true (eqb x y) (sameBytes a b) e in
     ap₂ (λ (n : ℕ) (l : List ℕ). n ∷ l) (eqb-true x y (h .0)) (same-true a b (h .1))
 
 -- ---- a piece that is held with its bytes
@@ -41,7 +43,7 @@ record Stands (start : ℕ) (bytes : List ℕ) (w : Memory) : Type 0 where
   open-now : isOpened (w .state) ≡ true
   inside : start < w .state .length
   on-grid : start % pieceSize ≡ 0
-  sized : length bytes ≡ pieceAt (w .state .length) start
+  sized : length bytes ≡ pieceSizeAt (w .state .length) start
   enough : LongEnough (w .state) (w .image) (w .marks)
   held-now : getD (w .marks) (start / pieceSize) 0 ≡ 0 → ⊥
   stands : take (length bytes) (drop start (w .image)) ≡ bytes
@@ -51,8 +53,8 @@ module _ (w : Memory) (r : List ℕ) (z : faultAt w r ≡ 0) (k : kindIn r ≡ p
   from-held : held r (w .marks) ≡ true → Stands (numberIn r) (dataIn r) w
   from-held h =
       let t = accepted-piece (w .state) r (w .image) (w .marks) z k in
-      let other : both true (not (same (standing r (w .image)) (dataIn r))) ≡ false =
-      sym (ap (λ (b : Bool). both b (not (same (standing r (w .image)) (dataIn r)))) h) ∙ t .agrees in
+      let other : both true (not (sameBytes (standing r (w .image)) (dataIn r))) ≡ false =
+      sym (ap (λ (b : Bool). both b (not (sameBytes (standing r (w .image)) (dataIn r)))) h) ∙ t .agrees in
       record {
         open-now = t .open-now;
         inside = t .inside;
@@ -178,6 +180,6 @@ repeat-changes-nothing w r rs s h =
     let bytes = subst (λ (l : List ℕ). Stands (numberIn r) l v) (sym (h .same-bytes)) first in
     let g = subst (λ (n : ℕ). Stands n (dataIn s) v) (sym (h .same-start)) bytes in
     let yes : held s (v .marks) ≡ true = ap not (ne-eqb _ _ (g .held-now)) in
-    let agrees = ap (λ (t : Bool). both (held s (v .marks)) (not t)) (same-of (standing s (v .image)) (dataIn s) (g .stands)) ∙ both-none (held s (v .marks)) in
+    let agrees = ap (λ (t : Bool). both (held s (v .marks)) (not t)) (equal-same (standing s (v .image)) (dataIn s) (g .stands)) ∙ both-none (held s (v .marks)) in
     let z = piece-fine (v .state) s (v .image) (v .marks) (h .form-again) (g .open-now) (g .enough) (h .kind-again) (g .inside) (g .on-grid) (g .sized) agrees in
     repeat-keeps v s z (h .kind-again) yes

@@ -12,18 +12,19 @@ use lib.Seq.{getD-take, getD-drop, getD-set-same, getD-set-other, ext-getD, take
 use Rattle.octets.specs.Over.{over}
 use Rattle.octets.proofs.Over.{length-over, le-or-lt}
 use Rattle.eif.specs.Numbers.{sizeLimit}
-use Rattle.eif.specs.Logic.{both}
+use Rattle.octets.specs.Logic.{both}
 use Rattle.eif.specs.declared.Verdict.the-variants.{Accepted}
-use Rattle.eif_rules.proofs.Logic.{equal-or-not}
-use Rattle.assembler_rules.specs.Records.{pieceSize, closeKind, kindIn, numberIn, dataIn, piecesOf, pieceAt, placeIn}
-use Rattle.assembler_rules.specs.Rules.{allHeld, held, standing, heldWithOther, faultOf, isOpened}
-use Rattle.assembler_rules.specs.Step.{openState, freshState, stepped}
-use Rattle.assembler_rules.specs.declared.State.{State}
-use Rattle.assembler_rules.specs.declared.Stepped.{Stepped}
-use Rattle.assembler_rules.proofs.Piece.{place-in, piece-in, held-yes, held-no, not-held, piece-kept, piece-put}
-use Rattle.assembler_rules.proofs.Steps.{step-opened, step-taken, step-closed}
+use Rattle.eif_lemmas.proofs.Logic.{equal-or-not}
+use Rattle.assembler.specs.Records.{pieceSize, closeKind, kindIn, numberIn, dataIn, piecesOf, pieceSizeAt, placeIn}
+use Rattle.assembler.specs.Rules.{allHeld, held, standing, heldWithOther, faultOf, isOpened}
+use Rattle.assembler.specs.Step.{openState, freshState, stepped}
+use Rattle.assembler.specs.declared.State.{State}
+use Rattle.assembler.specs.declared.Stepped.{Stepped}
+use Rattle.assembler.proofs.Piece.{place-in, piece-in, held-yes, held-no, not-held, piece-kept, piece-put}
+use Rattle.assembler.proofs.Steps.{step-opened, step-taken, step-closed}
 use Rattle.assembler_laws.specs.Run.{Memory, memory, answer, after, run, AllAccepted, OpenFor, PieceOf, Close, Every, Sent, Pieces, Transfer, Assembled}
-use Rattle.assembler_laws.proofs.Lists.{over-other, over-in, starts-with, same-of, all-held}
+use Rattle.eif_lemmas.proofs.Same.{equal-same}
+use Rattle.assembler_laws.proofs.Lists.{over-other, over-in, starts-with, all-held}
 use Rattle.assembler_laws.proofs.Accept.{LongEnough, open-fine, piece-fine, close-fine}
 use Rattle.assembler_laws.proofs.Calls.{called, both-none}
 
@@ -82,7 +83,7 @@ module _ (m x y : List ℕ) (image-room : length m ≤ length x) (mark-room : pi
         }
 
     module _ (r : List ℕ) (p : PieceOf m r) where
-      count-is : length (dataIn r) ≡ pieceAt (length m) (numberIn r)
+      count-is : length (dataIn r) ≡ pieceSizeAt (length m) (numberIn r)
       count-is = ap length (p .bytes-are) ∙ length-take pieceSize (drop (numberIn r) m) ∙ ap (min pieceSize) (length-drop (numberIn r) m)
 
       place-is : placeIn r < piecesOf (length m)
@@ -110,7 +111,7 @@ module _ (m x y : List ℕ) (image-room : length m ≤ length x) (mark-room : pi
             let s = size-is in
             let i = p .inside in
             piece-fine (w .state) r (w .image) (w .marks) (p .form) open-now long-enough (p .kind) (omega arith) (p .on-grid)
-            (count-is ∙ ap (λ (n : ℕ). pieceAt n (numberIn r)) (sym s)) no-other
+            (count-is ∙ ap (λ (n : ℕ). pieceSizeAt n (numberIn r)) (sym s)) no-other
 
         accepts : answer w r .verdict ≡ Accepted
         accepts = sym (ap (λ (a : Stepped). a .verdict) (step-taken (w .state) r (w .image) (w .marks) taken (p .kind) .0))
@@ -136,7 +137,7 @@ module _ (m x y : List ℕ) (image-room : length m ≤ length x) (mark-room : pi
 
         agrees : heldWithOther r (w .image) (w .marks) ≡ false
         agrees =
-            ap (λ (t : Bool). both (held r (w .marks)) (not t)) (same-of (standing r (w .image)) (dataIn r) stands)
+            ap (λ (t : Bool). both (held r (w .marks)) (not t)) (equal-same (standing r (w .image)) (dataIn r) stands)
             ∙ both-none (held r (w .marks))
 
         stays : after w r ≡ w

@@ -7,11 +7,11 @@ use mathlib.Core.List.{List}
 use lib.Dec.{eqb}
 use lib.ListN.{length}
 use Rattle.eif.specs.Numbers.{pieceRecordWrong, pieceOutOfTurn}
-use Rattle.eif.specs.Logic.{both, choose}
+use Rattle.octets.specs.Logic.{both, choose}
 use Rattle.eif.specs.Roll.{recordHeadSize}
-use Rattle.assembler_rules.specs.Records.{pieceSize, numberSize, pieceKind, sizeIn}
-use Rattle.assembler_rules.specs.Rules.{isOpened}
-use Rattle.assembler_rules.specs.declared.State.{State}
+use Rattle.assembler.specs.Records.{pieceSize, numberSize, pieceKind, sizeIn}
+use Rattle.assembler.specs.Rules.{isOpened}
+use Rattle.assembler.specs.declared.State.{State}
 
 pub record LongRecord (r : List ℕ) : Type 0 where
   pub longer : recordHeadSize + numberSize + pieceSize < length r

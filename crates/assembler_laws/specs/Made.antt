@@ -3,7 +3,7 @@ use Prim.Native.Nat.{ℕ, zero, suc, _+_, _*_}
 use mathlib.Core.List.{List, [], _∷_, _++_}
 use lib.ListN.{length, take, drop}
 use Rattle.octets.specs.Bytes.{leBytes}
-use Rattle.assembler_rules.specs.Records.{pieceSize, numberSize, openKind, pieceKind, closeKind, piecesOf}
+use Rattle.assembler.specs.Records.{pieceSize, numberSize, openKind, pieceKind, closeKind, piecesOf}
 
 abbrev pub recordOf : ℕ → ℕ → List ℕ → List ℕ
 recordOf size kind rest = leBytes 8 size ++ (leBytes 2 kind ++ rest)

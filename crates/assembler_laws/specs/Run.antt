@@ -8,11 +8,11 @@ use mathlib.Core.Logic.{_⊎_}
 use lib.ListN.{length, take, drop, replicate}
 use Rattle.eif.specs.Numbers.{sizeLimit}
 use Rattle.eif.specs.declared.Verdict.the-variants.{Accepted}
-use Rattle.assembler_rules.specs.Records.{pieceSize, openKind, pieceKind, closeKind, kindIn, numberIn, dataIn, formed, piecesOf, pieceAt, placeIn}
-use Rattle.assembler_rules.specs.Rules.{isOpened}
-use Rattle.assembler_rules.specs.Step.{freshState, stepAnswer, imageAfter, marksAfter}
-use Rattle.assembler_rules.specs.declared.State.{State}
-use Rattle.assembler_rules.specs.declared.Stepped.{Stepped}
+use Rattle.assembler.specs.Records.{pieceSize, openKind, pieceKind, closeKind, kindIn, numberIn, dataIn, formed, piecesOf, pieceSizeAt, placeIn}
+use Rattle.assembler.specs.Rules.{isOpened}
+use Rattle.assembler.specs.Step.{freshState, stepAnswer, imageAfter, marksAfter}
+use Rattle.assembler.specs.declared.State.{State}
+use Rattle.assembler.specs.declared.Stepped.{Stepped}
 
 -- ---- calls in turn
 
@@ -25,7 +25,7 @@ pub record Memory : Type 0 where
 abbrev pub memory : State → List ℕ → List ℕ → Memory
 memory state image marks = record { state = state; image = image; marks = marks }
 
--- what the call with a record answers, and what it leaves: the contract of `assembler::step`
+-- what the call with a record answers, and what it leaves: the contract of `assembler_step::step`
 abbrev pub answer : Memory → List ℕ → Stepped
 answer w r = stepAnswer (w .state) r (w .image) (w .marks)
 
@@ -121,7 +121,7 @@ OtherMarks k (r ∷ rs) = OtherMark k r × OtherMarks k rs
 
 -- a record that is a piece of an image of m's length agrees with m
 pub record Agrees (m r : List ℕ) : Type 0 where
-  pub same-bytes : kindIn r ≡ pieceKind → numberIn r < length m → numberIn r % pieceSize ≡ 0 → length (dataIn r) ≡ pieceAt (length m) (numberIn r)
+  pub same-bytes : kindIn r ≡ pieceKind → numberIn r < length m → numberIn r % pieceSize ≡ 0 → length (dataIn r) ≡ pieceSizeAt (length m) (numberIn r)
       → dataIn r ≡ take pieceSize (drop (numberIn r) m)
 
 -- none of the calls closes the transfer

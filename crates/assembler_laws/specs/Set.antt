@@ -8,9 +8,9 @@ use mathlib.Core.Logic.{_⊎_}
 use lib.Dec.{eqb}
 use lib.ListN.{length}
 use Rattle.eif.specs.Numbers.{sizeLimit}
-use Rattle.eif.specs.Logic.{choose}
-use Rattle.assembler_rules.specs.Records.{pieceSize, openKind, pieceKind, kindIn, numberIn, dataIn, formed, piecesOf, pieceAt, placeIn}
-use Rattle.assembler_rules.specs.Rules.{isOpened}
+use Rattle.octets.specs.Logic.{choose}
+use Rattle.assembler.specs.Records.{pieceSize, openKind, pieceKind, kindIn, numberIn, dataIn, formed, piecesOf, pieceSizeAt, placeIn}
+use Rattle.assembler.specs.Rules.{isOpened}
 use Rattle.assembler_laws.specs.Run.{Memory, Close, Every, Sent}
 
 -- a piece of an image of n bytes
@@ -19,7 +19,7 @@ pub record PieceFor (n : ℕ) (r : List ℕ) : Type 0 where
   pub kind : kindIn r ≡ pieceKind
   pub inside : numberIn r < n
   pub on-grid : numberIn r % pieceSize ≡ 0
-  pub sized : length (dataIn r) ≡ pieceAt n (numberIn r)
+  pub sized : length (dataIn r) ≡ pieceSizeAt n (numberIn r)
 
 -- one of the records
 unfoldable pub In : List (List ℕ) → List ℕ → Type 0
@@ -33,14 +33,14 @@ pub record CompleteSet (n : ℕ) (ps : List (List ℕ)) : Type 0 where
   pub cover : (k : ℕ) → k < piecesOf n → Sent k ps
 
 -- the bytes of the first record that carries the piece of a place
-unfoldable pub bytesAt : List (List ℕ) → ℕ → List ℕ
-bytesAt [] k = []
-bytesAt (r ∷ rs) k = choose (eqb (placeIn r) k) (dataIn r) (bytesAt rs k)
+unfoldable pub bytesFor : List (List ℕ) → ℕ → List ℕ
+bytesFor [] k = []
+bytesFor (r ∷ rs) k = choose (eqb (placeIn r) k) (dataIn r) (bytesFor rs k)
 
 -- the pieces of count places from k on, joined
 unfoldable pub joinedFrom : List (List ℕ) → ℕ → ℕ → List ℕ
 joinedFrom ps zero k = []
-joinedFrom ps (suc count) k = bytesAt ps k ++ joinedFrom ps count (suc k)
+joinedFrom ps (suc count) k = bytesFor ps k ++ joinedFrom ps count (suc k)
 
 abbrev pub imageOf : ℕ → List (List ℕ) → List ℕ
 imageOf n ps = joinedFrom ps (piecesOf n) 0

@@ -29,7 +29,7 @@ fn build(image: &mut [u8], reserved: u32) {
     case_images::put_section(image, 1, 561, SectionType::COMMAND_LINE, 0, b"a");
     case_images::put_section(image, 2, 574, SectionType::RAMDISK, 0, b"abc");
     octets::put_be32(image, Header::RESERVED_AFTER_AT, reserved);
-    case_images::seal(image);
+    case_images::put_checksum(image);
 }
 
 fn accepted(image: &[u8]) -> bool {

@@ -5,7 +5,7 @@ use mathlib.Core.List.{List}
 use lib.ListN.{length}
 use Rattle.octets.specs.Bytes.{beBytes}
 use Rattle.octets.specs.Over.{over}
-use Rattle.eif.specs.Layout.{magicNumber, sectionHeaderSize, magicAt, versionAt, headerFlagsAt, countAt, offsetsAt, sizesAt, checksumAt}
+use Rattle.eif.specs.Layout.{magicNumber, sectionHeaderSize, sectionFlagsAt, sectionSizeAt, magicAt, versionAt, headerFlagsAt, countAt, offsetsAt, sizesAt, checksumAt}
 use Rattle.eif.specs.Reading.{checksumOf}
 
 abbrev pub withHeader : List ℕ → ℕ → ℕ → ℕ → List ℕ
@@ -16,12 +16,12 @@ abbrev pub withEntry : List ℕ → ℕ → ℕ → ℕ → List ℕ
 withEntry s i offset size = over (over s (offsetsAt + 8 * i) (beBytes 8 offset)) (sizesAt + 8 * i) (beBytes 8 size)
 
 abbrev pub withOwnHeader : List ℕ → ℕ → ℕ → ℕ → ℕ → List ℕ
-withOwnHeader s at kind flags size = over (over (over s at (beBytes 2 kind)) (at + 2) (beBytes 2 flags)) (at + 4) (beBytes 8 size)
+withOwnHeader s at kind flags size = over (over (over s at (beBytes 2 kind)) (at + sectionFlagsAt) (beBytes 2 flags)) (at + sectionSizeAt) (beBytes 8 size)
 
 abbrev pub withSection : List ℕ → ℕ → ℕ → ℕ → ℕ → List ℕ → List ℕ
 withSection s i at kind flags bytes =
     over (withOwnHeader (withEntry s i at (length bytes)) at kind flags (length bytes)) (at + sectionHeaderSize) bytes
 
 -- with the right checksum of the whole buffer
-abbrev pub resealed : List ℕ → List ℕ
-resealed s = over s checksumAt (beBytes 4 (checksumOf s))
+abbrev pub withOwnChecksum : List ℕ → List ℕ
+withOwnChecksum s = over s checksumAt (beBytes 4 (checksumOf s))

@@ -1,7 +1,7 @@
 // Images for the programs that run cases, damaged ones too: built in a lent buffer, field by field, and sealed with the right
 // checksum. Every function is total: what would lie past the buffer is left out.
 ghost use mathlib.Core.Path.{_≡_};
-ghost use Rattle.case_images.specs.Build.{withHeader, withEntry, withOwnHeader, withSection, resealed};
+ghost use Rattle.case_images.specs.Build.{withHeader, withEntry, withOwnHeader, withSection, withOwnChecksum};
 use eif::Header;
 use eif::SectionHeader;
 
@@ -45,8 +45,8 @@ pub fn put_section(image: &mut [u8], i: u8, at: u32, kind: u16, flags: u16, lent
 }
 
 // The right checksum of the whole buffer, in its place.
-pub fn seal(image: &mut [u8])
-    ensures { λ _. ⌜ now (image .exit) ≡ resealed (now (image .entry)) ⌝ }
+pub fn put_checksum(image: &mut [u8])
+    ensures { λ _. ⌜ now (image .exit) ≡ withOwnChecksum (now (image .entry)) ⌝ }
 {
     let sum = eif_checksum::checksum(image);
     octets::put_be32(image, Header::CHECKSUM_AT, sum);

@@ -5,7 +5,7 @@ use mathlib.Core.List.{List, [], _∷_, _++_}
 use lib.Dec.{ltb}
 use lib.ListN.{length}
 use Rattle.octets.specs.Bytes.{beBytes}
-use Rattle.eif.specs.Logic.{choose}
+use Rattle.octets.specs.Logic.{choose}
 
 -- ---- major types (RFC 8949, 3.1)
 
@@ -22,8 +22,8 @@ byteString = 2
 abbrev pub textString : ℕ
 textString = 3
 
-abbrev pub array : ℕ
-array = 4
+abbrev pub elements : ℕ
+elements = 4
 
 -- a map: the number in the head counts its pairs
 abbrev pub pairs : ℕ

@@ -9,7 +9,8 @@ use lib.Dec.{ltb, eqb}
 use lib.ListN.{length, getD, replicate, drop}
 use Rattle.octets.specs.Bytes.{field}
 use Rattle.eif.specs.Numbers.{notSign1}
-use Rattle.eif.specs.Logic.{choose, both}
+use Rattle.octets.specs.Logic.{choose, both}
+use Rattle.octets.specs.Same.{sameBytes}
 use Rattle.eif.specs.Answers.{refuse}
 use Rattle.eif.specs.declared.Verdict.the-variants.{Accepted}
 use Rattle.cose.specs.Sign1.{registerSize, es256, es384, es512, signatureSize, sign1Bytes}
@@ -85,11 +86,9 @@ signatureOf s = drop (signatureStart s) s
 
 -- ---- the answer
 
-unfoldable pub sameBytes : List ℕ → List ℕ → Bool
-sameBytes [] [] = true
-sameBytes [] (y ∷ ys) = false
-sameBytes (x ∷ xs) [] = false
-sameBytes (x ∷ xs) (y ∷ ys) = both (eqb x y) (sameBytes xs ys)
+-- the signature that a reading of a byte string points to
+abbrev pub signatureIn : List ℕ → Sign1Reading → List ℕ
+signatureIn s r = drop (r .position .0) s
 
 -- the signature has its algorithm's length and nothing stands after it; and all bytes are those of the claim
 unfoldable pub accepted : List ℕ → Bool

@@ -7,8 +7,8 @@ use mathlib.Core.Path.{_≡_}
 use lib.Dec.{ltb, eqb}
 use lib.ListN.{length}
 use Rattle.octets.specs.Bytes.{AreBytes}
-use Rattle.eif.specs.Logic.{choose, both}
-use Rattle.cose.specs.Cbor.{unsigned, negative, byteString, textString, array, pairs, headBytes, stringBytes, numbersBytes}
+use Rattle.octets.specs.Logic.{choose, both}
+use Rattle.cose.specs.Cbor.{unsigned, negative, byteString, textString, elements, pairs, headBytes, stringBytes, numbersBytes}
 use Rattle.cose.specs.declared.Claim.{Claim}
 
 -- the bytes of a register's value
@@ -57,7 +57,7 @@ indexPair index = stringBytes textString indexName ++ headBytes unsigned index
 
 -- the value is an array of 48 numbers
 unfoldable pub valuePair : List ℕ → List ℕ
-valuePair value = stringBytes textString valueName ++ (headBytes array registerSize ++ numbersBytes value)
+valuePair value = stringBytes textString valueName ++ (headBytes elements registerSize ++ numbersBytes value)
 
 -- the payload, a map of two pairs
 unfoldable pub payloadBytes : ℕ → List ℕ → List ℕ
@@ -66,7 +66,7 @@ payloadBytes index value = headBytes pairs 2 ++ (indexPair index ++ valuePair va
 -- an array of four: the protected header as a byte string, an empty map, the payload as a byte string, the signature as a byte string
 unfoldable pub sign1Bytes : Claim → List ℕ → List ℕ
 sign1Bytes c signature =
-    headBytes array 4
+    headBytes elements 4
     ++ (stringBytes byteString (protectedBytes (c .algorithm))
     ++ (headBytes pairs 0
     ++ (stringBytes byteString (payloadBytes (c .«register_index») (c .«register_value»))

@@ -9,30 +9,28 @@ use native.Mathlib.Omega.{arith}
 use native.Mathlib.Nat.{lt-of-lt-of-le}
 use borrow.Author.Tests.{eqb-true, ltb-false}
 use lib.Dec.{eqb, ltb}
-use lib.ListN.{length, getD, take, drop}
+use lib.ListN.{length, getD, take}
 use Rattle.octets.specs.Bytes.{AreBytes, field}
 use Rattle.octets.specs.Over.{over}
 use Rattle.octets.proofs.Value.{field-lt, bytes-drop, bytes-append}
 use Rattle.eif.specs.Numbers.{notSign1, outputTooShort}
-use Rattle.eif.specs.Logic.{choose}
+use Rattle.octets.specs.Logic.{choose}
 use Rattle.eif.specs.Answers.{refuse}
 use Rattle.eif.specs.Plan.{writtenFor}
 use Rattle.eif.specs.declared.Verdict.the-variants.{Accepted}
 use Rattle.eif.specs.declared.Written.{Written}
-use Rattle.eif_rules.proofs.Logic.{both-true}
-use Rattle.eif_rules.proofs.Verdicts.{never}
+use Rattle.eif_lemmas.proofs.Logic.{both-true}
+use Rattle.eif_lemmas.proofs.Verdicts.{never}
 use Rattle.cose.specs.Sign1.{registerSize, signatureSize, signatureFits, Writable, IsSign1, sign1Bytes}
 use Rattle.cose.specs.Write.{sign1Verdict, sign1Answer, sign1Output, IsWritten}
-use Rattle.cose.specs.Read.{numberAt, byteAt, byteEnd, bytesFrom, algorithmOf, indexStart, valueStart, signatureStart, claimOf, signatureOf, sameBytes, accepted, acceptedSign1, refusedSign1, readSign1}
+use Rattle.octets.specs.Same.{sameBytes}
+use Rattle.cose.specs.Read.{numberAt, byteAt, byteEnd, bytesFrom, algorithmOf, indexStart, valueStart, signatureStart, claimOf, signatureOf, accepted, acceptedSign1, refusedSign1, readSign1, signatureIn}
 use Rattle.cose.specs.declared.Claim.{Claim}
 use Rattle.cose.specs.declared.Sign1Reading.{Sign1Reading}
-use Rattle.cose_rules.proofs.Answers.{fine}
-use Rattle.cose_rules.proofs.Same.{same-equal, fits}
+use Rattle.cose_lemmas.proofs.Answers.{fine}
+use Rattle.eif_lemmas.proofs.Same.{same-equal}
+use Rattle.cose_lemmas.proofs.Same.{fits}
 use Rattle.cose_laws.proofs.RoundTrip.{reads-back, written-part, none-begins}
-
--- the signature that a reading of a byte string points to
-abbrev pub signatureIn : List ℕ → Sign1Reading → List ℕ
-signatureIn s r = drop (r .position .0) s
 
 -- ---- what is taken from a byte string can be written
 

@@ -5,7 +5,7 @@ use mathlib.Core.Bool.{Bool, true, false, not}
 use mathlib.Core.Path.{_≡_, refl}
 use mathlib.Core.List.{List}
 use Rattle.eif.specs.Numbers.{notSign1}
-use Rattle.eif.specs.Logic.{choose}
+use Rattle.octets.specs.Logic.{choose}
 use Rattle.eif.specs.Answers.{refuse}
 use Rattle.eif.specs.Order.{firstThatApplies}
 use Rattle.eif.specs.declared.Verdict.the-variants.{Accepted}

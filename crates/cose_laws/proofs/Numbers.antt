@@ -12,8 +12,8 @@ use Rattle.octets.proofs.Value.{field-at, field-past}
 use Rattle.octets.proofs.Over.{le-or-lt}
 use Rattle.cose.specs.Cbor.{unsigned, headBytes, numbersBytes}
 use Rattle.cose.specs.Read.{numberAt, numberEnd, byteAt, byteEnd, bytesFrom, bytesEnd}
-use Rattle.cose_rules.proofs.Head.{own-one, own-two, head-three, head-five, head-nine, size-one, size-two, size-three, size-five, size-nine}
-use Rattle.cose_rules.proofs.Numbers.{at-one, at-two, at-three, at-five, at-nine, end-one, end-two, end-three, end-five, end-nine, byte-one, byte-two, byte-end-one, byte-end-two}
+use Rattle.cose_lemmas.proofs.Head.{own-one, own-two, head-three, head-five, head-nine, size-one, size-two, size-three, size-five, size-nine}
+use Rattle.cose_lemmas.proofs.Numbers.{at-one, at-two, at-three, at-five, at-nine, end-one, end-two, end-three, end-five, end-nine, byte-one, byte-two, byte-end-one, byte-end-two}
 
 -- ---- one number
 

@@ -9,13 +9,13 @@ use borrow.Author.Tests.{ltb-true, eqb-true}
 use lib.Dec.{ltb, eqb}
 use lib.ListN.{length, drop, length-append}
 use lib.Seq.{drop-at}
-use Rattle.eif_rules.proofs.Logic.{both-true}
+use Rattle.eif_lemmas.proofs.Logic.{both-true}
 use Rattle.cose.specs.Cbor.{unsigned, byteString, headBytes, stringBytes, numbersBytes}
 use Rattle.cose.specs.Sign1.{registerSize, longest, signatureSize, signatureFits, Writable, payloadBytes, sign1Bytes}
 use Rattle.cose.specs.Read.{numberAt, numberEnd, bytesFrom, bytesEnd, algorithmOf, indexStart, valueStart, signatureStart, claimOf, signatureOf}
 use Rattle.cose.specs.declared.Claim.{Claim}
-use Rattle.cose_rules.proofs.Head.{head-two, numbers-bounds, size-one, size-two, size-three, size-five, size-nine}
-use Rattle.cose_rules.proofs.Parts.{which, size-bounds, opening, opening-first, opening-second, opening-last, beforeIndex, beforeValue, payload-parts, payload-size, sign-parts, sign-size}
+use Rattle.cose_lemmas.proofs.Head.{head-two, numbers-bounds, size-one, size-two, size-three, size-five, size-nine}
+use Rattle.cose_lemmas.proofs.Parts.{which, size-bounds, opening, opening-first, opening-second, opening-last, beforeIndex, beforeValue, payload-parts, payload-size, sign-parts, sign-size}
 use Rattle.cose_laws.proofs.Numbers.{Form, one, two, three, five, nine, form, number-back, number-ends, row-back}
 
 -- a head takes at most nine bytes

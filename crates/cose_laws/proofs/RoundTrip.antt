@@ -13,8 +13,9 @@ use Rattle.cose.specs.Sign1.{signatureSize, Writable, sign1Bytes}
 use Rattle.cose.specs.Write.{sign1Answer, sign1Output}
 use Rattle.cose.specs.Read.{algorithmOf, signatureStart, claimOf, signatureOf, acceptedSign1, readSign1}
 use Rattle.cose.specs.declared.Claim.{Claim}
-use Rattle.cose_rules.proofs.Answers.{fine}
-use Rattle.cose_rules.proofs.Same.{equal-same, read-same}
+use Rattle.cose_lemmas.proofs.Answers.{fine}
+use Rattle.eif_lemmas.proofs.Same.{equal-same}
+use Rattle.cose_lemmas.proofs.Same.{read-same}
 use Rattle.cose_laws.proofs.Places.{sized, whole, algorithm-same, claim-same, signature-same, end-same}
 
 -- ---- what is written reads back: the same claim, and its signature is the last bytes

@@ -12,7 +12,7 @@ ghost use Rattle.eif.specs.Plan.{writtenFor};
 ghost use Rattle.cose.specs.Cbor.{unsigned, byteString, headBytes, stringBytes, numbersBytes};
 ghost use Rattle.cose.specs.Sign1.{signatureSize, payloadBytes, sign1Bytes};
 ghost use Rattle.cose.specs.Write.{sign1Answer, sign1Output};
-ghost use Rattle.cose_rules.proofs.Parts.{opening};
+ghost use Rattle.cose_lemmas.proofs.Parts.{opening};
 use cose::Algorithm;
 use cose::Claim;
 use cose::REGISTER_SIZE;

@@ -1,4 +1,4 @@
--- Words folded: the window of 300 words, a word further, moved and emptied.
+-- Words and bytes folded: a window of those taken away last, one further, moved, and at the start.
 -- Assumes nothing.
 use Prim.Native.Nat.{ℕ, zero, suc, _+_, _-_, _*_, _%_, _^_, _<_, _≤_}
 use mathlib.Core.Path.{_≡_, refl, sym, ap, ap₂, _∙_}
@@ -6,93 +6,87 @@ use mathlib.Core.List.{List, [], _∷_}
 use native.Mathlib.Omega.{arith}
 use native.Mathlib.Nat.{add-comm, zero-add, add-zero, div-eq-of-lt, lt-of-lt-of-le}
 use borrow.Author.Count.{below-more}
-use lib.Dec.{lit<, lit≤}
-use lib.Pow.{pow-mono}
+use lib.Dec.{lit≤}
+use lib.Pow.{pow-mono, pow-pos}
 use lib.ListN.{length, getD, set, length-set, replicate, length-replicate}
 use lib.Seq.{getD-set-same, getD-set-other}
 use lib.Bits.{bitXor, xor-mod, xor-zero-r}
-use Rattle.crc32.specs.Fold.{shr, shl, mix, spread, taps, num, window, left, lowest, added, sparse, Words}
-use Rattle.crc32.proofs.Sparse.{mix-shr, mix-xor, mix-zero, words-spread}
+use Rattle.crc32.specs.Fold.{shr, shl, mix, spread, taps, num, numFrom, window, left, lowest, added, sparse, Words}
+use Rattle.crc32.proofs.Sparse.{Spreads, shr-add, mix-shr, mix-xor, bytes-spread}
 use Rattle.crc32.proofs.Left.{At, left-fold}
-use Rattle.crc32.proofs.Joined.{shl-zero, num-ext, num-zero, num-shr, num-low, num-top, num-drop}
+use Rattle.crc32.proofs.Joined.{shl-zero, shr-places, num-ext, num-zero, num-shr, num-low, num-top, num-drop}
 
-abbrev Within : List ℕ → Type 0
-Within [] = Unit
-Within (k ∷ ks) = (k ≤ 299) × Within ks
+abbrev Within : ℕ → List ℕ → Type 0
+Within n [] = Unit
+Within n (k ∷ ks) = (k ≤ n) × Within n ks
 
--- ---- the window a word further
-module _ (v : List ℕ) (j : ℕ) (h : (k : ℕ) → getD v k 0 < 2 ^ 64) where
-  lowest-of : (ks : List ℕ) → Within ks → taps (λ (k : ℕ). shr (64 * k)) ks (window v j) % 2 ^ 64 ≡ lowest ks v j
-  unfolding taps window
-  lowest-of [] w = num-low 299 (λ (k : ℕ). getD v (j + k) 0) (h (j + 0)) ∙ ap (λ (n : ℕ). getD v n 0) (add-zero j)
+-- g is f a word further, with u after it
+abbrev pub Pushed : ℕ → (ℕ → ℕ) → (ℕ → ℕ) → ℕ → ℕ → Type 0
+Pushed n f g j u = ((k : ℕ) → k < n → g (j + 1 + k) ≡ f (j + suc k)) × (g (j + 1 + n) ≡ u)
+
+-- ---- a window of n words of b bits and one more, from j on
+module _ (b n : ℕ) (f : ℕ → ℕ) (j : ℕ) (h : (k : ℕ) → f k < 2 ^ b) where
+  lowest-of : (ks : List ℕ) → Within n ks → taps (λ (k : ℕ). shr (b * k)) ks (numFrom b (suc n) f j) % 2 ^ b ≡ lowest ks f j
+  unfolding taps numFrom
+  lowest-of [] w = num-low b n (λ (k : ℕ). f (j + k)) (h (j + 0)) ∙ ap f (add-zero j)
   lowest-of (k ∷ ks) w =
-      let f : ℕ → ℕ = λ (i : ℕ). getD v (j + i) 0 in
-      let x : ℕ = num 300 f in
+      let g : ℕ → ℕ = λ (i : ℕ). f (j + i) in
+      let x : ℕ = num b (suc n) g in
       let l = w .0 in
-      let e : 300 ≡ k + suc (299 - k) = omega arith in
-      xor-mod (taps (λ (i : ℕ). shr (64 * i)) ks x) (shr (64 * k) x) 64
-      ∙ ap₂ bitXor (lowest-of ks (w .1)) (ap (λ (n : ℕ). shr (64 * k) (num n f) % 2 ^ 64) e ∙ num-drop k (299 - k) f (λ i. h (j + i)))
+      let e : suc n ≡ k + suc (n - k) = omega arith in
+      let d : shr (b * k) x ≡ num b (suc (n - k)) (λ (i : ℕ). g (k + i)) =
+      ap (λ (m : ℕ). shr (b * k) (num b m g)) e ∙ num-drop b k (suc (n - k)) g (λ i. h (j + i)) in
+      xor-mod (taps (λ (i : ℕ). shr (b * i)) ks x) (shr (b * k) x) b
+      ∙ ap₂ bitXor (lowest-of ks (w .1)) (ap (λ (y : ℕ). y % 2 ^ b) d ∙ num-low b (n - k) (λ (i : ℕ). g (k + i)) (h (j + (k + 0))) ∙ ap g (add-zero k))
 
-  pub added-low : mix 64 (window v j) % 2 ^ 64 ≡ added v j
+  mix-low : (ks : List ℕ) → Within n ks → mix ks b (numFrom b (suc n) f j) % 2 ^ b ≡ lowest ks f j
   unfolding mix
-  added-low = lowest-of sparse (lit≤ tt, (lit≤ tt, (lit≤ tt, tt)))
+  mix-low = lowest-of
 
-  window-push : (u : ℕ) → j + 300 < length v → window (set v (j + 300) u) (j + 1) ≡ bitXor (shr 64 (window v j)) (shl 19136 u)
-  unfolding window
-  window-push u l =
-      let v′ : List ℕ = set v (j + 300) u in
-      let f : ℕ → ℕ = λ (k : ℕ). getD v (j + k) 0 in
-      let g : ℕ → ℕ = λ (k : ℕ). getD v′ (j + 1 + k) 0 in
-      let e : j + 1 + 299 ≡ j + 300 = omega arith in
-      num-top 299 g
-      ∙ ap₂ (λ (x y : ℕ). bitXor x (shl 19136 y))
-      (num-ext 299 g (λ (k : ℕ). f (suc k)) (λ k m.
-      let o : j + 1 + k ≡ j + suc k = omega arith in
-      getD-set-other v (j + 300) (j + 1 + k) u 0 (λ q. omega arith) ∙ ap (λ (n : ℕ). getD v n 0) o)
-      ∙ sym (num-shr 299 f (h (j + 0))))
-      (ap (λ (n : ℕ). getD v′ n 0) e ∙ getD-set-same v (j + 300) u 0 l)
+  pushed : (g : ℕ → ℕ) (u : ℕ) → Pushed n f g j u → numFrom b (suc n) g (j + 1) ≡ bitXor (shr b (numFrom b (suc n) f j)) (shl (b * n) u)
+  unfolding numFrom
+  pushed g u p =
+      let f′ : ℕ → ℕ = λ (k : ℕ). f (j + k) in
+      let g′ : ℕ → ℕ = λ (k : ℕ). g (j + 1 + k) in
+      num-top b n g′
+      ∙ ap₂ (λ (x y : ℕ). bitXor x (shl (b * n) y)) (num-ext b n g′ (λ (k : ℕ). f′ (suc k)) (p .0) ∙ sym (num-shr b n f′ (h (j + 0)))) (p .1)
 
-  -- with nothing new
-  pub window-out : j + 300 < length v → shr 64 (mix 64 (window v j)) ≡ mix 64 (window (set v (j + 300) 0) (j + 1))
-  window-out l =
-      let x : ℕ = shr 64 (window v j) in
-      sym (mix-shr 64 (window v j)) ∙ ap (mix 64) (sym (window-push 0 l ∙ ap (bitXor x) (shl-zero 19136) ∙ xor-zero-r x))
-
-  -- with a word taken away
-  pub words-turn : (s : List ℕ) (i w : ℕ) → At s i 8 w → i + 2408 ≤ length s → j + 300 < length v
-      → left s i (mix 64 (window v j)) ≡ left s (i + 8) (mix 64 (window (set v (j + 300) (bitXor (added v j) w)) (j + 1)))
+-- with a word of b bytes taken away, by the powers ks of a multiple
+module _ (ks : List ℕ) (b n : ℕ) (q : Within n ks) (e : Spreads ks (8 * b) (8 * b) (8 * b * n)) (f : ℕ → ℕ) (j : ℕ) (h : (k : ℕ) → f k < 2 ^ (8 * b)) where
+  pub mix-turn : (s : List ℕ) (i w : ℕ) → At s i b w → 8 * b * n + 8 * b ≤ 8 * (length s - (i + b))
+      → (g : ℕ → ℕ) → Pushed n f g j (bitXor (lowest ks f j) w)
+      → left s i (mix ks (8 * b) (numFrom (8 * b) (suc n) f j)) ≡ left s (i + b) (mix ks (8 * b) (numFrom (8 * b) (suc n) g (j + 1)))
   unfolding spread
-  words-turn s i w a b l =
-      let x : ℕ = window v j in
+  mix-turn s i w a l g p =
+      let c : ℕ = 8 * b in
+      let x : ℕ = numFrom c (suc n) f j in
+      let u : ℕ = bitXor (lowest ks f j) w in
+      left-fold ks c b (c * n) e s i w (mix ks c x) a l
+      ∙ ap₂ (λ (y z : ℕ). left s (i + b) (bitXor y (mix ks c (shl (c * n) (bitXor z w))))) (sym (mix-shr ks c c x)) (mix-low c n f j h ks q)
+      ∙ ap (left s (i + b)) (sym (mix-xor ks c (shr c x) (shl (c * n) u)) ∙ ap (mix ks c) (sym (pushed c n f j h g u p)))
+
+-- ---- the window of 300 bytes in v
+abbrev bytes : List ℕ → ℕ → ℕ
+bytes v k = getD v k 0
+
+module _ (v : List ℕ) (j : ℕ) (h : (k : ℕ) → getD v k 0 < 2 ^ 8) (l : j + 300 < length v) where
+  window-push : (u : ℕ) → Pushed 299 (bytes v) (bytes (set v (j + 300) u)) j u
+  window-push u =
+      let e : j + 1 + 299 ≡ j + 300 = omega arith in (
+        (λ k m.
+            let o : j + 1 + k ≡ j + suc k = omega arith in
+            getD-set-other v (j + 300) (j + 1 + k) u 0 (λ q. omega arith) ∙ ap (bytes v) o),
+        ap (bytes (set v (j + 300) u)) e ∙ getD-set-same v (j + 300) u 0 l,
+      )
+
+  pub bytes-turn : (s : List ℕ) (i w : ℕ) → At s i 1 w → i + 301 ≤ length s
+      → left s i (mix sparse 8 (window v j)) ≡ left s (i + 1) (mix sparse 8 (window (set v (j + 300) (bitXor (added v j) w)) (j + 1)))
+  bytes-turn s i w a b =
       let u : ℕ = bitXor (added v j) w in
-      left-fold 64 19136 words-spread s i w (mix 64 x) a (omega arith)
-      ∙ ap₂ (λ (p q : ℕ). left s (i + 8) (bitXor p (mix 64 (shl 19136 (bitXor q w))))) (sym (mix-shr 64 x)) added-low
-      ∙ ap (left s (i + 8)) (sym (mix-xor 64 (shr 64 x) (shl 19136 u)) ∙ ap (mix 64) (sym (window-push u l)))
-
--- ---- the window empty
-abbrev noughts : ℕ → List ℕ
-noughts n = replicate n 0
-
-zeros : (n k : ℕ) → getD (noughts n) k 0 ≡ 0
-zeros zero k = refl
-zeros (suc n) zero = refl
-zeros (suc n) (suc k) = zeros n k
-
-pub window-empty : (v : List ℕ) (j : ℕ) → ((k : ℕ) → j ≤ k → k < j + 300 → getD v k 0 ≡ 0) → mix 64 (window v j) ≡ 0
-unfolding window
-window-empty v j z = ap (mix 64) (num-zero 300 (λ (k : ℕ). getD v (j + k) 0) (λ k m. z (j + k) (omega arith) (omega arith))) ∙ mix-zero 64
-
--- what is zero from b on stays so, and at p too
-pub emptied : (v : List ℕ) (b p : ℕ) → p < length v → ((k : ℕ) → b ≤ k → k < p → getD v k 0 ≡ 0)
-    → (k : ℕ) → b ≤ k → k < p + 1 → getD (set v p 0) k 0 ≡ 0
-emptied v b p l z k a m =
-    below-more (λ (i : ℕ). b ≤ i → getD (set v p 0) i 0 ≡ 0) p
-    (λ i n o. getD-set-other v p i 0 0 (λ e. omega arith) ∙ z i o n)
-    (λ o. getD-set-same v p 0 0 l)
-    k m a
+      mix-turn sparse 1 299 (lit≤ tt, (lit≤ tt, (lit≤ tt, tt))) bytes-spread (bytes v) j h s i w a (omega arith) (bytes (set v (j + 300) u)) (window-push u)
 
 -- ---- the window moved to the front
-module _ (v₀ v : List ℕ) (n j : ℕ) (h : Words v) (p : (k : ℕ) → k < j → getD v k 0 ≡ getD v₀ (n + k) 0) (q : (k : ℕ) → j ≤ k → getD v k 0 ≡ getD v₀ k 0) (l : j < 1324) where
+module _ (v₀ v : List ℕ) (n j : ℕ) (h : Words 8 1324 v) (p : (k : ℕ) → k < j → getD v k 0 ≡ getD v₀ (n + k) 0) (q : (k : ℕ) → j ≤ k → getD v k 0 ≡ getD v₀ k 0) (l : j < 1324) where
   pub moved : (k : ℕ) → k < j + 1 → getD (set v j (getD v (j + n) 0)) k 0 ≡ getD v₀ (n + k) 0
   moved =
       below-more (λ (k : ℕ). getD (set v j (getD v (j + n) 0)) k 0 ≡ getD v₀ (n + k) 0) j
@@ -103,46 +97,75 @@ module _ (v₀ v : List ℕ) (n j : ℕ) (h : Words v) (p : (k : ℕ) → k < j 
   stayed k m = getD-set-other v j k (getD v (j + n) 0) 0 (λ e. omega arith) ∙ q k (omega arith)
 
 pub window-moved : (v₀ v : List ℕ) (n : ℕ) → ((k : ℕ) → k < 300 → getD v k 0 ≡ getD v₀ (n + k) 0) → window v 0 ≡ window v₀ n
-unfolding window
+unfolding numFrom
 window-moved v₀ v n p =
-    num-ext 300 (λ (k : ℕ). getD v (0 + k) 0) (λ (k : ℕ). getD v₀ (n + k) 0) (λ k m. ap (λ (i : ℕ). getD v i 0) (zero-add k) ∙ p k m)
+    num-ext 8 300 (λ (k : ℕ). getD v (0 + k) 0) (λ (k : ℕ). getD v₀ (n + k) 0) (λ k m. ap (λ (i : ℕ). getD v i 0) (zero-add k) ∙ p k m)
 
 -- ---- the buffer
-set-lt : (v : List ℕ) (i u k : ℕ) → u < 2 ^ 64 → ((m : ℕ) → getD v m 0 < 2 ^ 64) → getD (set v i u) k 0 < 2 ^ 64
-set-lt [] i u k l h = lit< tt
-set-lt (x ∷ v) zero u zero l h = l
-set-lt (x ∷ v) zero u (suc k) l h = h (suc k)
-set-lt (x ∷ v) (suc i) u zero l h = h 0
-set-lt (x ∷ v) (suc i) u (suc k) l h = set-lt v i u k l (λ m. h (suc m))
+set-lt : (b : ℕ) (v : List ℕ) (i u k : ℕ) → u < 2 ^ b → ((m : ℕ) → getD v m 0 < 2 ^ b) → getD (set v i u) k 0 < 2 ^ b
+set-lt b [] i u k l h = pow-pos b
+set-lt b (x ∷ v) zero u zero l h = l
+set-lt b (x ∷ v) zero u (suc k) l h = h (suc k)
+set-lt b (x ∷ v) (suc i) u zero l h = h 0
+set-lt b (x ∷ v) (suc i) u (suc k) l h = set-lt b v i u k l (λ m. h (suc m))
 
-pub words-set : (v : List ℕ) (i u : ℕ) → u < 2 ^ 64 → Words v → Words (set v i u)
-words-set v i u l h = (length-set v i u ∙ h .0, λ k. set-lt v i u k l (h .1))
+pub words-set : (b n : ℕ) (v : List ℕ) (i u : ℕ) → u < 2 ^ b → Words b n v → Words b n (set v i u)
+words-set b n v i u l h = (length-set v i u ∙ h .0, λ k. set-lt b v i u k l (h .1))
 
-start-lt : (n x k : ℕ) → x < 2 ^ 64 → getD (x ∷ noughts n) k 0 < 2 ^ 64
-start-lt n x zero l = l
-start-lt n x (suc k) l = rw (zeros n k) (lit< tt)
+-- ---- nothing but a first number
+abbrev pub noughts : ℕ → List ℕ
+noughts n = replicate n 0
 
-pub start-words : (x : ℕ) → x < 2 ^ 64 → Words (x ∷ replicate 1323 0)
-start-words x l = (ap suc (length-replicate {A = ℕ} 1323 0), λ k. start-lt 1323 x k l)
+pub zeros : (n k : ℕ) → getD (noughts n) k 0 ≡ 0
+zeros zero k = refl
+zeros (suc n) zero = refl
+zeros (suc n) (suc k) = zeros n k
 
-shr-small : (k x : ℕ) → 64 ≤ k → x < 2 ^ 64 → shr k x ≡ 0
-unfolding shr
-shr-small k x h l = div-eq-of-lt (lt-of-lt-of-le l (pow-mono {i = 64} {j = k} h))
+cons-lt : (b x : ℕ) (v : List ℕ) (k : ℕ) → x < 2 ^ b → ((m : ℕ) → getD v m 0 < 2 ^ b) → getD (x ∷ v) k 0 < 2 ^ b
+cons-lt b x v zero l h = l
+cons-lt b x v (suc k) l h = h k
 
-abbrev Positive : List ℕ → Type 0
-Positive [] = Unit
-Positive (k ∷ ks) = (0 < k) × Positive ks
+pub words-cons : (b n x : ℕ) (v : List ℕ) → x < 2 ^ b → Words b n v → Words b (suc n) (x ∷ v)
+words-cons b n x v l h = (ap suc (h .0), λ k. cons-lt b x v k l (h .1))
 
-taps-small : (ks : List ℕ) (x : ℕ) → Positive ks → x < 2 ^ 64 → taps (λ (k : ℕ). shr (64 * k)) ks x ≡ x
+pub words-none : (b n : ℕ) → Words b n (replicate n 0)
+words-none b n = (length-replicate {A = ℕ} n 0, λ k. rw (zeros n k) (pow-pos b))
+
+-- what c bits add, where no place is within them, is themselves
+abbrev Past : ℕ → ℕ → List ℕ → Type 0
+Past c m [] = Unit
+Past c m (k ∷ ks) = (c ≤ m * k) × Past c m ks
+
+module _ (c m x : ℕ) (l : x < 2 ^ c) where
+  shr-small : (k : ℕ) → c ≤ k → shr k x ≡ 0
+  unfolding shr
+  shr-small k h = div-eq-of-lt (lt-of-lt-of-le l (pow-mono {i = c} {j = k} h))
+
+  pub mix-small : (ks : List ℕ) → Past c m ks → mix ks m x ≡ x
+  unfolding mix taps
+  mix-small [] p = refl
+  mix-small (k ∷ ks) p = ap₂ bitXor (mix-small ks (p .1)) (shr-small (m * k) (p .0)) ∙ xor-zero-r x
+
+pub start-mix : (ks : List ℕ) (b n : ℕ) (f : ℕ → ℕ) → Past b b ks → f 0 < 2 ^ b → ((k : ℕ) → k < n → f (suc k) ≡ 0) → mix ks b (numFrom b (suc n) f 0) ≡ f 0
+unfolding numFrom num
+start-mix ks b n f p l z =
+    ap (mix ks b)
+    (num-ext b (suc n) (λ (k : ℕ). f (0 + k)) f (λ k m. ap f (zero-add k))
+    ∙ ap (λ (y : ℕ). bitXor (f 0) (shl b y)) (num-zero b n (λ (k : ℕ). f (suc k)) z) ∙ ap (bitXor (f 0)) (shl-zero b) ∙ xor-zero-r (f 0))
+    ∙ mix-small b b (f 0) l ks p
+
+-- ---- what a number adds, from j on
+taps-low : (m b j x : ℕ) (ks : List ℕ) → shr (m * j) (taps (λ (k : ℕ). shr (m * k)) ks x) % 2 ^ b ≡ lowest ks (λ (i : ℕ). shr (m * i) x % 2 ^ b) j
 unfolding taps
-taps-small [] x p l = refl
-taps-small (k ∷ ks) x p l =
-    let h = p .0 in
-    ap₂ bitXor (taps-small ks x (p .1) l) (shr-small (64 * k) x (omega arith) l) ∙ xor-zero-r x
+taps-low m b j x [] = refl
+taps-low m b j x (k ∷ ks) =
+    let y : ℕ = taps (λ (i : ℕ). shr (m * i)) ks x in
+    ap (λ (z : ℕ). z % 2 ^ b) (shr-add (m * j) y (shr (m * k) x)) ∙ xor-mod (shr (m * j) y) (shr (m * j) (shr (m * k) x)) b
+    ∙ ap₂ bitXor (taps-low m b j x ks) (ap (λ (z : ℕ). z % 2 ^ b) (shr-places m j k x))
 
-pub start-mix : (x : ℕ) → x < 2 ^ 64 → mix 64 (window (x ∷ replicate 1323 0) 0) ≡ x
-unfolding mix window num shl
-start-mix x l =
-    let f : ℕ → ℕ = λ (k : ℕ). getD (noughts 1323) (0 + k) 0 in
-    ap (mix 64) (ap (λ (y : ℕ). bitXor x (y * 2 ^ 64)) (num-zero 299 f (λ k m. zeros 1323 (0 + k))) ∙ xor-zero-r x)
-    ∙ taps-small sparse x (lit< tt, (lit< tt, (lit< tt, tt))) l
+pub mix-from : (ks : List ℕ) (m b x j : ℕ) → shr (m * j) (mix ks m x) % 2 ^ b ≡ lowest ks (λ (i : ℕ). shr (m * i) x % 2 ^ b) j
+unfolding mix
+mix-from ks m b x j = taps-low m b j x ks
+
+pub shr-on : (m k x j : ℕ) → shr (m * k) (shr (m * j) x) ≡ shr (m * (j + k)) x
+shr-on m k x j = shr-places m k j x ∙ ap (λ (n : ℕ). shr (m * n) x) (add-comm k j)

@@ -62,28 +62,30 @@ same-after k n x a b t e =
     apart : (y : ℕ) → shiftBits k (bitXor (bitXor x y) t) ≡ bitXor (bitXor (shiftBits k x) (shiftBits k y)) (shiftBits k t)
     apart y = shiftBits-linear k (bitXor x y) t ∙ ap (λ (z : ℕ). bitXor z (shiftBits k t)) (shiftBits-linear k x y)
 
--- a word taken away
-module _ (m e : ℕ) (g : Spreads m e) (s : List ℕ) where
-  left-swap : (i x u : ℕ) → e + 64 ≤ 8 * (length s - i) → u < 2 ^ 64 → left s i (bitXor x (shiftBits 64 u)) ≡ left s i (bitXor x (spread m e u))
+-- a word of b bytes taken away
+module _ (ks : List ℕ) (m b e : ℕ) (g : Spreads ks m (8 * b) e) (s : List ℕ) where
+  left-swap : (i x u : ℕ) → e + 8 * b ≤ 8 * (length s - i) → u < 2 ^ (8 * b)
+      → left s i (bitXor x (shiftBits (8 * b) u)) ≡ left s i (bitXor x (spread ks m e u))
   unfolding left
   left-swap i x u h l =
-      let n : ℕ = 8 * (length s - i) - (e + 64) in
-      let q : 8 * (length s - i) ≡ (e + 64) + n = omega arith in
+      let n : ℕ = 8 * (length s - i) - (e + 8 * b) in
+      let q : 8 * (length s - i) ≡ (e + 8 * b) + n = omega arith in
       let t : ℕ = leValue (drop i s) in
-      ap (λ (k : ℕ). shiftBits k (bitXor (bitXor x (shiftBits 64 u)) t)) q
-      ∙ same-after (e + 64) n x (shiftBits 64 u) (spread m e u) t (spread-steps m e g u l)
-      ∙ sym (ap (λ (k : ℕ). shiftBits k (bitXor (bitXor x (spread m e u)) t)) q)
+      ap (λ (k : ℕ). shiftBits k (bitXor (bitXor x (shiftBits (8 * b) u)) t)) q
+      ∙ same-after (e + 8 * b) n x (shiftBits (8 * b) u) (spread ks m e u) t (spread-steps ks m (8 * b) e g u l)
+      ∙ sym (ap (λ (k : ℕ). shiftBits k (bitXor (bitXor x (spread ks m e u)) t)) q)
 
-  pub left-fold : (i w x : ℕ) → At s i 8 w → e + 64 ≤ 8 * (length s - (i + 8))
-      → left s i x ≡ left s (i + 8) (bitXor (shr 64 x) (spread m e (bitXor (x % 2 ^ 64) w)))
+  pub left-fold : (i w x : ℕ) → At s i b w → e + 8 * b ≤ 8 * (length s - (i + b))
+      → left s i x ≡ left s (i + b) (bitXor (shr (8 * b) x) (spread ks m e (bitXor (x % 2 ^ (8 * b)) w)))
   unfolding shr
   left-fold i w x h n =
-      let u : ℕ = bitXor (x % 2 ^ 64) w in
-      let hi : bitXor x w / 2 ^ 64 ≡ x / 2 ^ 64 = xor-shr x w 64 ∙ ap (bitXor (x / 2 ^ 64)) (div-eq-of-lt (h .1)) ∙ xor-zero-r (x / 2 ^ 64) in
-      let lo : bitXor x w % 2 ^ 64 ≡ u = xor-mod x w 64 ∙ ap (bitXor (x % 2 ^ 64)) (mod-eq-of-lt (h .1)) in
-      left-next s i 8 w x h
-      ∙ ap (left s (i + 8)) (shiftBits-split 64 (bitXor x w) ∙ ap₂ (λ (a b : ℕ). bitXor a (shiftBits 64 b)) hi lo)
-      ∙ left-swap (i + 8) (x / 2 ^ 64) u n (xor-lt 64 (x % 2 ^ 64) w (mod-lt x (pow-pos 64)) (h .1))
+      let c : ℕ = 8 * b in
+      let u : ℕ = bitXor (x % 2 ^ c) w in
+      let hi : bitXor x w / 2 ^ c ≡ x / 2 ^ c = xor-shr x w c ∙ ap (bitXor (x / 2 ^ c)) (div-eq-of-lt (h .1)) ∙ xor-zero-r (x / 2 ^ c) in
+      let lo : bitXor x w % 2 ^ c ≡ u = xor-mod x w c ∙ ap (bitXor (x % 2 ^ c)) (mod-eq-of-lt (h .1)) in
+      left-next s i b w x h
+      ∙ ap (left s (i + b)) (shiftBits-split c (bitXor x w) ∙ ap₂ (λ (y z : ℕ). bitXor y (shiftBits c z)) hi lo)
+      ∙ left-swap (i + b) (x / 2 ^ c) u n (xor-lt c (x % 2 ^ c) w (mod-lt x (pow-pos c)) (h .1))
 
 -- ---- bytes
 bytes-of : (s : List ℕ) → ((k : ℕ) → getD s k 0 < 256) → AreBytes s

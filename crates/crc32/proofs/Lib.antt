@@ -8,4 +8,6 @@ pub mod Left
 pub mod Joined
 pub mod FoldBits
 pub mod FoldWords
+pub mod FoldBytes
+pub mod FoldRing
 pub mod Burst

@@ -1,5 +1,5 @@
 -- A word taken away, and added to what comes after it at the places that a sparse multiple of the polynomial names, leaves the remainder.
--- The multiple is computed for bits; squaring it gives it for words.
+-- A multiple is computed for bits; squaring it gives it for bytes and words.
 -- Assumes nothing.
 use Prim.Native.Nat.{ℕ, zero, suc, _+_, _-_, _*_, _/_, _%_, _^_, _<_, _≤_}
 use mathlib.Core.Path.{_≡_, refl, sym, ap, ap₂, _∙_}
@@ -11,7 +11,7 @@ use lib.Dec.{lit≤}
 use lib.Pow.{shl-shr, shr-shr, pow-add}
 use lib.Bits.{bitXor, xor-shr, xor-self, xor-zero-l}
 use Rattle.crc32.specs.Crc.{poly, shiftBit, shiftBits}
-use Rattle.crc32.specs.Fold.{shr, shl, taps, mix, spread, sparse}
+use Rattle.crc32.specs.Fold.{shr, shl, taps, mix, spread, sparse, sparser}
 use Rattle.crc32.proofs.Xor.{xor-assoc, xor-swap, bit-lt, too-big}
 use Rattle.crc32.proofs.Linear.{shiftBits-linear, shiftBits-high, shiftBits-add}
 
@@ -51,13 +51,17 @@ places m k = shiftBits (m * k)
 lin-places : (n m : ℕ) (ks : List ℕ) → Lin (shiftBits n) (taps (places m) ks)
 lin-places n m ks = lin-taps (shiftBits n) (shiftBits-linear n) (places m) (λ k. lin-shift n (m * k)) ks
 
--- at places of m bits, the polynomial divides the sparse multiple
-abbrev pub Multiple : ℕ → Type 0
-Multiple m = shiftBits (m * 300) poly ≡ taps (places m) sparse poly
+-- at places of m bits, the polynomial divides the multiple of degree d with the powers ks
+abbrev Multiple : List ℕ → ℕ → ℕ → Type 0
+Multiple ks d m = shiftBits (m * d) poly ≡ taps (places m) ks poly
 
-pub bits-multiple : Multiple 1
+sparse-multiple : Multiple sparse 300 1
 unfolding taps shiftBits shiftBit
-bits-multiple = refl
+sparse-multiple = refl
+
+sparser-multiple : Multiple sparser 3006 1
+unfolding taps shiftBits shiftBit
+sparser-multiple = refl
 
 twice : (m k x : ℕ) → shiftBits (m * k) (shiftBits (m * k) x) ≡ shiftBits ((m + m) * k) x
 twice m k x = let e : m * k + m * k ≡ (m + m) * k = omega arith in shiftBits-add (m * k) (m * k) x ∙ ap (λ (n : ℕ). shiftBits n x) e
@@ -78,13 +82,13 @@ square m (k ∷ ks) x =
     ∙ cancel (f (f x)) (shiftBits (m * k) (f x)) (shiftBits (m * k) (shiftBits (m * k) x))
     ∙ ap₂ bitXor (square m ks x) (twice m k x)
 
-double : (m : ℕ) → Multiple m → Multiple (m + m)
-double m e =
-    let p = lin-places (m * 300) m sparse in
-    sym (twice m 300 poly) ∙ ap (shiftBits (m * 300)) e ∙ sym (p .1 poly) ∙ ap (taps (places m) sparse) e ∙ square m sparse poly
+double : (ks : List ℕ) (d m : ℕ) → Multiple ks d m → Multiple ks d (m + m)
+double ks d m e =
+    let p = lin-places (m * d) m ks in
+    sym (twice m d poly) ∙ ap (shiftBits (m * d)) e ∙ sym (p .1 poly) ∙ ap (taps (places m) ks) e ∙ square m ks poly
 
-pub words-multiple : Multiple 64
-words-multiple = double 32 (double 16 (double 8 (double 4 (double 2 (double 1 bits-multiple)))))
+to-8 : (ks : List ℕ) (d : ℕ) → Multiple ks d 1 → Multiple ks d 8
+to-8 ks d e = double ks d 4 (double ks d 2 (double ks d 1 e))
 
 -- two such maps that agree at the polynomial agree at whatever m steps make of m bits
 module _ (f h : ℕ → ℕ) (lf : (m : ℕ) → Lin (shiftBits m) f) (lh : (m : ℕ) → Lin (shiftBits m) h) (e : f poly ≡ h poly) where
@@ -112,18 +116,18 @@ shr-comm : (j k x : ℕ) → shr j (shr k x) ≡ shr k (shr j x)
 unfolding shr
 shr-comm j k x = shr-shr x k j ∙ ap (λ (n : ℕ). x / 2 ^ n) (add-comm k j) ∙ sym (shr-shr x j k)
 
-lin-mix : (m : ℕ) → Lin (shr 64) (mix m)
+lin-mix : (ks : List ℕ) (m b : ℕ) → Lin (shr b) (mix ks m)
 unfolding mix
-lin-mix m = lin-taps (shr 64) (shr-add 64) (λ (k : ℕ). shr (m * k)) (λ k. (shr-add (m * k), shr-comm (m * k) 64)) sparse
+lin-mix ks m b = lin-taps (shr b) (shr-add b) (λ (k : ℕ). shr (m * k)) (λ k. (shr-add (m * k), shr-comm (m * k) b)) ks
 
-pub mix-shr : (m x : ℕ) → mix m (shr 64 x) ≡ shr 64 (mix m x)
-mix-shr m = lin-mix m .1
+pub mix-shr : (ks : List ℕ) (m b x : ℕ) → mix ks m (shr b x) ≡ shr b (mix ks m x)
+mix-shr ks m b = lin-mix ks m b .1
 
-pub mix-xor : (m : ℕ) → Add (mix m)
-mix-xor m = lin-mix m .0
+pub mix-xor : (ks : List ℕ) (m : ℕ) → Add (mix ks m)
+mix-xor ks m = lin-mix ks m 0 .0
 
-pub mix-zero : (m : ℕ) → mix m 0 ≡ 0
-mix-zero m = zero-of (mix m) (mix-xor m)
+pub mix-zero : (ks : List ℕ) (m : ℕ) → mix ks m 0 ≡ 0
+mix-zero ks m = zero-of (mix ks m) (mix-xor ks m)
 
 pub shr-shl : (j k u : ℕ) → shr j (shl (k + j) u) ≡ shl k u
 unfolding shr shl
@@ -133,40 +137,42 @@ come-down : (j k u : ℕ) → shiftBits (j + k) (shl j u) ≡ shiftBits k u
 unfolding shl
 come-down j k u = sym (shiftBits-add j k (u * 2 ^ j)) ∙ ap (shiftBits k) (shiftBits-high j u)
 
--- ---- a word with e bits after it, and places of m bits
+-- ---- a word of b bits with e bits after it, and places of m bits
 abbrev Below : ℕ → ℕ → List ℕ → Type 0
 Below m e [] = Unit
 Below m e (k ∷ ks) = (m * k ≤ e) × Below m e ks
 
-module _ (m e u : ℕ) where
-  top : (ks : List ℕ) → Below m e ks → shiftBits (e + 64) (taps (λ (k : ℕ). shr (m * k)) ks (shl e u)) ≡ taps (places m) ks (shiftBits 64 u)
+module _ (m b e u : ℕ) where
+  top : (ks : List ℕ) → Below m e ks → shiftBits (e + b) (taps (λ (k : ℕ). shr (m * k)) ks (shl e u)) ≡ taps (places m) ks (shiftBits b u)
   unfolding taps
-  top [] w = come-down e 64 u
+  top [] w = come-down e b u
   top (k ∷ ks) w =
       let l = w .0 in
       let j : ℕ = e - m * k in
-      let a : e ≡ j + m * k = omega arith in
-      let b : e + 64 ≡ j + (64 + m * k) = omega arith in
-      shiftBits-linear (e + 64) (taps (λ (i : ℕ). shr (m * i)) ks (shl e u)) (shr (m * k) (shl e u))
+      let p : e ≡ j + m * k = omega arith in
+      let q : e + b ≡ j + (b + m * k) = omega arith in
+      shiftBits-linear (e + b) (taps (λ (i : ℕ). shr (m * i)) ks (shl e u)) (shr (m * k) (shl e u))
       ∙ ap₂ bitXor (top ks (w .1))
-      (ap₂ (λ (n i : ℕ). shiftBits n (shr (m * k) (shl i u))) b a
-      ∙ ap (shiftBits (j + (64 + m * k))) (shr-shl (m * k) j u)
-      ∙ come-down j (64 + m * k) u
-      ∙ sym (shiftBits-add 64 (m * k) u))
+      (ap₂ (λ (n i : ℕ). shiftBits n (shr (m * k) (shl i u))) q p
+      ∙ ap (shiftBits (j + (b + m * k))) (shr-shl (m * k) j u)
+      ∙ come-down j (b + m * k) u
+      ∙ sym (shiftBits-add b (m * k) u))
 
 -- the places fit, and the polynomial divides
-abbrev pub Spreads : ℕ → ℕ → Type 0
-Spreads m e = (m * 300 ≡ e + 64) × Below m e sparse × Multiple m
+abbrev pub Spreads : List ℕ → ℕ → ℕ → ℕ → Type 0
+Spreads ks m b e = Below m e ks × (shiftBits (e + b) poly ≡ taps (places m) ks poly)
 
-pub bits-spread : Spreads 1 236
-bits-spread = (refl, (lit≤ tt, (lit≤ tt, (lit≤ tt, tt))), bits-multiple)
+pub bits-spread : Spreads sparse 1 64 236
+bits-spread = ((lit≤ tt, (lit≤ tt, (lit≤ tt, tt))), sparse-multiple)
 
-pub words-spread : Spreads 64 19136
-words-spread = (refl, (lit≤ tt, (lit≤ tt, (lit≤ tt, tt))), words-multiple)
+pub bytes-spread : Spreads sparse 8 8 2392
+bytes-spread = ((lit≤ tt, (lit≤ tt, (lit≤ tt, tt))), to-8 sparse 300 sparse-multiple)
 
-pub spread-steps : (m e : ℕ) → Spreads m e → (u : ℕ) → u < 2 ^ 64 → shiftBits (e + 64) (shiftBits 64 u) ≡ shiftBits (e + 64) (spread m e u)
+pub ring-spread : Spreads sparser 32 32 96160
+ring-spread = ((lit≤ tt, (lit≤ tt, tt)), double sparser 3006 16 (double sparser 3006 8 (to-8 sparser 3006 sparser-multiple)))
+
+pub spread-steps : (ks : List ℕ) (m b e : ℕ) → Spreads ks m b e → (u : ℕ) → u < 2 ^ b → shiftBits (e + b) (shiftBits b u) ≡ shiftBits (e + b) (spread ks m e u)
 unfolding spread mix
-spread-steps m e h u l =
-    ap (λ (n : ℕ). shiftBits n (shiftBits 64 u)) (sym (h .0))
-    ∙ agree (shiftBits (m * 300)) (taps (places m) sparse) (λ n. lin-shift n (m * 300)) (λ n. lin-places n m sparse) (h .2) 64 u l
-    ∙ sym (top m e u sparse (h .1))
+spread-steps ks m b e h u l =
+    agree (shiftBits (e + b)) (taps (places m) ks) (λ n. lin-shift n (e + b)) (λ n. lin-places n m ks) (h .1) b u l
+    ∙ sym (top m b e u ks (h .0))

@@ -1,4 +1,4 @@
--- 32 bit steps at once, without a table: both sides keep exclusive or, and agree at each power of two, which is computed.
+-- 64 bit steps at once, without a table: both sides keep exclusive or, and agree at each power of two, which is computed.
 -- Assumes nothing.
 use Prim.Native.Nat.{ℕ, zero, suc, _+_, _*_, _/_, _%_, _^_, _<_}
 use mathlib.Core.Path.{_≡_, refl, sym, ap, ap₂, _∙_}
@@ -23,7 +23,7 @@ shl-add k a b =
 
 up-add : (k : ℕ) → Add (up k)
 unfolding up shl
-up-add k a b = ap (λ (x : ℕ). x % 2 ^ 32) (shl-add k a b) ∙ xor-mod (a * 2 ^ k) (b * 2 ^ k) 32
+up-add k a b = ap (λ (x : ℕ). x % 2 ^ 64) (shl-add k a b) ∙ xor-mod (a * 2 ^ k) (b * 2 ^ k) 64
 
 -- ---- maps that agree at the powers of two agree
 module _ (f g : ℕ → ℕ) (af : Add f) (ag : Add g) where
@@ -44,29 +44,31 @@ module _ (f g : ℕ → ℕ) (af : Add f) (ag : Add g) where
       ∙ ap₂ bitXor (at-bit n hi b (h n (omega arith))) (same-at-powers n (λ i m. h i (omega arith)) lo (mod-lt x (pow-pos n)))
       ∙ sym (ap g (sym s) ∙ ag (hi * 2 ^ n) lo)
 
--- ---- 32 steps
+-- ---- 64 steps
 abbrev down : ℕ → ℕ
-down x = taps shr powers (taps up inverse x)
+down x = taps shr powers (shr 32 (taps up inverse x))
 
 down-add : Add down
 down-add a b =
-    ap (taps shr powers) (add-taps up up-add inverse a b) ∙ add-taps shr shr-add powers (taps up inverse a) (taps up inverse b)
+    ap (λ (y : ℕ). taps shr powers (shr 32 y)) (add-taps up up-add inverse a b)
+    ∙ ap (taps shr powers) (shr-add 32 (taps up inverse a) (taps up inverse b))
+    ∙ add-taps shr shr-add powers (shr 32 (taps up inverse a)) (shr 32 (taps up inverse b))
 
 abbrev atPowers : (ℕ → ℕ) → List ℕ
-atPowers f = tabulate (λ (i : ℕ). f (2 ^ i)) 32 0
+atPowers f = tabulate (λ (i : ℕ). f (2 ^ i)) 64 0
 
-computed : atPowers down ≡ atPowers (shiftBits 32)
+computed : atPowers down ≡ atPowers (shiftBits 64)
 unfolding taps shr up shiftBits shiftBit
 computed = refl
 
-pub steps-32 : (x : ℕ) → x < 2 ^ 32 → taps shr powers (taps up inverse x) ≡ shiftBits 32 x
-steps-32 =
-    same-at-powers down (shiftBits 32) down-add (shiftBits-linear 32) 32
-    (λ i h. sym (tabulated (λ (j : ℕ). down (2 ^ j)) 32 i h) ∙ ap (λ (l : List ℕ). getD l i 0) computed ∙ tabulated (λ (j : ℕ). shiftBits 32 (2 ^ j)) 32 i h)
+pub steps-64 : (x : ℕ) → x < 2 ^ 64 → taps shr powers (shr 32 (taps up inverse x)) ≡ shiftBits 64 x
+steps-64 =
+    same-at-powers down (shiftBits 64) down-add (shiftBits-linear 64) 64
+    (λ i h. sym (tabulated (λ (j : ℕ). down (2 ^ j)) 64 i h) ∙ ap (λ (l : List ℕ). getD l i 0) computed ∙ tabulated (λ (j : ℕ). shiftBits 64 (2 ^ j)) 64 i h)
 
--- ---- 64 steps and 8 steps by 32
-pub steps-64 : (x : ℕ) → shiftBits 32 (bitXor (x / 2 ^ 32) (shiftBits 32 (x % 2 ^ 32))) ≡ shiftBits 64 x
-steps-64 x = ap (shiftBits 32) (sym (shiftBits-split 32 x)) ∙ shiftBits-add 32 32 x
+-- ---- 32 steps and 8 steps by 64
+pub steps-32 : (x : ℕ) → shiftBits 64 (x * 2 ^ 32) ≡ shiftBits 32 x
+steps-32 x = sym (shiftBits-add 32 32 (x * 2 ^ 32)) ∙ ap (shiftBits 32) (shiftBits-high 32 x)
 
 pub steps-8 : (x : ℕ) → bitXor (x / 2 ^ 8) (shiftBits 32 (x * 2 ^ 24 % 2 ^ 32)) ≡ shiftBits 8 x
 steps-8 x =

@@ -15,7 +15,7 @@ unfoldable pub taps : (ℕ → ℕ → ℕ) → List ℕ → ℕ → ℕ
 taps f [] x = x
 taps f (k ∷ ks) x = bitXor (taps f ks x) (f k x)
 
--- k places down and up; and up within 32 bits
+-- k places down and up; and up within 64 bits
 unfoldable pub shr : ℕ → ℕ → ℕ
 shr k x = x / 2 ^ k
 
@@ -23,47 +23,57 @@ unfoldable pub shl : ℕ → ℕ → ℕ
 shl k x = x * 2 ^ k
 
 unfoldable pub up : ℕ → ℕ → ℕ
-up k x = x * 2 ^ k % 2 ^ 32
+up k x = x * 2 ^ k % 2 ^ 64
 
--- the powers in the inverse of 1 + 2 * poly modulo x^32, and those in the polynomial, each but 0
+-- the powers in the inverse of 1 + 2 * poly modulo x^64, and those in the polynomial, each but 0
 abbrev pub inverse : List ℕ
-inverse = 31 ∷ 30 ∷ 29 ∷ 28 ∷ 26 ∷ 25 ∷ 24 ∷ 16 ∷ 12 ∷ 10 ∷ 9 ∷ 6 ∷ []
+inverse =
+    63 ∷ 61 ∷ 60 ∷ 58 ∷ 55 ∷ 54 ∷ 53 ∷ 50 ∷ 48 ∷ 47 ∷ 45 ∷ 44 ∷ 37 ∷ 34 ∷ 32 ∷ 31 ∷ 30 ∷ 29 ∷ 28 ∷ 26 ∷ 25 ∷ 24 ∷ 16 ∷ 12 ∷ 10 ∷ 9 ∷ 6 ∷ []
 
 abbrev pub powers : List ℕ
 powers = 26 ∷ 23 ∷ 22 ∷ 16 ∷ 12 ∷ 11 ∷ 10 ∷ 8 ∷ 7 ∷ 5 ∷ 4 ∷ 2 ∷ 1 ∷ []
 
--- the sparse multiple of the polynomial, x^300 + x^155 + x^117 + x^89 + 1: its powers but the first and 0
+-- the sparse multiples of the polynomial, x^300 + x^155 + x^117 + x^89 + 1 and x^3006 + x^2866 + x^2215 + 1: their powers but the first and 0
 abbrev pub sparse : List ℕ
 sparse = 155 ∷ 117 ∷ 89 ∷ []
 
--- what a number whose places, of m bits each, were taken away adds to the 300 places after it
-unfoldable pub mix : ℕ → ℕ → ℕ
-mix m x = taps (λ (k : ℕ). shr (m * k)) sparse x
+abbrev pub sparser : List ℕ
+sparser = 2866 ∷ 2215 ∷ []
 
--- what one word that was taken away adds to what comes after it, to e + 64 bits in all
-unfoldable pub spread : ℕ → ℕ → ℕ → ℕ
-spread m e u = mix m (shl e u)
+-- what a number whose places, of m bits each, were taken away adds to what comes after it, by the powers ks of a multiple
+unfoldable pub mix : List ℕ → ℕ → ℕ → ℕ
+mix ks m x = taps (λ (k : ℕ). shr (m * k)) ks x
 
--- n words as one number, lowest first
-unfoldable pub num : ℕ → (ℕ → ℕ) → ℕ
-num zero f = 0
-num (suc n) f = bitXor (f 0) (shl 64 (num n (λ (k : ℕ). f (suc k))))
+-- what one word that was taken away adds to what comes after it, to e bits and one word in all
+unfoldable pub spread : List ℕ → ℕ → ℕ → ℕ → ℕ
+spread ks m e u = mix ks m (shl e u)
+
+-- n words of b bits as one number, lowest first; and those from j on
+unfoldable pub num : ℕ → ℕ → (ℕ → ℕ) → ℕ
+num b zero f = 0
+num b (suc n) f = bitXor (f 0) (shl b (num b n (λ (k : ℕ). f (suc k))))
+
+unfoldable pub numFrom : ℕ → ℕ → (ℕ → ℕ) → ℕ → ℕ
+numFrom b n f j = num b n (λ (k : ℕ). f (j + k))
 
 -- the five words of what is carried
 unfoldable pub carried : Carry → ℕ
-carried n = num 5 (λ (k : ℕ). getD (n .a ∷ n .b ∷ n .c ∷ n .d ∷ n .e ∷ []) k 0)
+carried n = num 64 5 (λ (k : ℕ). getD (n .a ∷ n .b ∷ n .c ∷ n .d ∷ n .e ∷ []) k 0)
 
--- the 300 words of v from j on
-unfoldable pub window : List ℕ → ℕ → ℕ
-window v j = num 300 (λ (k : ℕ). getD v (j + k) 0)
+-- the 300 bytes of v from j on, and the 3006 words in a ring
+abbrev pub window : List ℕ → ℕ → ℕ
+window v j = numFrom 8 300 (λ (k : ℕ). getD v k 0) j
 
--- the lowest word of what a window adds
-abbrev pub lowest : List ℕ → List ℕ → ℕ → ℕ
-lowest [] v j = getD v j 0
-lowest (k ∷ ks) v j = bitXor (lowest ks v j) (getD v (j + k) 0)
+abbrev pub ring : List ℕ → ℕ → ℕ
+ring v j = numFrom 32 3006 (λ (k : ℕ). getD v (k % 3006) 0) j
+
+-- the lowest word of what the words f from j on add
+abbrev pub lowest : List ℕ → (ℕ → ℕ) → ℕ → ℕ
+lowest [] f j = f j
+lowest (k ∷ ks) f j = bitXor (lowest ks f j) (f (j + k))
 
 abbrev pub added : List ℕ → ℕ → ℕ
-added v j = lowest sparse v j
+added v j = lowest sparse (λ (k : ℕ). getD v k 0) j
 
 -- the remainder of s from i on, with x added to it
 unfoldable pub left : List ℕ → ℕ → ℕ → ℕ
@@ -73,6 +83,6 @@ left s i x = shiftBits (8 * (length s - i)) (bitXor x (leValue (drop i s)))
 abbrev pub TakenIn : List ℕ → ℕ → ℕ → ℕ → ℕ → Type 0
 TakenIn s i state more r = (y : ℕ) → left s (i + 8) (bitXor r y) ≡ left s i (bitXor state (bitXor more (shl 64 y)))
 
--- a buffer for a window and 1024 words after it
-abbrev pub Words : List ℕ → Type 0
-Words v = (length v ≡ 1324) × ((k : ℕ) → getD v k 0 < 2 ^ 64)
+-- n words of b bits
+abbrev pub Words : ℕ → ℕ → List ℕ → Type 0
+Words b n v = (length v ≡ n) × ((k : ℕ) → getD v k 0 < 2 ^ b)

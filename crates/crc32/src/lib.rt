@@ -11,19 +11,27 @@
 // where it was one, and the remainder stays. `short` does this with 64 bits at once, by shifts; what is to be added to the five words after
 // them is kept in five numbers.
 //
-// Since (a + b)^2 = a^2 + b^2 where 1 + 1 = 0, f(x)^2 = f(x^2), and P divides f(x^2), f(x^4) and so on to f(y) with y = x^64:
-// y^300 = y^155 + y^117 + y^89 + 1. So what holds of bits holds of words too: a word can be taken away if it is added, as it is, to the words
-// 145, 183, 211 and 300 places after it. `long` does this, without shifts, but with a window of 300 words, which pays for itself from some
-// KiB on.
+// Since (a + b)^2 = a^2 + b^2 where 1 + 1 = 0, f(x)^2 = f(x^2), and P divides f(x^2), f(x^4) and f(y) with y = x^8:
+// y^300 = y^155 + y^117 + y^89 + 1. So what holds of bits holds of bytes too: a byte can be taken away if it is added, as it is, to the bytes
+// 145, 183, 211 and 300 places after it. `long` does this, without shifts, and a compiler makes 16 such turns at once, since no byte is
+// wanted before 145 turns have passed. It takes a window of 300 bytes, which pays for itself from some hundred bytes on.
 //
-// Either way five words are left at last, and a few bytes. They go by `steps32`, which makes 32 bit steps of the definition at once.
+// P also divides
+//
+//     g(x) = x^3006 + x^2866 + x^2215 + 1,
+//
+// which has a term less, and so g(y) with y = x^32: a word of 32 bits can be taken away if it is added to the words 140, 791 and 3006 places
+// after it. That is a load less for each turn, but a window of 3006 words, which pays for itself from some hundred KiB on: `longer`. There
+// the window is a ring: each word takes the place of the one 3006 places before it, and nothing is moved.
+//
+// Each way five words are left at last, and a few bytes. They go by `steps64`, which makes 64 bit steps of the definition at once.
 ghost use mathlib.Core.Path.{_≡_};
 ghost use Prim.Native.Nat.{_<_, _≤_, _+_, _*_, _/_, _%_, _^_};
-ghost use lib.ListN.{length, drop};
+ghost use lib.ListN.{length, take, drop};
 ghost use lib.Bits.{bitXor};
 ghost use Rattle.octets.specs.Bytes.{leValue};
 ghost use Rattle.crc32.specs.Crc.{crcFrom, crc32, ones32, shiftBits};
-ghost use Rattle.crc32.specs.Fold.{taps, up, inverse, left, shr, spread, carried, mix, window, added, TakenIn, Words};
+ghost use Rattle.crc32.specs.Fold.{taps, up, inverse, left, shr, sparse, sparser, spread, carried, mix, window, ring, added, TakenIn, Words};
 
 const ONES: u32 = 0xFFFFFFFF;
 
@@ -31,10 +39,13 @@ const ONES: u32 = 0xFFFFFFFF;
 pub const START: u32 = ONES;
 
 // From this length on, the window of `long` pays for itself.
-const LONG: usize = 6144;
+const LONG: usize = 640;
 
-// From this length on, a slice is taken in two halves.
-const HALVED: usize = 16777216;
+// From this length on, that of `longer`.
+const LONGER: usize = 262144;
+
+// From this length on, a slice is taken in two parts.
+const PARTED: usize = 16777216;
 
 // ---- numbers
 
@@ -44,16 +55,16 @@ fn wide8(x: u8) -> u32
     x as u32
 }
 
+fn low8(x: u32) -> u8
+    ensures { λ r. ⌜ r ≡ x % 256 ⌝ }
+{
+    (x % 256) as u8
+}
+
 fn wide32(x: u32) -> u64
     ensures { λ r. ⌜ (r ≡ x) × (r < 2 ^ 32) ⌝ }
 {
     x as u64
-}
-
-fn low32(x: u64) -> u32
-    ensures { λ r. ⌜ r ≡ x % 2 ^ 32 ⌝ }
-{
-    (x % 0x100000000) as u32
 }
 
 fn high32(x: u64) -> u32
@@ -62,7 +73,8 @@ fn high32(x: u64) -> u32
     (x >> 32) as u32
 }
 
-// The number of the bytes at i, lowest first. In a straight line, which compiles to one load.
+// The number of the bytes at i, lowest first. In a straight line, which compiles to one load. Not those of `octets`, which also answer for a
+// slice that has a part of them: that test would stand in each turn.
 fn le16(s: &[u8], i: usize) -> u32
     requires { ⌜ i + 2 ≤ length (now s) ⌝ }
     ensures { λ r. ⌜ (leValue (drop i (now (s .entry))) ≡ r + 2 ^ 16 * leValue (drop (i + 2) (now (s .entry)))) × (r < 2 ^ 16) ⌝ }
@@ -86,12 +98,12 @@ fn le64(s: &[u8], i: usize) -> u64
 
 // ---- bit steps, without a table
 //
-// A step takes the lowest bit off a number, and adds the polynomial where that bit was one. So 32 steps take 32 bits off and add the
-// polynomial times q, whose bits are those that fell out, and all 32 low bits of x + q * (1 + 2 * 0xEDB88320) are zero: q is x times the
-// inverse of 1 + 2 * 0xEDB88320 modulo x^32, 0xF7011641.
+// A step takes the lowest bit off a number, and adds the polynomial where that bit was one. So 64 steps take 64 bits off and add the
+// polynomial times q, whose bits are those that fell out, and all 64 low bits of x + q * (1 + 2 * 0xEDB88320) are zero: q is x times the
+// inverse of 1 + 2 * 0xEDB88320 modulo x^64, 0xB4E5B025F7011641.
 
-// The bits that fall out in 32 steps.
-fn quotient(x: u32) -> u32
+// The bits that fall out in 64 steps.
+fn quotient(x: u64) -> u64
     ensures { λ r. ⌜ r ≡ taps up inverse x ⌝ }
 {
     x
@@ -107,13 +119,28 @@ fn quotient(x: u32) -> u32
         ^ (x << 29)
         ^ (x << 30)
         ^ (x << 31)
+        ^ (x << 32)
+        ^ (x << 34)
+        ^ (x << 37)
+        ^ (x << 44)
+        ^ (x << 45)
+        ^ (x << 47)
+        ^ (x << 48)
+        ^ (x << 50)
+        ^ (x << 53)
+        ^ (x << 54)
+        ^ (x << 55)
+        ^ (x << 58)
+        ^ (x << 60)
+        ^ (x << 61)
+        ^ (x << 63)
 }
 
-// 32 bit steps: the shifts are the powers in the standard's polynomial.
-fn steps32(x: u32) -> u32
-    ensures { λ r. ⌜ r ≡ shiftBits 32 x ⌝ }
+// 64 bit steps, of which the last 32 bits that fall out tell the remainder: the shifts are the powers in the standard's polynomial.
+fn steps64(x: u64) -> u32
+    ensures { λ r. ⌜ r ≡ shiftBits 64 x ⌝ }
 {
-    let q = quotient(x);
+    let q = high32(quotient(x));
     q
         ^ (q >> 1)
         ^ (q >> 2)
@@ -130,10 +157,11 @@ fn steps32(x: u32) -> u32
         ^ (q >> 26)
 }
 
-fn steps64(x: u64) -> u32
-    ensures { λ r. ⌜ r ≡ shiftBits 64 x ⌝ }
+// The first 32 of 64 steps only move a number down that stands above 32 zeros.
+fn steps32(x: u32) -> u32
+    ensures { λ r. ⌜ r ≡ shiftBits 32 x ⌝ }
 {
-    steps32(high32(x) ^ steps32(low32(x)))
+    steps64(wide32(x) * 0x100000000)
 }
 
 fn steps8(x: u32) -> u32
@@ -173,7 +201,7 @@ struct Carry {
 
 // One word further: the word, with what was added to it, is taken away.
 fn fold_bits(n: Carry, word: u64) -> Carry
-    ensures { λ r. ⌜ carried r ≡ bitXor (shr 64 (carried n)) (spread 1 236 (bitXor (n .a) word)) ⌝ }
+    ensures { λ r. ⌜ carried r ≡ bitXor (shr 64 (carried n)) (spread sparse 1 236 (bitXor (n .a) word)) ⌝ }
 {
     let w = n.a ^ word;
     Carry {
@@ -237,33 +265,33 @@ fn short(state: u32, s: &[u8]) -> u32
     rest(first, s, 0)
 }
 
-// ---- a long slice: words are folded
+// ---- a long slice: bytes are folded
 
-// What the words taken away, of which v has the last 300 from j on, add to the next word.
-fn added_to(v: &[u64; 1324], j: usize) -> u64
+// What the bytes taken away, of which v has the last 300 from j on, add to the next byte.
+fn added_to(v: &[u8; 1324], j: usize) -> u8
     requires { ⌜ j < 1024 ⌝ }
     ensures { λ r. ⌜ r ≡ added (now (v .entry)) j ⌝ }
 {
     v[j] ^ v[j + 89] ^ v[j + 117] ^ v[j + 155]
 }
 
-// n words from a position on are taken away.
-fn fold_words(s: &[u8], at: usize, n: usize, v: &mut [u64; 1324])
-    requires { ⌜ (at + n * 8 + 2400 ≤ length (now s)) × (n ≤ 1024) × Words (now v) ⌝ }
-    ensures { λ r. ⌜ (left (now (s .entry)) (at + n * 8) (mix 64 (window (now (v .exit)) n)) ≡ left (now (s .entry)) at (mix 64 (window (now (v .entry)) 0))) × Words (now (v .exit)) ⌝ }
+// n bytes from a position on are taken away.
+fn fold_bytes(s: &[u8], at: usize, n: usize, v: &mut [u8; 1324])
+    requires { ⌜ (at + n + 300 ≤ length (now s)) × (n ≤ 1024) × Words 8 1324 (now v) ⌝ }
+    ensures { λ r. ⌜ (left (now (s .entry)) (at + n) (mix sparse 8 (window (now (v .exit)) n)) ≡ left (now (s .entry)) at (mix sparse 8 (window (now (v .entry)) 0))) × Words 8 1324 (now (v .exit)) ⌝ }
 {
     let mut j = 0;
     while j < n {
-        let w = added_to(v, j) ^ le64(s, at + j * 8);
+        let w = added_to(v, j) ^ s[at + j];
         v[j + 300] = w;
         j += 1;
     }
 }
 
 // The window back to the front.
-fn move_back(n: usize, v: &mut [u64; 1324])
-    requires { ⌜ (1 ≤ n) × (n ≤ 1024) × Words (now v) ⌝ }
-    ensures { λ r. ⌜ (window (now (v .exit)) 0 ≡ window (now (v .entry)) n) × Words (now (v .exit)) ⌝ }
+fn move_back(n: usize, v: &mut [u8; 1324])
+    requires { ⌜ (1 ≤ n) × (n ≤ 1024) × Words 8 1324 (now v) ⌝ }
+    ensures { λ r. ⌜ (window (now (v .exit)) 0 ≡ window (now (v .entry)) n) × Words 8 1324 (now (v .exit)) ⌝ }
 {
     let mut j = 0;
     while j < 300 {
@@ -272,10 +300,30 @@ fn move_back(n: usize, v: &mut [u64; 1324])
     }
 }
 
-// The words under the window, folded as bits, until the window is empty.
-fn empty(s: &[u8], at: usize, v: &mut [u64; 1324]) -> Carry
-    requires { ⌜ (at + 2440 ≤ length (now s)) × Words (now v) ⌝ }
-    ensures { λ r. ⌜ (left (now (s .entry)) (at + 2400) (carried r) ≡ left (now (s .entry)) at (mix 64 (window (now (v .entry)) 0))) × (r .a < 2 ^ 64) ⌝ }
+// Nothing after the window, as far as `empty` reads: then these bytes are the window as a number.
+fn clear(v: &mut [u8; 1324])
+    requires { ⌜ Words 8 1324 (now v) ⌝ }
+    ensures { λ r. ⌜ (leValue (take 468 (now (v .exit))) ≡ window (now (v .entry)) 0) × (length (now (v .exit)) ≡ 1324) ⌝ }
+{
+    let mut j = 300;
+    while j < 468 {
+        v[j] = 0;
+        j += 1;
+    }
+}
+
+// What the window adds to the eight bytes at j.
+fn added_at(v: &[u8], j: usize) -> u64
+    requires { ⌜ (length (now v) ≡ 468) × (j ≤ 296) ⌝ }
+    ensures { λ r. ⌜ r ≡ shr (8 * j) (mix sparse 8 (leValue (now (v .entry)))) % 2 ^ 64 ⌝ }
+{
+    le64(v, j) ^ le64(v, j + 89) ^ le64(v, j + 117) ^ le64(v, j + 155)
+}
+
+// The bytes under the window, folded as bits, eight at a time, until nothing of the window is left.
+fn empty(s: &[u8], at: usize, v: &[u8]) -> Carry
+    requires { ⌜ (at + 344 ≤ length (now s)) × (length (now v) ≡ 468) × (shr 2400 (leValue (now v)) ≡ 0) ⌝ }
+    ensures { λ r. ⌜ (left (now (s .entry)) (at + 304) (carried r) ≡ left (now (s .entry)) at (mix sparse 8 (leValue (now (v .entry))))) × (r .a < 2 ^ 64) ⌝ }
 {
     let mut n = Carry {
         a: 0,
@@ -285,12 +333,11 @@ fn empty(s: &[u8], at: usize, v: &mut [u64; 1324]) -> Carry
         e: 0,
     };
     let mut j = 0;
-    while j < 300 {
-        let w = added_to(v, j) ^ le64(s, at + j * 8);
-        v[j + 300] = 0;
+    while j < 304 {
+        let w = added_at(v, j) ^ le64(s, at + j);
         let next = fold_bits(n, w);
         n = next;
-        j += 1;
+        j += 8;
     }
     n
 }
@@ -303,20 +350,126 @@ fn at_most_1024(n: usize) -> usize
 }
 
 fn long(state: u32, s: &[u8]) -> u32
-    requires { ⌜ 2440 ≤ length (now s) ⌝ }
+    requires { ⌜ 344 ≤ length (now s) ⌝ }
     ensures { λ r. ⌜ r ≡ crcFrom state (now (s .entry)) ⌝ }
 {
-    let mut v = [0u64; 1324];
-    v[0] = wide32(state);
+    let mut v = [0u8; 1324];
+    v[0] = low8(state);
+    v[1] = low8(state >> 8);
+    v[2] = low8(state >> 16);
+    v[3] = low8(state >> 24);
     let mut i = 0;
-    while 2448 <= s.len() - i {
-        let n = at_most_1024((s.len() - i - 2440) / 8);
-        fold_words(s, i, n, &mut v);
+    while 345 <= s.len() - i {
+        let n = at_most_1024(s.len() - i - 344);
+        fold_bytes(s, i, n, &mut v);
         move_back(n, &mut v);
-        i += n * 8;
+        i += n;
     }
-    let n = empty(s, i, &mut v);
-    rest(n, s, i + 2400)
+    clear(&mut v);
+    let n = empty(s, i, &v[..468]);
+    rest(n, s, i + 304)
+}
+
+// ---- a longer slice: words of 32 bits are folded, in a ring
+//
+// A buffer has one entry more than the window. It is not used: with it, the words that most turns write lie at multiples of 16 bytes on the
+// stack: 46 instead of 50 µs for 1 MiB.
+
+// One word taken away. It takes the place of the oldest, at j; the other two that are added to it stand at p and q.
+fn turn(s: &[u8], at: usize, j: usize, p: usize, q: usize, v: &mut [u32; 3007])
+    requires { ⌜ (at + 12028 ≤ length (now s)) × (j < 3006) × (p ≡ (j + 2215) % 3006) × (q ≡ (j + 2866) % 3006) × Words 32 3007 (now v) ⌝ }
+    ensures { λ r. ⌜ (left (now (s .entry)) (at + 4) (mix sparser 32 (ring (now (v .exit)) (j + 1))) ≡ left (now (s .entry)) at (mix sparser 32 (ring (now (v .entry)) j))) × Words 32 3007 (now (v .exit)) ⌝ }
+{
+    let w = v[j] ^ v[p] ^ v[q] ^ le32(s, at);
+    v[j] = w;
+}
+
+// One round of the ring, from a position on, in three parts by where p and q stand: a compiler makes several turns at once only where it
+// knows the distances from j.
+fn turn_first(s: &[u8], at: usize, v: &mut [u32; 3007])
+    requires { ⌜ (at + 24048 ≤ length (now s)) × Words 32 3007 (now v) ⌝ }
+    ensures { λ r. ⌜ (left (now (s .entry)) (at + 560) (mix sparser 32 (ring (now (v .exit)) 140)) ≡ left (now (s .entry)) at (mix sparser 32 (ring (now (v .entry)) 0))) × Words 32 3007 (now (v .exit)) ⌝ }
+{
+    let mut j = 0;
+    while j < 140 {
+        turn(s, at + j * 4, j, j + 2215, j + 2866, v);
+        j += 1;
+    }
+}
+
+fn turn_second(s: &[u8], at: usize, v: &mut [u32; 3007])
+    requires { ⌜ (at + 24048 ≤ length (now s)) × Words 32 3007 (now v) ⌝ }
+    ensures { λ r. ⌜ (left (now (s .entry)) (at + 3164) (mix sparser 32 (ring (now (v .exit)) 791)) ≡ left (now (s .entry)) (at + 560) (mix sparser 32 (ring (now (v .entry)) 140))) × Words 32 3007 (now (v .exit)) ⌝ }
+{
+    let mut j = 140;
+    while j < 791 {
+        turn(s, at + j * 4, j, j + 2215, j - 140, v);
+        j += 1;
+    }
+}
+
+fn turn_third(s: &[u8], at: usize, v: &mut [u32; 3007])
+    requires { ⌜ (at + 24048 ≤ length (now s)) × Words 32 3007 (now v) ⌝ }
+    ensures { λ r. ⌜ (left (now (s .entry)) (at + 12024) (mix sparser 32 (ring (now (v .exit)) 0)) ≡ left (now (s .entry)) (at + 3164) (mix sparser 32 (ring (now (v .entry)) 791))) × Words 32 3007 (now (v .exit)) ⌝ }
+{
+    let mut j = 791;
+    while j < 3006 {
+        turn(s, at + j * 4, j, j - 791, j - 140, v);
+        j += 1;
+    }
+}
+
+// Two words of the window as one, of what is past its end zeros.
+fn pair_at(v: &[u32; 3007], i: usize) -> u64
+    requires { ⌜ Words 32 3007 (now v) ⌝ }
+    ensures { λ r. ⌜ r ≡ shr (32 * i) (ring (now (v .entry)) 0) % 2 ^ 64 ⌝ }
+{
+    if i < 3005 {
+        return wide32(v[i]) + wide32(v[i + 1]) * 0x100000000;
+    }
+    if i == 3005 {
+        return wide32(v[i]);
+    }
+    0
+}
+
+// The words under the window, folded as bits, until nothing of the window is left.
+fn empty_ring(s: &[u8], at: usize, v: &[u32; 3007]) -> Carry
+    requires { ⌜ (at + 12064 ≤ length (now s)) × Words 32 3007 (now v) ⌝ }
+    ensures { λ r. ⌜ (left (now (s .entry)) (at + 12024) (carried r) ≡ left (now (s .entry)) at (mix sparser 32 (ring (now (v .entry)) 0))) × (r .a < 2 ^ 64) ⌝ }
+{
+    let mut n = Carry {
+        a: 0,
+        b: 0,
+        c: 0,
+        d: 0,
+        e: 0,
+    };
+    let mut j = 0;
+    while j < 3006 {
+        let w = pair_at(v, j) ^ pair_at(v, j + 2215) ^ pair_at(v, j + 2866) ^ le64(s, at + j * 4);
+        let next = fold_bits(n, w);
+        n = next;
+        j += 2;
+    }
+    n
+}
+
+fn longer(state: u32, s: &[u8]) -> u32
+    requires { ⌜ 12064 ≤ length (now s) ⌝ }
+    ensures { λ r. ⌜ r ≡ crcFrom state (now (s .entry)) ⌝ }
+{
+    let mut v = [0u32; 3007];
+    v[0] = state;
+    let mut i = 0;
+    while 24088 <= s.len() - i {
+        turn_first(s, i, &mut v);
+        turn_second(s, i, &mut v);
+        turn_third(s, i, &mut v);
+        i += 12024;
+    }
+    let n = empty_ring(s, i, &v);
+    rest(n, s, i + 12024)
 }
 
 // ---- any slice
@@ -328,14 +481,16 @@ pub fn update(state: u32, bytes: &[u8]) -> u32
     if bytes.len() < LONG {
         return short(state, bytes);
     }
-    if bytes.len() < HALVED {
+    if bytes.len() < LONGER {
         return long(state, bytes);
     }
-    // A compiler puts a function that is called once into its caller: then each call, of a short slice too, would take the stack of the
-    // window. So `long` is called more than once.
-    let half = bytes.len() / 2;
-    let before = long(state, &bytes[..half]);
-    long(before, &bytes[half..])
+    if bytes.len() < PARTED {
+        return longer(state, bytes);
+    }
+    // A compiler puts a function that is called once into its caller: then each call, of a short slice too, would take the stack of both
+    // windows. So `long` and `longer` are called more than once.
+    let before = long(state, &bytes[..LONG]);
+    longer(before, &bytes[LONG..])
 }
 
 // The checksum of all bytes that were taken in.

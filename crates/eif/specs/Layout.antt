@@ -28,11 +28,11 @@ versionAt = 4
 abbrev pub headerFlagsAt : ℕ
 headerFlagsAt = 6
 
-abbrev pub memoryAt : ℕ
-memoryAt = 8
+abbrev pub defaultMemAt : ℕ
+defaultMemAt = 8
 
-abbrev pub cpusAt : ℕ
-cpusAt = 16
+abbrev pub defaultCpusAt : ℕ
+defaultCpusAt = 16
 
 abbrev pub reservedAt : ℕ
 reservedAt = 24
@@ -51,6 +51,18 @@ reservedAfterAt = 540
 
 abbrev pub checksumAt : ℕ
 checksumAt = 544
+
+-- the end of the checksum field, and with it of the header
+abbrev pub checksumEnd : ℕ
+checksumEnd = checksumAt + 4
+
+-- ---- where the fields of a section's own header stand in it, after the type
+
+abbrev pub sectionFlagsAt : ℕ
+sectionFlagsAt = 2
+
+abbrev pub sectionSizeAt : ℕ
+sectionSizeAt = 4
 
 -- ---- what the rules look at
 
@@ -79,13 +91,11 @@ headerFlags v = v .header 2 headerFlagsAt
 abbrev pub architecture : ℕ → ℕ
 architecture flags = flags % 2
 
--- default_mem
-abbrev pub memory : View → ℕ
-memory v = v .header 8 memoryAt
+abbrev pub defaultMem : View → ℕ
+defaultMem v = v .header 8 defaultMemAt
 
--- default_cpus
-abbrev pub cpus : View → ℕ
-cpus v = v .header 8 cpusAt
+abbrev pub defaultCpus : View → ℕ
+defaultCpus v = v .header 8 defaultCpusAt
 
 abbrev pub reserved : View → ℕ
 reserved v = v .header 2 reservedAt
@@ -129,10 +139,10 @@ abbrev pub kindAt : List ℕ → ℕ → ℕ
 kindAt s i = field 2 (offsetAt s i) s
 
 abbrev pub flagsAt : List ℕ → ℕ → ℕ
-flagsAt s i = field 2 (offsetAt s i + 2) s
+flagsAt s i = field 2 (offsetAt s i + sectionFlagsAt) s
 
 abbrev pub ownSizeAt : List ℕ → ℕ → ℕ
-ownSizeAt s i = field 8 (offsetAt s i + 4) s
+ownSizeAt s i = field 8 (offsetAt s i + sectionSizeAt) s
 
 abbrev pub viewOf : List ℕ → View
 viewOf s =
@@ -161,15 +171,3 @@ endAt s = end (viewOf s)
 
 abbrev pub startAt : List ℕ → ℕ → ℕ
 startAt s = start (viewOf s)
-
--- ---- of parts of a file: its header, 12 bytes for each section, and its size
-
-abbrev pub viewFrom : List ℕ → List ℕ → ℕ → View
-viewFrom header heads size =
-    record {
-      size = size;
-      header = λ w at. field w at header;
-      kind = λ i. field 2 (sectionHeaderSize * i) heads;
-      flags = λ i. field 2 (sectionHeaderSize * i + 2) heads;
-      ownSize = λ i. field 8 (sectionHeaderSize * i + 4) heads;
-    }

@@ -1,5 +1,4 @@
 pub mod Numbers
-pub mod Logic
 pub mod Answers
 pub mod Rules
 pub mod Table

@@ -6,15 +6,15 @@ use mathlib.Core.List.{List, [], _∷_, _++_}
 use lib.Dec.{ltb, leb, eqb}
 use lib.ListN.{length}
 use Rattle.octets.specs.Bytes.{leField}
-use Rattle.eif.specs.Numbers.{sizeLimit, placeCount, oldestVersion, kernel, ramdisk, imageTooLong, imageTooShort, wrongMagic, wrongVersion, wrongCount, startsEarly, endsLate, sizesDiffer, typeNotAllowed, ramdiskBeforeKernel, typeRepeated, sectionMissing, checksumDiffers, notPacked, outputTooShort, dataLengthDiffers, recordCut, recordTypeWrong, bytesAfterEnd, pastStreamEnd}
-use Rattle.eif.specs.Logic.{both, either, choose}
+use Rattle.eif.specs.Numbers.{sizeLimit, placeCount, kernel, ramdisk, imageTooLong, imageTooShort, wrongMagic, wrongVersion, wrongCount, startsEarly, endsLate, sizesDiffer, typeNotAllowed, ramdiskBeforeKernel, typeRepeated, sectionMissing, checksumDiffers, notPacked, outputTooShort, dataLengthDiffers, recordCut, recordTypeWrong, bytesAfterEnd, pastStreamEnd}
+use Rattle.octets.specs.Logic.{both, either, choose}
 use Rattle.eif.specs.Answers.{refuseAt}
-use Rattle.eif.specs.Rules.{versionKnown, countKnown, allowedIn, seen, missing}
+use Rattle.eif.specs.Rules.{versionKnown, countKnown, allowedIn, seen, bootMissing, missing}
 use Rattle.eif.specs.Layout.{magicNumber, headerSize, versionAt, countAt, offsetsAt, checksumAt, View, viewOf, magic, version, count, offset, size, checksum, end, start}
 use Rattle.eif.specs.Reading.{hasTail, checksumOf}
 use Rattle.eif.specs.Plan.{plannedKind, plainSize, dataBefore}
 use Rattle.eif.specs.Stream.{streamOf, listedBytes}
-use Rattle.eif.specs.Roll.{recordHeadSize, flagsType, flagsLength, flagsRecordSize, restOf, recordAt, recordStart, recordSize, recordKind, isEnd, imageSize, rollBytes}
+use Rattle.eif.specs.Roll.{recordHeadSize, recordTypeAt, flagsType, flagsLength, flagsRecordSize, restOf, recordAt, recordStart, recordSize, recordKind, isEnd, sizeAsImage, rollBytes}
 use Rattle.eif.specs.declared.Plan.{Plan}
 use Rattle.eif.specs.declared.Stream.{Stream}
 use Rattle.eif.specs.declared.StreamSections.{StreamSections}
@@ -122,7 +122,7 @@ rollWriteRules s room = imageRules s ++ (rule (ltb room (length (rollBytes s))) 
 unfoldable pub flagsRules : List ℕ → List Rule
 flagsRules s =
     rule (ltb (length s) recordHeadSize) recordCut 0 0
-    ∷ rule (either (not (eqb (leField 2 8 s) flagsType)) (not (eqb (leField 8 0 s) flagsLength))) recordTypeWrong 0 0
+    ∷ rule (either (not (eqb (leField 2 recordTypeAt s) flagsType)) (not (eqb (leField 8 0 s) flagsLength))) recordTypeWrong 0 0
     ∷ rule (ltb (length s) flagsRecordSize) recordCut 0 0
     ∷ []
 
@@ -142,8 +142,8 @@ bodyRules s i =
 unfoldable pub endRules : List ℕ → ℕ → List Rule
 endRules s n =
     rule (ltb (recordAt s n + recordHeadSize) (length s)) bytesAfterEnd 0 (recordStart s n + recordHeadSize)
-    ∷ rule (missing (recordKind s) oldestVersion n) sectionMissing 0 0
-    ∷ rule (ltb sizeLimit (imageSize s n)) imageTooLong 0 0
+    ∷ rule (bootMissing (recordKind s) n) sectionMissing 0 0
+    ∷ rule (ltb sizeLimit (sizeAsImage s n)) imageTooLong 0 0
     ∷ []
 
 -- from record i on, in at most n records

@@ -9,10 +9,10 @@ use lib.Dec.{ltb, eqb}
 use lib.ListN.{length, take, drop, getD}
 use Rattle.octets.specs.Bytes.{beBytes}
 use Rattle.crc32.specs.Crc.{crc32}
-use Rattle.eif.specs.Numbers.{sizeLimit, placeCount, imageTooLong, wrongVersion, wrongCount, sectionMissing, outputTooShort, dataLengthDiffers}
-use Rattle.eif.specs.Logic.{choose}
+use Rattle.eif.specs.Numbers.{sizeLimit, placeCount, imageTooLong, sectionMissing, outputTooShort, dataLengthDiffers}
+use Rattle.octets.specs.Logic.{choose}
 use Rattle.eif.specs.Answers.{refuse, andThen, wholeVerdict, beside}
-use Rattle.eif.specs.Rules.{versionKnown, countKnown, typeFault, missing, firstFault}
+use Rattle.eif.specs.Rules.{fieldFault, typeFault, missing, firstFault}
 use Rattle.eif.specs.Table.{filled}
 use Rattle.eif.specs.Layout.{magicNumber, headerSize, sectionHeaderSize, viewOf, reserved, reservedAfter, countOf, offsetAt, sizeAt}
 use Rattle.eif.specs.Reading.{verdictOf, blankSection, dataOf}
@@ -55,13 +55,6 @@ plainSize p = packedAt (p .places) (p .count)
 
 -- ---- the rules; 0: none applies
 
--- 4 and 5
-unfoldable pub fieldFault : Plan → ℕ
-fieldFault p =
-    choose (not (versionKnown (p .version))) wrongVersion
-    (choose (not (countKnown (p .count))) wrongCount
-    0)
-
 -- 1 and 15, for so many bytes of data
 unfoldable pub sizeFault : Plan → ℕ → ℕ
 sizeFault p given =
@@ -74,10 +67,10 @@ unfoldable pub planFault : Plan → ℕ → ℕ
 planFault p given =
     choose (missing (plannedKind (p .places)) (p .version) (p .count)) sectionMissing (sizeFault p given)
 
--- the rules but 14, which the output adds; 9, 10 and 11 section by section
+-- the rules but 14, which the output adds: 4 and 5, then 9, 10 and 11 section by section, then the others
 unfoldable pub planVerdict : Plan → ℕ → Verdict
 planVerdict p given =
-    andThen (wholeVerdict (fieldFault p))
+    andThen (wholeVerdict (fieldFault (p .version) (p .count)))
     (andThen (firstFault (typeFault (p .version) (plannedKind (p .places))) (p .count) 0)
     (wholeVerdict (planFault p given)))
 
@@ -97,14 +90,21 @@ entries (x ∷ xs) = beBytes 8 x ++ entries xs
 -- the header up to the table, 28 bytes: magic, version, flags, default_mem, default_cpus, reserved, num_sections
 unfoldable pub fixedFields : Plan → List ℕ
 fixedFields p =
-    beBytes 4 magicNumber ++ (beBytes 2 (p .version) ++ (beBytes 2 (p .flags) ++ (beBytes 8 (p .memory)
-    ++ (beBytes 8 (p .cpus) ++ (beBytes 2 0 ++ beBytes 2 (p .count))))))
+    beBytes 4 magicNumber ++ (beBytes 2 (p .version) ++ (beBytes 2 (p .flags) ++ (beBytes 8 (p .«default_mem»)
+    ++ (beBytes 8 (p .«default_cpus») ++ (beBytes 2 0 ++ beBytes 2 (p .count))))))
+
+-- the two tables: their numbers, and their bytes
+abbrev pub offsetsOf : List Place → ℕ → List ℕ
+offsetsOf l count = filled (packedAt l) 0 placeCount count
+
+abbrev pub sizesOf : List Place → ℕ → List ℕ
+sizesOf l count = filled (plannedSize l) 0 placeCount count
 
 unfoldable pub offsetTable : List Place → ℕ → List ℕ
-offsetTable l count = entries (filled (packedAt l) 0 placeCount count)
+offsetTable l count = entries (offsetsOf l count)
 
 unfoldable pub sizeTable : List Place → ℕ → List ℕ
-sizeTable l count = entries (filled (plannedSize l) 0 placeCount count)
+sizeTable l count = entries (sizesOf l count)
 
 -- the header up to the checksum, 544 bytes: its last field is reserved
 unfoldable pub headerBytes : Plan → List ℕ
@@ -162,7 +162,7 @@ placeOf x = record { kind = x .kind; flags = x .flags; length = x .length }
 -- the plan of a reading
 abbrev pub planOf : Reading → Plan
 planOf r =
-    record { version = r .version; flags = r .flags; memory = r .memory; cpus = r .cpus; count = r .count; places = map placeOf (r .sections) }
+    record { version = r .version; flags = r .flags; «default_mem» = r .«default_mem»; «default_cpus» = r .«default_cpus»; count = r .count; places = map placeOf (r .sections) }
 
 -- n lists from list i on, joined
 unfoldable pub joinFrom : (ℕ → List ℕ) → ℕ → ℕ → List ℕ

@@ -7,11 +7,11 @@ use lib.Dec.{ltb, leb, eqb}
 use lib.ListN.{replicate, take, drop}
 use Rattle.crc32.specs.Crc.{crc32}
 use Rattle.eif.specs.Numbers.{sizeLimit, placeCount, ramdisk, imageTooLong, imageTooShort, wrongMagic, wrongVersion, wrongCount, startsEarly, endsLate, sizesDiffer, typeNotAllowed, sectionMissing, checksumDiffers, notPacked}
-use Rattle.eif.specs.Logic.{either, choose}
+use Rattle.octets.specs.Logic.{either, choose}
 use Rattle.eif.specs.Answers.{refuseAt, andThen, wholeAt, wholeVerdict}
-use Rattle.eif.specs.Rules.{versionKnown, countKnown, allowedIn, orderFault, missing, firstFault}
+use Rattle.eif.specs.Rules.{fieldFault, allowedIn, orderFault, missing, firstFault}
 use Rattle.eif.specs.Table.{filled}
-use Rattle.eif.specs.Layout.{magicNumber, headerSize, sectionHeaderSize, versionAt, countAt, offsetsAt, checksumAt, View, viewOf, magic, version, headerFlags, architecture, memory, cpus, count, offsetEntry, offset, size, checksum, end, start}
+use Rattle.eif.specs.Layout.{magicNumber, headerSize, sectionHeaderSize, versionAt, countAt, offsetsAt, checksumAt, checksumEnd, View, viewOf, magic, version, headerFlags, architecture, defaultMem, defaultCpus, count, offsetEntry, offset, size, checksum, end, start}
 use Rattle.eif.specs.declared.Section.{Section}
 use Rattle.eif.specs.declared.Reading.{Reading}
 use Rattle.eif.specs.declared.Verdict.{Verdict}
@@ -20,18 +20,16 @@ use Rattle.eif.specs.declared.Verdict.the-variants.{Accepted, Refused}
 -- ---- the rules; 0: none applies
 
 -- 1 to 5
-unfoldable pub headerRule : View → ℕ
-headerRule v =
+unfoldable pub headerFault : View → ℕ
+headerFault v =
     choose (ltb sizeLimit (v .size)) imageTooLong
     (choose (ltb (v .size) headerSize) imageTooShort
     (choose (not (eqb (magic v) magicNumber)) wrongMagic
-    (choose (not (versionKnown (version v))) wrongVersion
-    (choose (not (countKnown (count v))) wrongCount
-    0))))
+    (fieldFault (version v) (count v))))
 
 -- 6, 20 and 7 to 9 at section i
-unfoldable pub entryRule : View → ℕ → ℕ
-entryRule v i =
+unfoldable pub entryFault : View → ℕ → ℕ
+entryFault v i =
     choose (ltb (offset v i) (start v i)) startsEarly
     (choose (not (eqb (offset v i) (start v i))) notPacked
     (choose (ltb (v .size) (end v i)) endsLate
@@ -40,25 +38,25 @@ entryRule v i =
     0))))
 
 -- 6, 20 and 7 to 11 at section i
-unfoldable pub sectionRule : View → ℕ → ℕ
-sectionRule v i =
-    choose (eqb (entryRule v i) 0) (orderFault (v .kind) (v .kind i) i) (entryRule v i)
+unfoldable pub sectionFault : View → ℕ → ℕ
+sectionFault v i =
+    choose (eqb (entryFault v i) 0) (orderFault (v .kind) (v .kind i) i) (entryFault v i)
 
 -- bytes after the last section
 abbrev pub hasTail : View → Bool
 hasTail v = ltb (start v (count v)) (v .size)
 
 -- 12
-unfoldable pub missingRule : View → ℕ
-missingRule v = choose (missing (v .kind) (version v) (count v)) sectionMissing 0
+unfoldable pub missingFault : View → ℕ
+missingFault v = choose (missing (v .kind) (version v) (count v)) sectionMissing 0
 
 -- 20, for bytes after the last section
-unfoldable pub tailRule : View → ℕ
-tailRule v = choose (hasTail v) notPacked 0
+unfoldable pub tailFault : View → ℕ
+tailFault v = choose (hasTail v) notPacked 0
 
 -- 13, for the checksum that was computed
-unfoldable pub checksumRule : View → ℕ → ℕ
-checksumRule v computed = choose (not (eqb (checksum v) computed)) checksumDiffers 0
+unfoldable pub checksumFault : View → ℕ → ℕ
+checksumFault v computed = choose (not (eqb (checksum v) computed)) checksumDiffers 0
 
 -- ---- the positions
 
@@ -83,21 +81,21 @@ located header (Refused r) = refuseAt (r .number) (r .index) (positionIn header 
 -- up to the first that fails, then what is missing
 unfoldable pub judged : View → Verdict
 judged v =
-    andThen (wholeVerdict (headerRule v))
-    (andThen (firstFault (sectionRule v) (count v) 0)
-    (wholeVerdict (missingRule v)))
+    andThen (wholeVerdict (headerFault v))
+    (andThen (firstFault (sectionFault v) (count v) 0)
+    (wholeVerdict (missingFault v)))
 
 -- by all rules but 13: those with their positions, then bytes after the last section, of which the first is at fault
 unfoldable pub early : View → Verdict
-early v = andThen (located (v .header) (judged v)) (wholeAt (tailRule v) (start v (count v)))
+early v = andThen (located (v .header) (judged v)) (wholeAt (tailFault v) (start v (count v)))
 
 -- by all rules
 unfoldable pub verdictIn : View → ℕ → Verdict
-verdictIn v computed = andThen (early v) (wholeAt (checksumRule v computed) checksumAt)
+verdictIn v computed = andThen (early v) (wholeAt (checksumFault v computed) checksumAt)
 
--- every byte of a file but 544 to 547, which are taken out
+-- every byte of a file but those of the checksum, which are taken out
 abbrev pub checkedBytes : List ℕ → List ℕ
-checkedBytes s = take checksumAt s ++ drop headerSize s
+checkedBytes s = take checksumAt s ++ drop checksumEnd s
 
 -- the checksum over them
 unfoldable pub checksumOf : List ℕ → ℕ
@@ -167,11 +165,11 @@ blankReading verdict =
       version = 0;
       flags = 0;
       architecture = 0;
-      memory = 0;
-      cpus = 0;
+      «default_mem» = 0;
+      «default_cpus» = 0;
       count = 0;
       sections = replicate placeCount blankSection;
-      ramdisks = 0;
+      «ramdisk_mark» = 0;
     }
 
 abbrev pub readingOf : View → Verdict → Reading
@@ -182,24 +180,12 @@ readingOf v Accepted =
       version = version v;
       flags = headerFlags v;
       architecture = architecture (headerFlags v);
-      memory = memory v;
-      cpus = cpus v;
+      «default_mem» = defaultMem v;
+      «default_cpus» = defaultCpus v;
       count = count v;
       sections = sections v;
-      ramdisks = markOf (sections v);
+      «ramdisk_mark» = markOf (sections v);
     }
-
--- by all rules but 13
-unfoldable pub readEarly : View → Reading
-readEarly v = readingOf v (early v)
-
--- a reading by all rules but 13, and then by 13: the stored checksum against the one that was computed
-abbrev pub sealedFor : Verdict → Reading → ℕ → ℕ → Reading
-sealedFor (Refused r) reading stored computed = reading
-sealedFor Accepted reading stored computed = choose (eqb stored computed) reading (blankReading (refuseAt checksumDiffers 0 checksumAt))
-
-unfoldable pub sealed : Reading → ℕ → ℕ → Reading
-sealed reading stored computed = sealedFor (reading .verdict) reading stored computed
 
 -- by all rules, for the checksum that was computed
 unfoldable pub readView : View → ℕ → Reading

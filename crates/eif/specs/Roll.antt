@@ -7,10 +7,10 @@ use mathlib.Core.Path.{_≡_}
 use lib.Dec.{ltb, leb, eqb}
 use lib.ListN.{length, replicate, take, drop}
 use Rattle.octets.specs.Bytes.{leField, leBytes}
-use Rattle.eif.specs.Numbers.{sizeLimit, placeCount, oldestVersion, kernel, ramdisk, imageTooLong, wrongCount, sectionMissing, outputTooShort, recordCut, recordTypeWrong, bytesAfterEnd}
-use Rattle.eif.specs.Logic.{both, either, choose}
+use Rattle.eif.specs.Numbers.{sizeLimit, placeCount, ramdisk, imageTooLong, wrongCount, sectionMissing, outputTooShort, recordCut, recordTypeWrong, bytesAfterEnd}
+use Rattle.octets.specs.Logic.{both, either, choose}
 use Rattle.eif.specs.Answers.{refuse, refuseAt, andThen}
-use Rattle.eif.specs.Rules.{orderFault, missing}
+use Rattle.eif.specs.Rules.{bootType, orderFault, bootMissing}
 use Rattle.eif.specs.Table.{filled}
 use Rattle.eif.specs.Layout.{headerSize, sectionHeaderSize, headerFlagsOf}
 use Rattle.eif.specs.Reading.{sectionsOf, dataOf, verdictOf}
@@ -28,6 +28,10 @@ use Rattle.eif.specs.declared.Verdict.the-variants.{Accepted}
 -- an 8-byte length and a 2-byte type, little-endian
 abbrev pub recordHeadSize : ℕ
 recordHeadSize = 10
+
+-- where the type stands in it, after the length
+abbrev pub recordTypeAt : ℕ
+recordTypeAt = 8
 
 unfoldable pub headOf : ℕ → ℕ → List ℕ
 headOf size kind = leBytes 8 size ++ leBytes 2 kind
@@ -61,19 +65,15 @@ rollOf (r ∷ rs) = headOf (length (r .bytes)) (r .kind) ++ (r .bytes ++ rollOf 
 
 -- ---- the roll of an image
 
--- the types that a roll holds: kernel, command line, ramdisk
-abbrev pub inRoll : ℕ → Bool
-inRoll kind = both (leb kernel kind) (leb kind ramdisk)
-
 abbrev pub recordFor : List ℕ → Section → Record
 recordFor s x = record { kind = x .kind; bytes = dataOf s x }
 
--- the type and the data of every section of such a type, in file order
+-- the type and the data of every kernel, command line and ramdisk, in file order
 unfoldable pub recordsIn : List ℕ → List Section → List Record
 recordsIn s [] = []
 recordsIn s (x ∷ xs) =
     let rest = recordsIn s xs in
-    choose (inRoll (x .kind)) (recordFor s x ∷ rest) rest
+    choose (bootType (x .kind)) (recordFor s x ∷ rest) rest
 
 abbrev pub recordsOf : List ℕ → List Record
 recordsOf s = recordsIn s (sectionsOf s)
@@ -120,7 +120,7 @@ rollOutput s d = outputFor (rollVerdict s (length d)) (rollBytes s) d
 unfoldable pub flagsFault : List ℕ → ℕ
 flagsFault s =
     choose (ltb (length s) recordHeadSize) recordCut
-    (choose (either (not (eqb (leField 2 8 s) flagsType)) (not (eqb (leField 8 0 s) flagsLength))) recordTypeWrong
+    (choose (either (not (eqb (leField 2 recordTypeAt s) flagsType)) (not (eqb (leField 8 0 s) flagsLength))) recordTypeWrong
     (choose (ltb (length s) flagsRecordSize) recordCut
     0))
 
@@ -142,7 +142,7 @@ abbrev pub recordSize : List ℕ → ℕ → ℕ
 recordSize s i = leField 8 (recordAt s i) s
 
 abbrev pub recordKind : List ℕ → ℕ → ℕ
-recordKind s i = leField 2 (recordAt s i + 8) s
+recordKind s i = leField 2 (recordAt s i + recordTypeAt) s
 
 abbrev pub isEnd : List ℕ → ℕ → Bool
 isEnd s i = eqb (recordKind s i) endType
@@ -176,16 +176,16 @@ endFrom s (suc n) i =
     choose (eqb (headFault s i) 0) (choose (isEnd s i) (ended i) judged) (stopped (headFault s i) i)
 
 -- what the records before i would take in an image, with its header
-unfoldable pub imageSize : List ℕ → ℕ → ℕ
-imageSize s zero = headerSize
-imageSize s (suc i) = imageSize s i + sectionHeaderSize + recordSize s i
+unfoldable pub sizeAsImage : List ℕ → ℕ → ℕ
+sizeAsImage s zero = headerSize
+sizeAsImage s (suc i) = sizeAsImage s i + sectionHeaderSize + recordSize s i
 
--- the rules 18, 12 (for kernel or command line) and 1 on a roll whose end record is record n
+-- the rules 18, 12 and 1 on a roll whose end record is record n
 unfoldable pub rollFault : List ℕ → ℕ → ℕ
 rollFault s n =
     choose (ltb (recordAt s n + recordHeadSize) (length s)) bytesAfterEnd
-    (choose (missing (recordKind s) oldestVersion n) sectionMissing
-    (choose (ltb sizeLimit (imageSize s n)) imageTooLong
+    (choose (bootMissing (recordKind s) n) sectionMissing
+    (choose (ltb sizeLimit (sizeAsImage s n)) imageTooLong
     0))
 
 -- ---- the answer

@@ -9,7 +9,7 @@ use Rattle.octets.specs.Bytes.{leField}
 use Rattle.eif.specs.Numbers.{placeCount}
 use Rattle.eif.specs.Answers.{refuseAt}
 use Rattle.eif.specs.Rules.{seen, orderFault, missing}
-use Rattle.eif.specs.Roll.{rollOf, headOf, flagsRecord, flagsFault, readRest, readRoll, refusedRoll, acceptedRoll, blankRecord, endFrom, recordAt, headFault, bodyFault, imageSize, rollFault}
+use Rattle.eif.specs.Roll.{rollOf, headOf, flagsRecord, flagsFault, readRest, readRoll, refusedRoll, acceptedRoll, blankRecord, endFrom, recordAt, headFault, bodyFault, sizeAsImage, rollFault}
 use Rattle.eif.specs.declared.RollRecord.{RollRecord}
 use Rattle.eif.specs.declared.RollReading.{RollReading}
 
@@ -46,33 +46,33 @@ abbrev pub worked : List ℕ
 worked = 0x02 ∷ 0x00 ∷ 0x00 ∷ 0x00 ∷ 0x00 ∷ 0x00 ∷ 0x00 ∷ 0x00 ∷ 0x00 ∷ 0x01 ∷ 0x00 ∷ 0x00 ∷ rest
 
 -- type, data position and length of a record
-abbrev listed : ℕ → ℕ → ℕ → RollRecord
-listed kind position size = record { kind = kind; position = record { 0 = position }; length = record { 0 = size } }
+abbrev listedRecord : ℕ → ℕ → ℕ → RollRecord
+listedRecord kind position size = record { kind = kind; position = record { 0 = position }; length = record { 0 = size } }
 
-abbrev accepted : List RollRecord → RollReading
-accepted records = acceptedRoll 0 (length records) (records ++ replicate (placeCount - length records) blankRecord)
+abbrev acceptedWith : List RollRecord → RollReading
+acceptedWith records = acceptedRoll 0 (length records) (records ++ replicate (placeCount - length records) blankRecord)
 
-abbrev refused : ℕ → ℕ → ℕ → RollReading
-refused number index position = refusedRoll (refuseAt number index position)
+abbrev refusedWith : ℕ → ℕ → ℕ → RollReading
+refusedWith number index position = refusedRoll (refuseAt number index position)
 
 abbrev row : List ℕ → RollReading → Row
 row roll answer = record { roll = roll; answer = answer }
 
 -- R1 no bytes; R2 ten zero bytes; R3 the worked roll; R4 without its last byte; R5 with a byte 00 added; R6 kernel and
 -- command line exchanged; R7 ramdisk first; R8 kernel twice; R9 first type 4; R10 type 0 with length 1; R11 length of eight ff
-abbrev pub rows : List Row
-rows =
-    row flags (refused 16 1 12)
-    ∷ row (flags ++ replicate 10 0) (refused 12 0 0)
-    ∷ row worked (accepted (listed 1 22 1 ∷ listed 2 33 1 ∷ listed 3 44 0 ∷ []))
-    ∷ row (take 53 worked) (refused 16 4 44)
-    ∷ row (worked ++ (0 ∷ [])) (refused 18 0 54)
-    ∷ row (flags ++ commandLineRecord ++ kernelRecord ++ ramdiskRecord ++ endRecord) (accepted (listed 2 22 1 ∷ listed 1 33 1 ∷ listed 3 44 0 ∷ []))
-    ∷ row (flags ++ ramdiskRecord ++ kernelRecord ++ commandLineRecord ++ endRecord) (refused 10 1 12)
-    ∷ row (flags ++ kernelRecord ++ rest) (refused 11 2 23)
-    ∷ row (flags ++ headOf 1 4 ++ (0x4b ∷ []) ++ commandLineRecord ++ ramdiskRecord ++ endRecord) (refused 17 1 12)
-    ∷ row (flags ++ headOf 1 0 ++ (0x4b ∷ []) ++ commandLineRecord ++ ramdiskRecord ++ endRecord) (refused 17 1 12)
-    ∷ row (flags ++ replicate 8 0xff ++ (1 ∷ 0 ∷ [])) (refused 16 1 12)
+abbrev pub rollRows : List Row
+rollRows =
+    row flags (refusedWith 16 1 12)
+    ∷ row (flags ++ replicate 10 0) (refusedWith 12 0 0)
+    ∷ row worked (acceptedWith (listedRecord 1 22 1 ∷ listedRecord 2 33 1 ∷ listedRecord 3 44 0 ∷ []))
+    ∷ row (take 53 worked) (refusedWith 16 4 44)
+    ∷ row (worked ++ (0 ∷ [])) (refusedWith 18 0 54)
+    ∷ row (flags ++ commandLineRecord ++ kernelRecord ++ ramdiskRecord ++ endRecord) (acceptedWith (listedRecord 2 22 1 ∷ listedRecord 1 33 1 ∷ listedRecord 3 44 0 ∷ []))
+    ∷ row (flags ++ ramdiskRecord ++ kernelRecord ++ commandLineRecord ++ endRecord) (refusedWith 10 1 12)
+    ∷ row (flags ++ kernelRecord ++ rest) (refusedWith 11 2 23)
+    ∷ row (flags ++ headOf 1 4 ++ (0x4b ∷ []) ++ commandLineRecord ++ ramdiskRecord ++ endRecord) (refusedWith 17 1 12)
+    ∷ row (flags ++ headOf 1 0 ++ (0x4b ∷ []) ++ commandLineRecord ++ ramdiskRecord ++ endRecord) (refusedWith 17 1 12)
+    ∷ row (flags ++ replicate 8 0xff ++ (1 ∷ 0 ∷ [])) (refusedWith 16 1 12)
     ∷ []
 
 -- a flags record, kernel, command line and thirty empty ramdisks; and what is listed of these ramdisks
@@ -85,30 +85,30 @@ full = flags ++ kernelRecord ++ commandLineRecord ++ repeated 30 ramdiskRecord
 
 abbrev ramdisksFrom : ℕ → ℕ → List RollRecord
 ramdisksFrom zero at = []
-ramdisksFrom (suc n) at = listed 3 at 0 ∷ ramdisksFrom n (at + 10)
+ramdisksFrom (suc n) at = listedRecord 3 at 0 ∷ ramdisksFrom n (at + 10)
 
 -- no bytes; nine bytes of a flags record; no flags record; the end record first; a flags record of length 3; of length 3 and cut; its data
 -- cut by one byte; a second flags record; every flag set; the lower byte first; 32 records behind it, and one more
 abbrev pub flagsRows : List Row
 flagsRows =
-    row [] (refused 16 0 0)
-    ∷ row (take 9 worked) (refused 16 0 0)
-    ∷ row rest (refused 17 0 0)
-    ∷ row (replicate 10 0) (refused 17 0 0)
-    ∷ row (headOf 3 256 ++ (0 ∷ 0 ∷ 0 ∷ []) ++ rest) (refused 17 0 0)
-    ∷ row (headOf 3 256) (refused 17 0 0)
-    ∷ row (take 11 worked) (refused 16 0 0)
-    ∷ row (flags ++ worked) (refused 17 1 12)
+    row [] (refusedWith 16 0 0)
+    ∷ row (take 9 worked) (refusedWith 16 0 0)
+    ∷ row rest (refusedWith 17 0 0)
+    ∷ row (replicate 10 0) (refusedWith 17 0 0)
+    ∷ row (headOf 3 256 ++ (0 ∷ 0 ∷ 0 ∷ []) ++ rest) (refusedWith 17 0 0)
+    ∷ row (headOf 3 256) (refusedWith 17 0 0)
+    ∷ row (take 11 worked) (refusedWith 16 0 0)
+    ∷ row (flags ++ worked) (refusedWith 17 1 12)
     ∷ row (flagsRecord 0xffff ++ kernelRecord ++ commandLineRecord ++ endRecord)
-    (acceptedRoll 0xffff 2 (listed 1 22 1 ∷ listed 2 33 1 ∷ replicate 30 blankRecord))
+    (acceptedRoll 0xffff 2 (listedRecord 1 22 1 ∷ listedRecord 2 33 1 ∷ replicate 30 blankRecord))
     ∷ row (headOf 2 256 ++ (0x01 ∷ 0x02 ∷ []) ++ kernelRecord ++ commandLineRecord ++ endRecord)
-    (acceptedRoll 0x0201 2 (listed 1 22 1 ∷ listed 2 33 1 ∷ replicate 30 blankRecord))
-    ∷ row (full ++ endRecord) (acceptedRoll 0 32 (listed 1 22 1 ∷ listed 2 33 1 ∷ ramdisksFrom 30 44))
-    ∷ row (full ++ ramdiskRecord ++ endRecord) (refused 5 0 334)
+    (acceptedRoll 0x0201 2 (listedRecord 1 22 1 ∷ listedRecord 2 33 1 ∷ replicate 30 blankRecord))
+    ∷ row (full ++ endRecord) (acceptedRoll 0 32 (listedRecord 1 22 1 ∷ listedRecord 2 33 1 ∷ ramdisksFrom 30 44))
+    ∷ row (full ++ ramdiskRecord ++ endRecord) (refusedWith 5 0 334)
     ∷ []
 
-pub rows-hold : map (λ (r : Row). readRoll (r .roll)) (rows ++ flagsRows) ≡ map (λ (r : Row). r .answer) (rows ++ flagsRows)
-unfolding headOf flagsRecord flagsFault readRest readRoll endFrom recordAt leField seen orderFault missing headFault bodyFault imageSize rollFault
+pub rows-hold : map (λ (r : Row). readRoll (r .roll)) (rollRows ++ flagsRows) ≡ map (λ (r : Row). r .answer) (rollRows ++ flagsRows)
+unfolding headOf flagsRecord flagsFault readRest readRoll endFrom recordAt leField seen orderFault missing headFault bodyFault sizeAsImage rollFault
 rows-hold = refl
 
 -- the worked roll is that of no flag, a kernel 4b, a command line 61 and an empty ramdisk

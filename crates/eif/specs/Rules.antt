@@ -1,10 +1,10 @@
--- The rules on section types, for image, plan and boot roll alike: types are given by a function from place to type.
+-- The rules that image, plan and boot roll have in common. Types are given by a function from place to type.
 -- Assumes nothing.
 use Prim.Native.Nat.{ℕ, zero, suc}
 use mathlib.Core.Bool.{Bool, false, not}
 use lib.Dec.{leb, eqb}
-use Rattle.eif.specs.Numbers.{signatureVersion, metadataVersion, oldestVersion, newestVersion, fewestSections, placeCount, kernel, commandLine, ramdisk, signature, metadata, typeNotAllowed, ramdiskBeforeKernel, typeRepeated}
-use Rattle.eif.specs.Logic.{both, either, choose}
+use Rattle.eif.specs.Numbers.{signatureVersion, metadataVersion, oldestVersion, newestVersion, fewestSections, placeCount, kernel, commandLine, ramdisk, signature, metadata, wrongVersion, wrongCount, typeNotAllowed, ramdiskBeforeKernel, typeRepeated}
+use Rattle.octets.specs.Logic.{both, either, choose}
 use Rattle.eif.specs.Answers.{refuse}
 use Rattle.eif.specs.declared.Verdict.{Verdict}
 use Rattle.eif.specs.declared.Verdict.the-variants.{Accepted}
@@ -17,12 +17,23 @@ versionKnown version = both (leb oldestVersion version) (leb version newestVersi
 abbrev pub countKnown : ℕ → Bool
 countKnown count = both (leb fewestSections count) (leb count placeCount)
 
+-- the rules 4 and 5; 0: neither applies
+unfoldable pub fieldFault : ℕ → ℕ → ℕ
+fieldFault version count =
+    choose (not (versionKnown version)) wrongVersion
+    (choose (not (countKnown count)) wrongCount
+    0)
+
+-- kernel, command line, ramdisk: the types that every version allows, that a roll holds, and that are measured
+abbrev pub bootType : ℕ → Bool
+bootType kind = both (leb kernel kind) (leb kind ramdisk)
+
 -- the test of rule 9: whether an image of a version may hold a section of a type
 unfoldable pub allowedIn : ℕ → ℕ → Bool
 allowedIn version kind =
     choose (eqb kind signature) (leb signatureVersion version)
     (choose (eqb kind metadata) (leb metadataVersion version)
-    (both (leb kernel kind) (leb kind ramdisk)))
+    (bootType kind))
 
 -- whether one of the places before i has a type
 unfoldable pub seen : (ℕ → ℕ) → ℕ → ℕ → Bool
@@ -41,12 +52,13 @@ unfoldable pub typeFault : ℕ → (ℕ → ℕ) → ℕ → ℕ
 typeFault version kinds i =
     choose (not (allowedIn version (kinds i))) typeNotAllowed (orderFault kinds (kinds i) i)
 
--- the test of rule 12: of the first n sections, one that must be there is missing
+-- the test of rule 12 on a roll: among the first n there is no kernel, or no command line
+abbrev pub bootMissing : (ℕ → ℕ) → ℕ → Bool
+bootMissing kinds n = either (not (seen kinds kernel n)) (not (seen kinds commandLine n))
+
+-- on an image or a plan: one of these is missing, or the metadata that a version asks for
 unfoldable pub missing : (ℕ → ℕ) → ℕ → ℕ → Bool
-missing kinds version n =
-    either (not (seen kinds kernel n))
-    (either (not (seen kinds commandLine n))
-    (both (eqb version metadataVersion) (not (seen kinds metadata n))))
+missing kinds version n = either (bootMissing kinds n) (both (eqb version metadataVersion) (not (seen kinds metadata n)))
 
 -- the first of the n places from i on that has a fault, where the faults are given by place (0: none)
 unfoldable pub firstFault : (ℕ → ℕ) → ℕ → ℕ → Verdict

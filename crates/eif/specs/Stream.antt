@@ -6,11 +6,11 @@ use mathlib.Core.List.{List, [], _∷_, _++_}
 use lib.Dec.{ltb, eqb}
 use lib.ListN.{length, replicate, take, drop}
 use Rattle.eif.specs.Numbers.{placeCount, ramdisk, pastStreamEnd}
-use Rattle.eif.specs.Logic.{both, choose}
+use Rattle.octets.specs.Logic.{both, choose}
 use Rattle.eif.specs.Answers.{refuse, andThen, beside}
 use Rattle.eif.specs.Reading.{ramdiskIn, blankSection, sectionsOf, dataOf, verdictOf}
 use Rattle.eif.specs.Output.{outputFor}
-use Rattle.eif.specs.Roll.{inRoll}
+use Rattle.eif.specs.Rules.{bootType}
 use Rattle.eif.specs.declared.Section.{Section}
 use Rattle.eif.specs.declared.Stream.{Stream}
 use Rattle.eif.specs.declared.Stream.the-variants.{Whole, Boot, App}
@@ -28,8 +28,8 @@ laterRamdisk kind before = both (eqb kind ramdisk) (ltb 0 before)
 
 -- Whole keeps all of them, Boot all but the later ramdisks, App these
 unfoldable pub keeps : Stream → ℕ → ℕ → Bool
-keeps Whole kind before = inRoll kind
-keeps Boot kind before = both (inRoll kind) (not (laterRamdisk kind before))
+keeps Whole kind before = bootType kind
+keeps Boot kind before = both (bootType kind) (not (laterRamdisk kind before))
 keeps App kind before = laterRamdisk kind before
 
 -- what a stream keeps of a list whose elements have types, after so many ramdisks
@@ -53,13 +53,13 @@ unfoldable pub sectionsAnswer : Stream → List Section → StreamSections
 sectionsAnswer stream l = record { count = length (streamSections stream l); sections = inTable (streamSections stream l) }
 
 -- the data of sections, joined
-unfoldable pub joined : List ℕ → List Section → List ℕ
-joined s [] = []
-joined s (x ∷ xs) = dataOf s x ++ joined s xs
+unfoldable pub sectionsData : List ℕ → List Section → List ℕ
+sectionsData s [] = []
+sectionsData s (x ∷ xs) = dataOf s x ++ sectionsData s xs
 
 -- the bytes of a stream of an image
 unfoldable pub streamOf : List ℕ → Stream → List ℕ
-streamOf s stream = joined s (streamSections stream (sectionsOf s))
+streamOf s stream = sectionsData s (streamSections stream (sectionsOf s))
 
 -- ---- copying from a position: as many bytes as both the buffer and the rest of the stream have
 
@@ -90,7 +90,7 @@ copyOutput s stream from d = outputFor (copyVerdict s stream from) (streamPart s
 
 -- the bytes of the first `count` sections of an answer
 unfoldable pub listedBytes : List ℕ → StreamSections → List ℕ
-listedBytes s list = joined s (take (list .count) (list .sections))
+listedBytes s list = sectionsData s (take (list .count) (list .sections))
 
 unfoldable pub copyListedAnswer : List ℕ → StreamSections → ℕ → ℕ → Copied
 copyListedAnswer s list from room =

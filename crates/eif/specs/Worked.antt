@@ -9,11 +9,11 @@ use Rattle.octets.specs.Bytes.{beValue, field}
 use Rattle.octets.specs.Over.{over}
 use Rattle.crc32.specs.Crc.{crc32, crcFrom, shiftBits, shiftBit}
 use Rattle.eif.specs.Numbers.{kernel, commandLine, ramdisk, signature, sectionMissing, notPacked}
-use Rattle.eif.specs.Rules.{allowedIn, seen, orderFault, typeFault, missing, firstFault}
+use Rattle.eif.specs.Rules.{allowedIn, seen, orderFault, typeFault, missing, firstFault, fieldFault}
 use Rattle.eif.specs.Answers.{refuse, refuseAt}
 use Rattle.eif.specs.Layout.{offsetAt}
-use Rattle.eif.specs.Reading.{headerRule, entryRule, sectionRule, missingRule, tailRule, checksumRule, positionIn, judged, early, verdictIn, checksumOf, verdictOf, blankSection, sectionsOf}
-use Rattle.eif.specs.Plan.{blankPlace, fieldFault, planFault, planVerdict, packedAt, dataBefore, fixedFields, offsetTable, sizeTable, headerBytes, sectionHeader, sectionBytes, plainImage}
+use Rattle.eif.specs.Reading.{headerFault, entryFault, sectionFault, missingFault, tailFault, checksumFault, positionIn, judged, early, verdictIn, checksumOf, verdictOf, blankSection, sectionsOf}
+use Rattle.eif.specs.Plan.{blankPlace, planFault, planVerdict, packedAt, dataBefore, fixedFields, offsetTable, sizeTable, headerBytes, sectionHeader, sectionBytes, plainImage}
 use Rattle.eif.specs.Roll.{headOf, flagsRecord, rollOf, recordsIn, rollBytes}
 use Rattle.eif.specs.Stream.{keeps, kept, streamSections}
 use Rattle.eif.specs.Rows.{worked}
@@ -32,8 +32,8 @@ plan =
     record {
       version = 2;
       flags = 0;
-      memory = 0;
-      cpus = 0;
+      «default_mem» = 0;
+      «default_cpus» = 0;
       count = 3;
       places = place kernel 1 ∷ place commandLine 1 ∷ place ramdisk 0 ∷ replicate 29 blankPlace;
     }
@@ -54,13 +54,13 @@ unfolding checksumOf crc32 crcFrom shiftBits shiftBit plainImage headerBytes fix
 worked-checksum = refl
 
 pub worked-accepted : verdictOf workedImage ≡ Accepted
-unfolding verdictIn early judged headerRule firstFault sectionRule entryRule allowedIn orderFault seen missingRule tailRule missing checksumRule field beValue checksumOf crc32 crcFrom shiftBits shiftBit plainImage headerBytes fixedFields offsetTable sizeTable packedAt sectionBytes sectionHeader dataBefore
+unfolding verdictIn early judged headerFault fieldFault firstFault sectionFault entryFault allowedIn orderFault seen missingFault tailFault missing checksumFault field beValue checksumOf crc32 crcFrom shiftBits shiftBit plainImage headerBytes fixedFields offsetTable sizeTable packedAt sectionBytes sectionHeader dataBefore
 worked-accepted = refl
 
 -- a byte after the last section is told after 12 and before 13
 
 pub tail-before-checksum : verdictOf (workedImage ++ 0 ∷ []) ≡ refuseAt notPacked 0 586
-unfolding verdictIn early judged headerRule firstFault sectionRule entryRule allowedIn orderFault seen missingRule tailRule missing checksumRule field beValue checksumOf crc32 crcFrom shiftBits shiftBit plainImage headerBytes fixedFields offsetTable sizeTable packedAt sectionBytes sectionHeader dataBefore
+unfolding verdictIn early judged headerFault fieldFault firstFault sectionFault entryFault allowedIn orderFault seen missingFault tailFault missing checksumFault field beValue checksumOf crc32 crcFrom shiftBits shiftBit plainImage headerBytes fixedFields offsetTable sizeTable packedAt sectionBytes sectionHeader dataBefore
 tail-before-checksum = refl
 
 -- version 3 with a kernel and a signature, and no command line
@@ -69,14 +69,14 @@ incomplete =
     record {
       version = 3;
       flags = 0;
-      memory = 0;
-      cpus = 0;
+      «default_mem» = 0;
+      «default_cpus» = 0;
       count = 2;
       places = place kernel 1 ∷ place signature 1 ∷ replicate 30 blankPlace;
     }
 
 pub missing-before-tail : verdictOf (plainImage incomplete (0x4b ∷ 0x61 ∷ []) ++ 0 ∷ []) ≡ refuseAt sectionMissing 0 26
-unfolding verdictIn early judged positionIn headerRule firstFault sectionRule entryRule allowedIn orderFault seen missingRule tailRule missing checksumRule field beValue checksumOf crc32 crcFrom shiftBits shiftBit plainImage headerBytes fixedFields offsetTable sizeTable packedAt sectionBytes sectionHeader dataBefore
+unfolding verdictIn early judged positionIn headerFault fieldFault firstFault sectionFault entryFault allowedIn orderFault seen missingFault tailFault missing checksumFault field beValue checksumOf crc32 crcFrom shiftBits shiftBit plainImage headerBytes fixedFields offsetTable sizeTable packedAt sectionBytes sectionHeader dataBefore
 missing-before-tail = refl
 
 -- the plan alone is at fault, and a plan has no position
@@ -90,16 +90,16 @@ pub record RefusedImage : Type 0 where
   pub image : List ℕ
   pub verdict : Verdict
 
-abbrev refused : List ℕ → Verdict → RefusedImage
-refused image verdict = record { image = image; verdict = verdict }
+abbrev refusedImage : List ℕ → Verdict → RefusedImage
+refusedImage image verdict = record { image = image; verdict = verdict }
 
 abbrev changed : ℕ → List ℕ → Verdict → RefusedImage
-changed at bytes verdict = refused (over workedImage at bytes) verdict
+changed at bytes verdict = refusedImage (over workedImage at bytes) verdict
 
 -- 2 to 5; 6 and 20 at section 1, 7 at section 2; 8, 9 at section 1, 10 at section 0, 11 at section 2; 12, 20, 13
 abbrev pub refusals : List RefusedImage
 refusals =
-    refused (take 547 workedImage) (refuseAt 2 0 0)
+    refusedImage (take 547 workedImage) (refuseAt 2 0 0)
     ∷ changed 3 (0x67 ∷ []) (refuseAt 3 0 0)
     ∷ changed 5 (5 ∷ []) (refuseAt 4 0 4)
     ∷ changed 27 (33 ∷ []) (refuseAt 5 0 26)
@@ -111,12 +111,12 @@ refusals =
     ∷ changed 549 (3 ∷ []) (refuseAt 10 0 548)
     ∷ changed 575 (1 ∷ []) (refuseAt 11 2 574)
     ∷ changed 562 (3 ∷ []) (refuseAt 12 0 26)
-    ∷ refused (workedImage ++ 0 ∷ []) (refuseAt 20 0 586)
+    ∷ refusedImage (workedImage ++ 0 ∷ []) (refuseAt 20 0 586)
     ∷ changed 547 (0 ∷ []) (refuseAt 13 0 544)
     ∷ []
 
 pub refusals-hold : map (λ (r : RefusedImage). verdictOf (r .image)) refusals ≡ map (λ (r : RefusedImage). r .verdict) refusals
-unfolding over verdictIn early judged positionIn headerRule firstFault sectionRule entryRule allowedIn orderFault seen missingRule tailRule missing checksumRule field beValue checksumOf crc32 crcFrom shiftBits shiftBit plainImage headerBytes fixedFields offsetTable sizeTable packedAt sectionBytes sectionHeader dataBefore
+unfolding over verdictIn early judged positionIn headerFault fieldFault firstFault sectionFault entryFault allowedIn orderFault seen missingFault tailFault missing checksumFault field beValue checksumOf crc32 crcFrom shiftBits shiftBit plainImage headerBytes fixedFields offsetTable sizeTable packedAt sectionBytes sectionHeader dataBefore
 refusals-hold = refl
 
 abbrev read : ℕ → ℕ → ℕ → Section

@@ -1,8 +1,8 @@
 // The Enclave Image File: its vocabulary. The definitions that all contracts cite stand in specs/; docs/FORMAT.md has the same
-// rules in words. Nothing here computes but the section type's own test of which version may hold it.
+// rules in words. Nothing here computes but the section type's own tests.
 ghost use mathlib.Core.Path.{_≡_};
 ghost use Rattle.eif.specs.Answers.{refuse, refuseAt};
-ghost use Rattle.eif.specs.Rules.{allowedIn};
+ghost use Rattle.eif.specs.Rules.{bootType, allowedIn};
 
 // ---- limits
 
@@ -39,9 +39,9 @@ impl Header {
 
     pub const FLAGS_AT: usize = 6;
 
-    pub const MEMORY_AT: usize = 8;
+    pub const DEFAULT_MEM_AT: usize = 8;
 
-    pub const CPUS_AT: usize = 16;
+    pub const DEFAULT_CPUS_AT: usize = 16;
 
     pub const RESERVED_AT: usize = 24;
 
@@ -54,6 +54,9 @@ impl Header {
     pub const RESERVED_AFTER_AT: usize = 540;
 
     pub const CHECKSUM_AT: usize = 544;
+
+    // The end of the checksum field, and with it of the header.
+    pub const CHECKSUM_END: usize = Header::CHECKSUM_AT + 4;
 }
 
 // A section's own header: its size and where its fields stand.
@@ -123,6 +126,16 @@ impl SectionType {
 
     pub const METADATA: u16 = 5;
 
+    // Whether a type is kernel, command line or ramdisk: those every version allows, a roll holds, and are measured.
+    pub fn is_boot(number: u16) -> bool
+        ensures { λ r. ⌜ r ≡ bootType number ⌝ }
+    {
+        if number < SectionType::KERNEL {
+            return false;
+        }
+        number <= SectionType::RAMDISK
+    }
+
     // Whether an image of a version may hold a section of a type.
     pub fn allowed(number: u16, version: u16) -> bool
         ensures { λ r. ⌜ r ≡ allowedIn version number ⌝ }
@@ -133,10 +146,7 @@ impl SectionType {
         if number == SectionType::METADATA {
             return METADATA_VERSION <= version;
         }
-        if number < SectionType::KERNEL {
-            return false;
-        }
-        number <= SectionType::RAMDISK
+        SectionType::is_boot(number)
     }
 }
 
@@ -247,18 +257,18 @@ pub struct Section {
     pub length: DataLength,
 }
 
-// `architecture` is the lowest bit of the flags; `memory` and `cpus` are the header's default_mem and default_cpus; `ramdisks` is the
-// ramdisk mark, a term of FORMAT.md: its bit i is one exactly when section i is a ramdisk.
+// `architecture` is the lowest bit of the flags; `ramdisk_mark` is a term of FORMAT.md: its bit i is one exactly when section i
+// is a ramdisk.
 pub struct Reading {
     pub verdict: Verdict,
     pub version: u16,
     pub flags: u16,
     pub architecture: u16,
-    pub memory: u64,
-    pub cpus: u64,
+    pub default_mem: u64,
+    pub default_cpus: u64,
     pub count: u16,
     pub sections: [Section; PLACES],
-    pub ramdisks: u32,
+    pub ramdisk_mark: u32,
 }
 
 // ---- writing an image
@@ -276,8 +286,8 @@ pub struct Place {
 pub struct Plan {
     pub version: u16,
     pub flags: u16,
-    pub memory: u64,
-    pub cpus: u64,
+    pub default_mem: u64,
+    pub default_cpus: u64,
     pub count: u16,
     pub places: [Place; PLACES],
 }

@@ -8,16 +8,12 @@ ghost use mathlib.Core.Path.{_≡_};
 ghost use Prim.Native.Nat.{_+_, _≤_, min};
 ghost use lib.ListN.{length};
 ghost use Rattle.eif.specs.Roll.{recordHeadSize};
-ghost use Rattle.assembler_rules.specs.Records.{pieceSize, numberSize};
-use assembler_rules::PIECE_SIZE;
-use assembler_rules::Record;
-use assembler_rules::State;
-use assembler_rules::Stepped;
-use eif::Reading;
+ghost use Rattle.assembler.specs.Records.{pieceSize, numberSize};
+use assembler::PIECE_SIZE;
+use assembler::Record;
+use assembler::State;
+use assembler::Stepped;
 use eif::RecordHead;
-use eif::Refusal;
-use eif::Section;
-use eif::SectionHeader;
 use eif::Verdict;
 
 // The longest image, and with it the marks.
@@ -33,72 +29,6 @@ const KEPT_REST: usize = KEPT - RecordHead::SIZE;
 
 // The most records that are taken: more than any input has.
 const RECORDS: u64 = 0xFFFFFFFFFFFFFFFF;
-
-// ---- lines
-
-fn text(bytes: &[u8]) {
-    io::write_all(libc::STDOUT_FILENO, bytes);
-}
-
-fn number(n: u64) {
-    io::print_decimal(libc::STDOUT_FILENO, n);
-}
-
-// Where a section's own header stands, which is what the table says of it.
-fn table_offset(section: Section) -> u64 {
-    let header = SectionHeader::SIZE as u64;
-    if section.position.0 < header {
-        return 0;
-    }
-    section.position.0 - header
-}
-
-fn row(index: u64, section: Section) {
-    number(index);
-    text(b" ");
-    number(section.kind as u64);
-    text(b" ");
-    number(table_offset(section));
-    text(b" ");
-    number(section.length.0);
-    text(b"\n");
-}
-
-fn rows(reading: Reading) {
-    let sections = reading.sections;
-    let count = reading.count as usize;
-    for i in 0..eif::PLACES {
-        if i < count {
-            row(i as u64, sections[i]);
-        }
-    }
-}
-
-fn refusal(r: Refusal) {
-    text(b"refused ");
-    number(r.number as u64);
-    text(b" at ");
-    number(r.index);
-    text(b" byte ");
-    number(r.position);
-    text(b"\n");
-}
-
-fn show(image: &[u8]) {
-    let reading = eif_reader::read(image);
-    let verdict = reading.verdict;
-    match verdict {
-        Verdict::Accepted => {
-            text(b"eif ");
-            number(reading.version as u64);
-            text(b" ");
-            number(reading.count as u64);
-            text(b"\n");
-            rows(reading);
-        }
-        Verdict::Refused(r) => refusal(r),
-    }
-}
 
 // ---- the input
 
@@ -172,6 +102,10 @@ fn read_record(sent: &mut [u8]) -> Came
 
 // ---- one record
 
+fn show(image: &[u8]) {
+    eif_lines::show(eif_reader::read(image));
+}
+
 // An accepted record after which no transfer is open was a close.
 fn say(answer: Stepped, image: &[u8]) {
     let verdict = answer.verdict;
@@ -181,7 +115,7 @@ fn say(answer: Stepped, image: &[u8]) {
                 show(&image[..lesser(answer.length, image.len())]);
             }
         }
-        Verdict::Refused(r) => refusal(r),
+        Verdict::Refused(r) => eif_lines::refusal(r),
     }
 }
 
@@ -198,7 +132,7 @@ fn take_record(state: State, image: &mut [u8], marks: &mut [u8]) -> Turn {
     if count == 0 {
         return Turn { state, more: false };
     }
-    let answer = assembler::step(state, &sent[..count], image, marks);
+    let answer = assembler_step::step(state, &sent[..count], image, marks);
     let next = answer.state;
     say(answer, image);
     Turn {
@@ -209,7 +143,7 @@ fn take_record(state: State, image: &mut [u8], marks: &mut [u8]) -> Turn {
 
 // The state at the end of the input.
 fn take_records(image: &mut [u8], marks: &mut [u8]) -> State {
-    let mut state = assembler::new();
+    let mut state = assembler_step::new();
     let mut left = RECORDS;
     while 0 < left {
         let turn = take_record(state, image, marks);
@@ -229,6 +163,6 @@ fn main() {
     let mut marks = [0u8; PLACES];
     let state = take_records(&mut image, &mut marks);
     if state.opened != 0 {
-        text(b"transfer not closed\n");
+        eif_lines::text(b"transfer not closed\n");
     }
 }

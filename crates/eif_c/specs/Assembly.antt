@@ -2,7 +2,7 @@
 -- Assumes nothing.
 use lib.ListN.{replicate}
 use Rattle.eif.specs.Answers.{numberOf, indexOf, positionOf}
-use Rattle.assembler_rules.specs.declared.Stepped.{Stepped}
+use Rattle.assembler.specs.declared.Stepped.{Stepped}
 use Rattle.eif_c.specs.declared.assembly.EifStepped.{EifStepped}
 
 abbrev pub flatStepped : Stepped → EifStepped

@@ -5,6 +5,7 @@ use Prim.Native.Nat.{ℕ}
 use mathlib.Core.List.{map}
 use lib.Count.{ones, trailingZeros}
 use lib.ListN.{replicate}
+use Rattle.eif.specs.Numbers.{placeCount}
 use Rattle.eif.specs.Answers.{numberOf, indexOf, positionOf}
 use Rattle.eif.specs.declared.Section.{Section}
 use Rattle.eif.specs.declared.Reading.{Reading}
@@ -34,11 +35,11 @@ flatReading r =
       count = r .count;
       index = indexOf (r .verdict);
       position = positionOf (r .verdict);
-      memory = r .memory;
-      cpus = r .cpus;
-      ramdisks = r .ramdisks;
-      «ramdisk_count» = ones (r .ramdisks);
-      «first_ramdisk» = trailingZeros 32 (r .ramdisks);
+      «default_mem» = r .«default_mem»;
+      «default_cpus» = r .«default_cpus»;
+      «ramdisk_mark» = r .«ramdisk_mark»;
+      «ramdisk_count» = ones (r .«ramdisk_mark»);
+      «first_ramdisk» = trailingZeros placeCount (r .«ramdisk_mark»);
       architecture = r .architecture;
       «reserved_after» = 0;
       sections = map flatSection (r .sections);

@@ -1,9 +1,9 @@
 // The assembler of an image from pieces, for programs in C and Rust (FORMAT.md, Pieces out of order). A state is a value that the caller
 // keeps, and any value whatever is one.
 ghost use mathlib.Core.Path.{_≡_};
-ghost use Rattle.assembler_rules.specs.Step.{freshState, stepAnswer, imageAfter, marksAfter};
+ghost use Rattle.assembler.specs.Step.{freshState, stepAnswer, imageAfter, marksAfter};
 ghost use Rattle.eif_c.specs.Assembly.{flatStepped};
-use assembler_rules::State;
+use assembler::State;
 
 // The answer to a record; beside a refusal, the state is as it was. `length` is the image length that a close reports. `reserved` is 0.
 #[repr(C)]
@@ -21,7 +21,7 @@ pub struct EifStepped {
 pub extern "C" fn eif_assembler_new() -> State
     ensures { λ r. ⌜ r ≡ freshState ⌝ }
 {
-    assembler::new()
+    assembler_step::new()
 }
 
 #[no_mangle]
@@ -35,7 +35,7 @@ pub extern "C" fn eif_assembler_step(
     ensures { λ _. ⌜ now (image .exit) ≡ imageAfter state (now (sent .entry)) (now (image .entry)) (now (marks .entry)) ⌝ }
     ensures { λ _. ⌜ now (marks .exit) ≡ marksAfter state (now (sent .entry)) (now (image .entry)) (now (marks .entry)) ⌝ }
 {
-    let done = assembler::step(state, sent, image, marks);
+    let done = assembler_step::step(state, sent, image, marks);
     let verdict = done.verdict;
     let next = done.state;
     EifStepped {

@@ -2,7 +2,8 @@
 // position instead of a verdict. A slice is a pointer and a length. include/eif.h declares these functions to C.
 //
 // The digest and the registers stand in measure.rt, the reader of an image that arrives in pieces in arrival.rt, the stricter reading in
-// strict.rt, the COSE_Sign1 of a signature section in signature.rt, the assembler in assembly.rt.
+// strict.rt, the COSE_Sign1 of a signature section in signature.rt, the assembler in assembly.rt, streams of an image already read in
+// sections.rt, an image with one section replaced in staging.rt.
 mod arrival;
 mod assembly;
 mod measure;
@@ -55,9 +56,9 @@ pub struct EifReading {
     pub count: u16,
     pub index: u64,
     pub position: u64,
-    pub memory: u64,
-    pub cpus: u64,
-    pub ramdisks: u32,
+    pub default_mem: u64,
+    pub default_cpus: u64,
+    pub ramdisk_mark: u32,
     pub ramdisk_count: u32,
     pub first_ramdisk: u32,
     pub architecture: u16,
@@ -218,9 +219,9 @@ fn flat_reading(reading: Reading) -> EifReading
         count: reading.count,
         index: index_of(verdict),
         position: position_of(verdict),
-        memory: reading.memory,
-        cpus: reading.cpus,
-        ramdisks: reading.ramdisks,
+        default_mem: reading.default_mem,
+        default_cpus: reading.default_cpus,
+        ramdisk_mark: reading.ramdisk_mark,
         ramdisk_count: eif_judge::ramdisk_count(reading),
         first_ramdisk: eif_judge::first_ramdisk(reading),
         architecture: reading.architecture,
@@ -252,7 +253,7 @@ pub extern "C" fn eif_write(plan: Plan, lent: &[u8], out: &mut [u8]) -> EifAnswe
 pub extern "C" fn eif_plan_length(plan: Plan) -> EifAnswer
     ensures { λ r. ⌜ r ≡ flatWritten (planLength plan) ⌝ }
 {
-    let found = eif_plan::length(plan);
+    let found = plan_judge::length(plan);
     let verdict = found.verdict;
     answer(verdict, found.length)
 }
@@ -263,7 +264,7 @@ pub extern "C" fn eif_plan_length(plan: Plan) -> EifAnswer
 pub extern "C" fn eif_whole_length(image: &[u8]) -> EifAnswer
     ensures { λ r. ⌜ r ≡ flatLength (lengthAnswer (now (image .entry)) Whole) ⌝ }
 {
-    let found = eif_streams::length(image, Stream::Whole);
+    let found = stream_reader::length(image, Stream::Whole);
     let verdict = found.verdict;
     answer(verdict, found.length.0)
 }
@@ -272,7 +273,7 @@ pub extern "C" fn eif_whole_length(image: &[u8]) -> EifAnswer
 pub extern "C" fn eif_boot_length(image: &[u8]) -> EifAnswer
     ensures { λ r. ⌜ r ≡ flatLength (lengthAnswer (now (image .entry)) Boot) ⌝ }
 {
-    let found = eif_streams::length(image, Stream::Boot);
+    let found = stream_reader::length(image, Stream::Boot);
     let verdict = found.verdict;
     answer(verdict, found.length.0)
 }
@@ -281,7 +282,7 @@ pub extern "C" fn eif_boot_length(image: &[u8]) -> EifAnswer
 pub extern "C" fn eif_app_length(image: &[u8]) -> EifAnswer
     ensures { λ r. ⌜ r ≡ flatLength (lengthAnswer (now (image .entry)) App) ⌝ }
 {
-    let found = eif_streams::length(image, Stream::App);
+    let found = stream_reader::length(image, Stream::App);
     let verdict = found.verdict;
     answer(verdict, found.length.0)
 }
@@ -291,7 +292,7 @@ pub extern "C" fn eif_copy_whole(image: &[u8], from: StreamPosition, out: &mut [
     ensures { λ r. ⌜ r ≡ flatCopied (copyAnswer (now (image .entry)) Whole (from .0) (length (now (out .entry)))) ⌝ }
     ensures { λ _. ⌜ now (out .exit) ≡ copyOutput (now (image .entry)) Whole (from .0) (now (out .entry)) ⌝ }
 {
-    let done = eif_streams::copy(image, Stream::Whole, from, out);
+    let done = stream_reader::copy(image, Stream::Whole, from, out);
     let verdict = done.verdict;
     answer(verdict, done.count)
 }
@@ -301,7 +302,7 @@ pub extern "C" fn eif_copy_boot(image: &[u8], from: StreamPosition, out: &mut [u
     ensures { λ r. ⌜ r ≡ flatCopied (copyAnswer (now (image .entry)) Boot (from .0) (length (now (out .entry)))) ⌝ }
     ensures { λ _. ⌜ now (out .exit) ≡ copyOutput (now (image .entry)) Boot (from .0) (now (out .entry)) ⌝ }
 {
-    let done = eif_streams::copy(image, Stream::Boot, from, out);
+    let done = stream_reader::copy(image, Stream::Boot, from, out);
     let verdict = done.verdict;
     answer(verdict, done.count)
 }
@@ -311,7 +312,7 @@ pub extern "C" fn eif_copy_app(image: &[u8], from: StreamPosition, out: &mut [u8
     ensures { λ r. ⌜ r ≡ flatCopied (copyAnswer (now (image .entry)) App (from .0) (length (now (out .entry)))) ⌝ }
     ensures { λ _. ⌜ now (out .exit) ≡ copyOutput (now (image .entry)) App (from .0) (now (out .entry)) ⌝ }
 {
-    let done = eif_streams::copy(image, Stream::App, from, out);
+    let done = stream_reader::copy(image, Stream::App, from, out);
     let verdict = done.verdict;
     answer(verdict, done.count)
 }

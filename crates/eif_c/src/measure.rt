@@ -1,6 +1,6 @@
 // SHA-384 fed in pieces, and the three registers of an image, for programs in C and Rust. A state is a value that the caller keeps.
 ghost use mathlib.Core.Path.{_≡_};
-ghost use Rattle.sha384.specs.State.{fresh, updated, finished};
+ghost use Rattle.sha384.specs.State.{initialState, updated, digestFrom};
 ghost use Rattle.eif_registers.specs.Rule.{registersAnswer};
 ghost use Rattle.eif_c.specs.Measure.{flatFed, flatDigest, flatRegisters};
 use eif_registers::Digest;
@@ -29,7 +29,7 @@ pub struct EifRegisters {
 // The state before the first byte.
 #[no_mangle]
 pub extern "C" fn eif_sha384_begin() -> State
-    ensures { λ r. ⌜ r ≡ fresh ⌝ }
+    ensures { λ r. ⌜ r ≡ initialState ⌝ }
 {
     sha384::new()
 }
@@ -52,7 +52,7 @@ pub extern "C" fn eif_sha384_update(state: State, piece: &[u8]) -> EifSha384Fed
 
 #[no_mangle]
 pub extern "C" fn eif_sha384_finish(state: State) -> Digest
-    ensures { λ r. ⌜ r ≡ flatDigest (finished state) ⌝ }
+    ensures { λ r. ⌜ r ≡ flatDigest (digestFrom state) ⌝ }
 {
     let digest = sha384::finish(state);
     Digest(digest)

@@ -60,7 +60,7 @@ fn read_sections(sections: [EifSection; PLACES]) -> [Section; PLACES]
 fn listed(sections: [EifSection; PLACES], stream: Stream) -> EifStreamSections
     ensures { λ r. ⌜ r ≡ listedOf sections stream ⌝ }
 {
-    let list = eif_streams::sections(read_sections(sections), stream);
+    let list = stream_reader::sections(read_sections(sections), stream);
     let found = list.sections;
     EifStreamSections {
         count: list.count,
@@ -111,7 +111,7 @@ pub extern "C" fn eif_copy_sections(
         count: list.count,
         sections: read_sections(sections),
     };
-    let done = eif_streams::copy_listed(image, found, from, out);
+    let done = stream_reader::copy_listed(image, found, from, out);
     let verdict = done.verdict;
     crate::answer(verdict, done.count)
 }

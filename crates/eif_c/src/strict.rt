@@ -1,7 +1,7 @@
 // The stricter reading of an image, and the check of JSON that it makes, for programs in C and Rust (FORMAT.md, Stricter reading).
 ghost use mathlib.Core.Path.{_≡_};
 ghost use Rattle.json_machine.specs.Machine.{jsonVerdict};
-ghost use Rattle.eif_strict.specs.Strict.{readStrict};
+ghost use Rattle.strict_reader.specs.Strict.{readStrict};
 ghost use Rattle.eif_c.specs.Flat.{flatReading};
 ghost use Rattle.eif_c.specs.Strict.{textFlag, faultPlace, flatJson};
 use json::JsonVerdict;
@@ -46,7 +46,7 @@ fn flat_json(verdict: JsonVerdict) -> EifJson
 pub extern "C" fn eif_read_strict(image: &[u8]) -> crate::EifReading
     ensures { λ r. ⌜ r ≡ flatReading (readStrict (now (image .entry))) ⌝ }
 {
-    crate::flat_reading(eif_strict::read_strict(image))
+    crate::flat_reading(strict_reader::read_strict(image))
 }
 
 #[no_mangle]

@@ -73,8 +73,8 @@ fn worked(image: &mut [u8]) {
 // Version 4 with every type: kernel, command line, two ramdisks, signature, metadata at 548, 561, 574, 588, 601 and 614; 628 bytes.
 fn first_half(image: &mut [u8]) {
     case_images::put_header(image, 4, 1, 6);
-    octets::put_be64(image, Header::MEMORY_AT, 0x0102030405060708);
-    octets::put_be64(image, Header::CPUS_AT, 2);
+    octets::put_be64(image, Header::DEFAULT_MEM_AT, 0x0102030405060708);
+    octets::put_be64(image, Header::DEFAULT_CPUS_AT, 2);
     case_images::put_section(image, 0, 548, SectionType::KERNEL, 0, b"K");
     case_images::put_section(image, 1, 561, SectionType::COMMAND_LINE, 0, b"a");
     case_images::put_section(image, 2, 574, SectionType::RAMDISK, 0, b"r1");
@@ -121,10 +121,10 @@ fn fields(reading: Reading) {
     field(b"version ", reading.version as u64);
     field(b" flags ", reading.flags as u64);
     field(b" architecture ", reading.architecture as u64);
-    field(b" memory ", reading.memory);
-    field(b" cpus ", reading.cpus);
+    field(b" memory ", reading.default_mem);
+    field(b" cpus ", reading.default_cpus);
     field(b" count ", reading.count as u64);
-    field(b" ramdisks ", reading.ramdisks as u64);
+    field(b" ramdisks ", reading.ramdisk_mark as u64);
 }
 
 // Every place of the table, used or not, but for those that are all zero.
@@ -180,7 +180,7 @@ fn small(label: &[u8], a: Change, b: Change) {
     worked(&mut image);
     make(&mut image, a);
     make(&mut image, b);
-    case_images::seal(&mut image);
+    case_images::put_checksum(&mut image);
     answer(label, &image);
 }
 
@@ -190,7 +190,7 @@ fn full(label: &[u8], a: Change, b: Change) {
     first_half(&mut image);
     second_half(&mut image);
     changed(&mut image, a, b);
-    case_images::seal(&mut image);
+    case_images::put_checksum(&mut image);
     answer(label, &image);
 }
 
@@ -202,7 +202,7 @@ fn changed(image: &mut [u8], a: Change, b: Change) {
 fn paired(label: &[u8], version: u16, first: u16, second: u16) {
     let mut image = [0u8; 573];
     pair(&mut image, version, first, second);
-    case_images::seal(&mut image);
+    case_images::put_checksum(&mut image);
     answer(label, &image);
 }
 
@@ -210,7 +210,7 @@ fn paired(label: &[u8], version: u16, first: u16, second: u16) {
 fn after_seal(label: &[u8], a: Change) {
     let mut image = [0u8; 586];
     worked(&mut image);
-    case_images::seal(&mut image);
+    case_images::put_checksum(&mut image);
     make(&mut image, a);
     answer(label, &image);
 }
@@ -228,7 +228,7 @@ fn unsealed(label: &[u8], version: u16, first: u16, second: u16) {
 fn one_off(label: &[u8]) {
     let mut image = [0u8; 586];
     worked(&mut image);
-    case_images::seal(&mut image);
+    case_images::put_checksum(&mut image);
     let sum = octets::be32(&image, Header::CHECKSUM_AT);
     octets::put_be32(&mut image, Header::CHECKSUM_AT, sum ^ 1);
     answer(label, &image);
@@ -238,7 +238,7 @@ fn one_off(label: &[u8]) {
 fn cut(label: &[u8], size: usize) {
     let mut image = [0u8; 586];
     worked(&mut image);
-    case_images::seal(&mut image);
+    case_images::put_checksum(&mut image);
     begins(label, &image, size);
 }
 
@@ -261,7 +261,7 @@ fn zeros_counted(label: &[u8]) {
 fn tail(label: &[u8]) {
     let mut image = [0u8; 587];
     worked(&mut image);
-    case_images::seal(&mut image);
+    case_images::put_checksum(&mut image);
     answer(label, &image);
 }
 
@@ -276,7 +276,7 @@ fn tail_unsealed(label: &[u8]) {
 fn paired_tail(label: &[u8], version: u16, first: u16, second: u16) {
     let mut image = [0u8; 574];
     pair(&mut image, version, first, second);
-    case_images::seal(&mut image);
+    case_images::put_checksum(&mut image);
     answer(label, &image);
 }
 
@@ -286,7 +286,7 @@ fn gap(label: &[u8]) {
     case_images::put_header(&mut image, 2, 0, 2);
     case_images::put_section(&mut image, 0, 548, SectionType::KERNEL, 0, b"K");
     case_images::put_section(&mut image, 1, 562, SectionType::COMMAND_LINE, 0, b"");
-    case_images::seal(&mut image);
+    case_images::put_checksum(&mut image);
     answer(label, &image);
 }
 

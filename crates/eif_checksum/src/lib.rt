@@ -1,13 +1,13 @@
 // The checksum of an image: CRC-32 of every byte but its own four, which are taken out and not read as zero. Total: of a
 // shorter slice, what there is.
 ghost use mathlib.Core.Path.{_≡_};
-ghost use lib.ListN.{take};
-ghost use Rattle.eif.specs.Layout.{checksumAt};
+ghost use lib.ListN.{take, drop};
+ghost use Rattle.eif.specs.Layout.{checksumEnd, checksumAt};
 ghost use Rattle.eif.specs.Reading.{checksumOf};
 use eif::Header;
 
 // The bytes before the checksum's place, or those that there are.
-fn front(image: &[u8]) -> &[u8]
+pub fn front(image: &[u8]) -> &[u8]
     ensures { λ r. ⌜ now r ≡ take checksumAt (now (image .entry)) ⌝ }
 {
     if image.len() < Header::CHECKSUM_AT {
@@ -16,12 +16,19 @@ fn front(image: &[u8]) -> &[u8]
     &image[..Header::CHECKSUM_AT]
 }
 
+// The bytes after it.
+pub fn back(image: &[u8]) -> &[u8]
+    ensures { λ r. ⌜ now r ≡ drop checksumEnd (now (image .entry)) ⌝ }
+{
+    if image.len() < Header::CHECKSUM_END {
+        return &image[image.len()..];
+    }
+    &image[Header::CHECKSUM_END..]
+}
+
 pub fn checksum(image: &[u8]) -> u32
     ensures { λ r. ⌜ r ≡ checksumOf (now (image .entry)) ⌝ }
 {
     let before = crc32::update(crc32::START, front(image));
-    if image.len() <= Header::SIZE {
-        return crc32::finish(before);
-    }
-    crc32::finish(crc32::update(before, &image[Header::SIZE..]))
+    crc32::finish(crc32::update(before, back(image)))
 }

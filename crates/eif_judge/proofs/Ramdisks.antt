@@ -10,11 +10,11 @@ use Rattle.eif.specs.Layout.{View, viewOf, count}
 use Rattle.eif.specs.Reading.{section, blankSection, markOf, ramdiskCount, firstRamdisk, verdictOf, readingOf, readView, readImage}
 use Rattle.eif.specs.declared.Verdict.{Verdict}
 use Rattle.eif.specs.declared.Verdict.the-variants.{Accepted, Refused}
-use Rattle.eif_rules.proofs.Table.{length-filled}
-use Rattle.eif_rules.proofs.Mark.{mark-one-exactly, ones-mark, trailing-mark}
+use Rattle.eif_lemmas.proofs.Table.{length-filled}
+use Rattle.eif_lemmas.proofs.Mark.{mark-one-exactly, ones-mark, trailing-mark}
 
 module _ (v : View) where
-  marked : (x : Verdict) → readingOf v x .ramdisks ≡ markOf (readingOf v x .sections)
+  marked : (x : Verdict) → readingOf v x .«ramdisk_mark» ≡ markOf (readingOf v x .sections)
   unfolding markOf
   marked Accepted = refl
   marked (Refused r) = refl
@@ -24,28 +24,28 @@ module _ (v : View) where
   places (Refused r) = refl
 
   pub bit-in : (x : Verdict) (i : ℕ) →
-      (readingOf v x .ramdisks / 2 ^ i % 2 ≡ 1 → getD (readingOf v x .sections) i blankSection .kind ≡ ramdisk)
-      × (getD (readingOf v x .sections) i blankSection .kind ≡ ramdisk → readingOf v x .ramdisks / 2 ^ i % 2 ≡ 1)
+      (readingOf v x .«ramdisk_mark» / 2 ^ i % 2 ≡ 1 → getD (readingOf v x .sections) i blankSection .kind ≡ ramdisk)
+      × (getD (readingOf v x .sections) i blankSection .kind ≡ ramdisk → readingOf v x .«ramdisk_mark» / 2 ^ i % 2 ≡ 1)
   bit-in x i = rw (marked x) (mark-one-exactly (readingOf v x .sections) i)
 
-  pub count-in : (x : Verdict) → ones (readingOf v x .ramdisks) ≡ ramdiskCount (readingOf v x .sections)
+  pub count-in : (x : Verdict) → ones (readingOf v x .«ramdisk_mark») ≡ ramdiskCount (readingOf v x .sections)
   count-in x = ap ones (marked x) ∙ ones-mark (readingOf v x .sections)
 
-  pub first-in : (x : Verdict) → trailingZeros placeCount (readingOf v x .ramdisks) ≡ firstRamdisk (readingOf v x .sections)
+  pub first-in : (x : Verdict) → trailingZeros placeCount (readingOf v x .«ramdisk_mark») ≡ firstRamdisk (readingOf v x .sections)
   first-in x = ap₂ trailingZeros (sym (places x)) (marked x) ∙ trailing-mark (readingOf v x .sections)
 
 module _ (s : List ℕ) where
   -- of every reading and every place
   pub image-mark-bit : (i : ℕ) → i < placeCount →
-      (readImage s .ramdisks / 2 ^ i % 2 ≡ 1 → getD (readImage s .sections) i blankSection .kind ≡ ramdisk)
-      × (getD (readImage s .sections) i blankSection .kind ≡ ramdisk → readImage s .ramdisks / 2 ^ i % 2 ≡ 1)
+      (readImage s .«ramdisk_mark» / 2 ^ i % 2 ≡ 1 → getD (readImage s .sections) i blankSection .kind ≡ ramdisk)
+      × (getD (readImage s .sections) i blankSection .kind ≡ ramdisk → readImage s .«ramdisk_mark» / 2 ^ i % 2 ≡ 1)
   unfolding readView
   image-mark-bit i h = bit-in (viewOf s) (verdictOf s) i
 
-  pub image-ramdisk-count : ones (readImage s .ramdisks) ≡ ramdiskCount (readImage s .sections)
+  pub image-ramdisk-count : ones (readImage s .«ramdisk_mark») ≡ ramdiskCount (readImage s .sections)
   unfolding readView
   image-ramdisk-count = count-in (viewOf s) (verdictOf s)
 
-  pub image-first-ramdisk : trailingZeros placeCount (readImage s .ramdisks) ≡ firstRamdisk (readImage s .sections)
+  pub image-first-ramdisk : trailingZeros placeCount (readImage s .«ramdisk_mark») ≡ firstRamdisk (readImage s .sections)
   unfolding readView
   image-first-ramdisk = first-in (viewOf s) (verdictOf s)

@@ -11,15 +11,15 @@ use borrow.Author.Tests.{eq-eqb, ne-eqb, le-ltb, le-leb, leb-true, not-false}
 use lib.Dec.{eqb}
 use lib.ListN.{length}
 use Rattle.eif.specs.Numbers.{signatureVersion, metadataVersion, kernel, commandLine, ramdisk, signature, metadata, ramdiskBeforeKernel, typeRepeated}
-use Rattle.eif.specs.Logic.{both, either, choose}
-use Rattle.eif.specs.Rules.{allowedIn, seen, orderFault, missing}
+use Rattle.octets.specs.Logic.{both, either, choose}
+use Rattle.eif.specs.Rules.{allowedIn, seen, orderFault, bootMissing, missing}
 use Rattle.eif.specs.Layout.{viewOf, versionOf, countOf, kindAt, startAt}
-use Rattle.eif.specs.Reading.{sectionRule, checksumOf, verdictOf}
+use Rattle.eif.specs.Reading.{sectionFault, checksumOf, verdictOf}
 use Rattle.eif.specs.Acceptance.{AllowedType, Present, MeetsRules}
 use Rattle.eif.specs.declared.Verdict.the-variants.{Accepted}
-use Rattle.eif_rules.proofs.Logic.{choose-zero, both-true, not-both, either-false, equal-or-not}
-use Rattle.eif_rules.proofs.View.{Header, Sound, sound-of, order-of, no-fault, fault-order}
-use Rattle.eif_rules.proofs.Accept.{Passes, passes, →accepted, file-ends}
+use Rattle.eif_lemmas.proofs.Logic.{choose-zero, both-true, not-both, either-false, equal-or-not}
+use Rattle.eif_lemmas.proofs.View.{Header, Sound, sound-of, order-of, no-fault, fault-order}
+use Rattle.eif_lemmas.proofs.Accept.{Passes, passes, →accepted, file-ends}
 
 -- ---- a test and the fact it stands for
 
@@ -126,12 +126,12 @@ module _ (kinds : ℕ → ℕ) (version n : ℕ) where
   complete→ : missing kinds version n ≡ false → Complete
   unfolding missing
   complete→ e =
-      let a = either-false (not (seen kinds kernel n)) _ e in
-      let b = either-false (not (seen kinds commandLine n)) _ (a .1) in
+      let a = either-false (bootMissing kinds n) _ e in
+      let b = either-false (not (seen kinds kernel n)) _ (a .0) in
       record {
-        kernel-there = not-false _ (a .0);
-        line-there = not-false _ (b .0);
-        metadata-there = λ v. not-false _ (simp (eq-eqb version metadataVersion v) at (b .1));
+        kernel-there = not-false _ (b .0);
+        line-there = not-false _ (b .1);
+        metadata-there = λ v. not-false _ (simp (eq-eqb version metadataVersion v) at (a .1));
       }
 
   →complete : Complete → missing kinds version n ≡ false
@@ -139,11 +139,11 @@ module _ (kinds : ℕ → ℕ) (version n : ℕ) where
   →complete c = ⊎-elim one other (equal-or-not version metadataVersion)
     where
       one : version ≡ metadataVersion
-          → either (not (seen kinds kernel n)) (either (not (seen kinds commandLine n)) (both (eqb version metadataVersion) (not (seen kinds metadata n)))) ≡ false
+          → either (bootMissing kinds n) (both (eqb version metadataVersion) (not (seen kinds metadata n))) ≡ false
       one v = simp (c .kernel-there, c .line-there, c .metadata-there v, eq-eqb version metadataVersion v)
 
       other : (version ≡ metadataVersion → ⊥)
-          → either (not (seen kinds kernel n)) (either (not (seen kinds commandLine n)) (both (eqb version metadataVersion) (not (seen kinds metadata n)))) ≡ false
+          → either (bootMissing kinds n) (both (eqb version metadataVersion) (not (seen kinds metadata n))) ≡ false
       other v = simp (c .kernel-there, c .line-there, ne-eqb version metadataVersion v)
 
 -- ---- the theorem
@@ -226,7 +226,7 @@ module _ (s : List ℕ) where
           go false e = refl
           go true e = let f = seen→ (kindAt s) (kindAt s i) i e in absurd (r (m .single i (f .0) (f .1) l (f .2)))
 
-      section : (i : ℕ) → i < countOf s → sectionRule (viewOf s) i ≡ 0
+      section : (i : ℕ) → i < countOf s → sectionFault (viewOf s) i ≡ 0
       section i l =
           fault-order (viewOf s) i (no-fault (viewOf s) i (m .starts i l) (m .in-file i l) (m .sizes-agree i l) (→allowed (versionOf s) (kindAt s i) (m .types-allowed i l)))
           ∙ order-zero (kindAt s) i (λ r. found kernel i (m .kernel-before i l r)) (alone i l)

@@ -1,4 +1,4 @@
--- What the checksum promises (PROMISES.md, Ticket 14): damage within four neighbouring bytes is always seen, and so is damage to the
+-- What the checksum promises (PROMISES.md): damage within four neighbouring bytes is always seen, and so is damage to the
 -- checksum alone. Images are byte strings, and nothing else is assumed.
 use Prim.Native.Nat.{ℕ, _+_, _-_, _≤_, min}
 use mathlib.Core.Path.{_≡_, sym, ap, ap₂, _∙_}

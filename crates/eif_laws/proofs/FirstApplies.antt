@@ -9,15 +9,15 @@ use borrow.Author.Tests.{eq-eqb}
 use lib.Dec.{ltb, leb, eqb}
 use lib.ListN.{length}
 use Rattle.octets.specs.Bytes.{leField}
-use Rattle.eif.specs.Numbers.{sizeLimit, placeCount, oldestVersion, kernel, ramdisk, sectionMissing, checksumDiffers, notPacked, outputTooShort, pastStreamEnd}
-use Rattle.eif.specs.Logic.{both, either, choose}
+use Rattle.eif.specs.Numbers.{sizeLimit, placeCount, kernel, ramdisk, sectionMissing, checksumDiffers, notPacked, outputTooShort, pastStreamEnd, imageTooLong, imageTooShort, wrongMagic, wrongVersion, wrongCount, startsEarly, endsLate, sizesDiffer, typeNotAllowed, ramdiskBeforeKernel, typeRepeated, dataLengthDiffers, recordCut, recordTypeWrong, bytesAfterEnd}
+use Rattle.octets.specs.Logic.{both, either, choose}
 use Rattle.eif.specs.Answers.{refuse, refuseAt, andThen, wholeAt, wholeVerdict}
-use Rattle.eif.specs.Rules.{versionKnown, countKnown, allowedIn, seen, orderFault, typeFault, missing, firstFault}
-use Rattle.eif.specs.Layout.{magicNumber, headerSize, countAt, checksumAt, View, viewOf, magic, version, count, offsetEntry, offset, size, checksum, end, start}
-use Rattle.eif.specs.Reading.{headerRule, entryRule, sectionRule, hasTail, missingRule, tailRule, checksumRule, positionIn, located, judged, early, verdictIn, checksumOf, verdictOf}
-use Rattle.eif.specs.Plan.{plannedKind, plainSize, dataBefore, fieldFault, sizeFault, planFault, planVerdict, writeVerdict, planLength}
+use Rattle.eif.specs.Rules.{versionKnown, countKnown, allowedIn, seen, orderFault, typeFault, bootMissing, missing, firstFault, fieldFault}
+use Rattle.eif.specs.Layout.{magicNumber, headerSize, offsetsAt, versionAt, countAt, checksumAt, View, viewOf, magic, version, count, offsetEntry, offset, size, checksum, end, start}
+use Rattle.eif.specs.Reading.{headerFault, entryFault, sectionFault, hasTail, missingFault, tailFault, checksumFault, positionIn, located, judged, early, verdictIn, checksumOf, verdictOf}
+use Rattle.eif.specs.Plan.{plannedKind, plainSize, dataBefore, sizeFault, planFault, planVerdict, writeVerdict, planLength}
 use Rattle.eif.specs.Stream.{streamOf, copyVerdict, copyListedAnswer, lengthAnswer}
-use Rattle.eif.specs.Roll.{recordHeadSize, flagsType, flagsLength, flagsRecordSize, flagsFault, rollFlags, restOf, recordAt, recordStart, recordSize, recordKind, isEnd, imageSize, rollBytes, rollVerdict, rollLength, Ending, ended, stopped, stopVerdict, endVerdict, headFault, bodyFault, rollFault, endFrom, refusedRoll, rollAnswerFor, readRest, readRoll}
+use Rattle.eif.specs.Roll.{recordHeadSize, recordTypeAt, flagsType, flagsLength, flagsRecordSize, flagsFault, rollFlags, restOf, recordAt, recordStart, recordSize, recordKind, isEnd, sizeAsImage, rollBytes, rollVerdict, rollLength, Ending, ended, stopped, stopVerdict, endVerdict, headFault, bodyFault, rollFault, endFrom, refusedRoll, rollAnswerFor, readRest, readRoll}
 use Rattle.eif.specs.Order.{Rule, rule, firstThatApplies, orderRules, typeRules, rulesFrom, headerRules, sectionRules, viewRules, imageRules, planRules, writeRules, copyRules, copyListedRules, rollWriteRules, flagsRules, headRules, bodyRules, endRules, rollRulesFrom, rollRules}
 use Rattle.eif.specs.declared.Plan.{Plan}
 use Rattle.eif.specs.declared.RollReading.{RollReading}
@@ -25,7 +25,7 @@ use Rattle.eif.specs.declared.Stream.{Stream}
 use Rattle.eif.specs.declared.StreamSections.{StreamSections}
 use Rattle.eif.specs.declared.Verdict.{Verdict}
 use Rattle.eif.specs.declared.Verdict.the-variants.{Accepted, Refused}
-use Rattle.eif_rules.proofs.Verdicts.{then-none}
+use Rattle.eif_lemmas.proofs.Verdicts.{then-none}
 
 -- ---- lists of rules, one after the other
 
@@ -64,10 +64,10 @@ walk-first f none split rules fault h (suc n) i =
 
 -- is it a ramdisk, was a kernel seen, was its type seen
 abbrev order : Bool → Bool → Bool → ℕ
-order r k t = choose r (choose k 0 10) (choose t 11 0)
+order r k t = choose r (choose k 0 ramdiskBeforeKernel) (choose t typeRepeated 0)
 
 order-by : (r k t : Bool) (i p : ℕ)
-    → choose (both r (not k)) (refuseAt 10 i p) (choose (both (not r) t) (refuseAt 11 i p) Accepted) ≡ at (order r k t) i p
+    → choose (both r (not k)) (refuseAt ramdiskBeforeKernel i p) (choose (both (not r) t) (refuseAt typeRepeated i p) Accepted) ≡ at (order r k t) i p
 order-by true true t i p = refl
 order-by true false t i p = refl
 order-by false k true i p = refl
@@ -77,14 +77,14 @@ order-first : (kinds : ℕ → ℕ) (i index p : ℕ) → firstThatApplies (orde
 unfolding firstThatApplies orderRules orderFault
 order-first kinds i index p = order-by (eqb (kinds i) ramdisk) (seen kinds kernel i) (seen kinds (kinds i) i) index p
 
-type-by : (d : Bool) (fault i p : ℕ) → choose d (refuseAt 9 i p) (at fault i p) ≡ at (choose d 9 fault) i p
+type-by : (d : Bool) (fault i p : ℕ) → choose d (refuseAt typeNotAllowed i p) (at fault i p) ≡ at (choose d typeNotAllowed fault) i p
 type-by true fault i p = refl
 type-by false fault i p = refl
 
 type-first : (version : ℕ) (kinds : ℕ → ℕ) (i p : ℕ) → firstThatApplies (typeRules version kinds i p) ≡ at (typeFault version kinds i) i p
 unfolding firstThatApplies typeRules typeFault
 type-first version kinds i p =
-    ap (choose (not (allowedIn version (kinds i))) (refuseAt 9 i p)) (order-first kinds i i p)
+    ap (choose (not (allowedIn version (kinds i))) (refuseAt typeNotAllowed i p)) (order-first kinds i i p)
     ∙ type-by (not (allowedIn version (kinds i))) (orderFault kinds (kinds i) i) i p
 
 -- ---- reading an image
@@ -95,8 +95,8 @@ module _ (h : ℕ → ℕ → ℕ) where
   located-then (Refused r) w = refl
 
   five : (a b c d e : Bool)
-      → choose a (refuseAt 1 0 0) (choose b (refuseAt 2 0 0) (choose c (refuseAt 3 0 0) (choose d (refuseAt 4 0 4) (choose e (refuseAt 5 0 26) Accepted))))
-      ≡ located h (wholeVerdict (choose a 1 (choose b 2 (choose c 3 (choose d 4 (choose e 5 0))))))
+      → choose a (refuseAt imageTooLong 0 0) (choose b (refuseAt imageTooShort 0 0) (choose c (refuseAt wrongMagic 0 0) (choose d (refuseAt wrongVersion 0 versionAt) (choose e (refuseAt wrongCount 0 countAt) Accepted))))
+      ≡ located h (wholeVerdict (choose a imageTooLong (choose b imageTooShort (choose c wrongMagic (choose d wrongVersion (choose e wrongCount 0))))))
   unfolding positionIn
   five true b c d e = refl
   five false true c d e = refl
@@ -115,10 +115,10 @@ module _ (h : ℕ → ℕ → ℕ) where
 
   -- 6, 20, 7, 8 and 9
   abbrev entry : Bool → Bool → Bool → Bool → Bool → ℕ
-  entry a p b c d = choose a 6 (choose p 20 (choose b 7 (choose c 8 (choose d 9 0))))
+  entry a p b c d = choose a startsEarly (choose p notPacked (choose b endsLate (choose c sizesDiffer (choose d typeNotAllowed 0))))
 
   entry-by : (a p b c d : Bool) (fault i : ℕ) → at fault i (offsetEntry h i) ≡ located h (at fault i 0)
-      → choose a (refuseAt 6 i (28 + 8 * i)) (choose p (refuseAt 20 i (28 + 8 * i)) (choose b (refuseAt 7 i (28 + 8 * i)) (choose c (refuseAt 8 i (offsetEntry h i)) (at (choose d 9 fault) i (offsetEntry h i)))))
+      → choose a (refuseAt startsEarly i (offsetsAt + 8 * i)) (choose p (refuseAt notPacked i (offsetsAt + 8 * i)) (choose b (refuseAt endsLate i (offsetsAt + 8 * i)) (choose c (refuseAt sizesDiffer i (offsetEntry h i)) (at (choose d typeNotAllowed fault) i (offsetEntry h i)))))
       ≡ located h (at (choose (eqb (entry a p b c d) 0) fault (entry a p b c d)) i 0)
   unfolding positionIn
   entry-by true p b c d fault i e = refl
@@ -129,21 +129,21 @@ module _ (h : ℕ → ℕ → ℕ) where
   entry-by false false false false false fault i e = e
 
   last-by : (a t b : Bool) (past : ℕ)
-      → choose a (refuseAt 12 0 26) (choose t (refuseAt 20 0 past) (choose b (refuseAt 13 0 544) Accepted))
-      ≡ andThen (located h (wholeVerdict (choose a 12 0))) (andThen (wholeAt (choose t 20 0) past) (wholeAt (choose b 13 0) 544))
+      → choose a (refuseAt sectionMissing 0 countAt) (choose t (refuseAt notPacked 0 past) (choose b (refuseAt checksumDiffers 0 checksumAt) Accepted))
+      ≡ andThen (located h (wholeVerdict (choose a sectionMissing 0))) (andThen (wholeAt (choose t notPacked 0) past) (wholeAt (choose b checksumDiffers 0) checksumAt))
   unfolding positionIn
   last-by true t b past = refl
   last-by false true b past = refl
   last-by false false true past = refl
   last-by false false false past = refl
 
-header-first : (v : View) → firstThatApplies (headerRules v) ≡ located (v .header) (wholeVerdict (headerRule v))
-unfolding firstThatApplies headerRules headerRule
+header-first : (v : View) → firstThatApplies (headerRules v) ≡ located (v .header) (wholeVerdict (headerFault v))
+unfolding firstThatApplies headerRules headerFault fieldFault
 header-first v =
     five (v .header) (ltb sizeLimit (v .size)) (ltb (v .size) headerSize) (not (eqb (magic v) magicNumber)) (not (versionKnown (version v))) (not (countKnown (count v)))
 
-section-first : (v : View) (i : ℕ) → firstThatApplies (sectionRules v i) ≡ located (v .header) (at (sectionRule v i) i 0)
-unfolding firstThatApplies sectionRules sectionRule entryRule typeFault orderFault
+section-first : (v : View) (i : ℕ) → firstThatApplies (sectionRules v i) ≡ located (v .header) (at (sectionFault v i) i 0)
+unfolding firstThatApplies sectionRules sectionFault entryFault typeFault orderFault
 section-first v i =
     let a : Bool = ltb (offset v i) (start v i) in
     let p : Bool = not (eqb (offset v i) (start v i)) in
@@ -151,8 +151,8 @@ section-first v i =
     let c : Bool = not (eqb (v .ownSize i) (size v i)) in
     let d : Bool = not (allowedIn (version v) (v .kind i)) in
     let own = order-own (v .header) (eqb (v .kind i) ramdisk) (seen (v .kind) kernel i) (seen (v .kind) (v .kind i) i) i in
-    let entry : ℕ = 28 + 8 * i in
-    ap (λ (x : Verdict). choose a (refuseAt 6 i entry) (choose p (refuseAt 20 i entry) (choose b (refuseAt 7 i entry) (choose c (refuseAt 8 i (offset v i)) x)))) (type-first (version v) (v .kind) i (offset v i))
+    let entry : ℕ = offsetsAt + 8 * i in
+    ap (λ (x : Verdict). choose a (refuseAt startsEarly i entry) (choose p (refuseAt notPacked i entry) (choose b (refuseAt endsLate i entry) (choose c (refuseAt sizesDiffer i (offset v i)) x)))) (type-first (version v) (v .kind) i (offset v i))
     ∙ entry-by (v .header) a p b c d (orderFault (v .kind) (v .kind i) i) i own
 
 then-assoc : (a b c : Verdict) → andThen a (andThen b c) ≡ andThen (andThen a b) c
@@ -166,7 +166,7 @@ then-then (Refused r) b c d = refl
 
 -- the verdict on a view, and so on an image, is that of the first rule that applies
 pub view-first : (v : View) (computed : ℕ) → verdictIn v computed ≡ firstThatApplies (viewRules v computed)
-unfolding viewRules verdictIn early judged missingRule tailRule checksumRule firstThatApplies
+unfolding viewRules verdictIn early judged missingFault tailFault checksumFault firstThatApplies
 view-first v computed =
     let m : Bool = missing (v .kind) (version v) (count v) in
     let c : Bool = not (eqb (checksum v) computed) in
@@ -174,8 +174,8 @@ view-first v computed =
     let past : ℕ = start v (count v) in
     let last : List Rule = rule m sectionMissing 0 countAt ∷ rule t notPacked 0 past ∷ rule c checksumDiffers 0 checksumAt ∷ [] in
     let sections : List Rule = rulesFrom (sectionRules v) (count v) 0 in
-    let head : Verdict = wholeVerdict (headerRule v) in
-    let walk : Verdict = firstFault (sectionRule v) (count v) 0 in
+    let head : Verdict = wholeVerdict (headerFault v) in
+    let walk : Verdict = firstFault (sectionFault v) (count v) 0 in
     let lack : Verdict = wholeVerdict (choose m sectionMissing 0) in
     let tail : Verdict = wholeAt (choose t notPacked 0) past in
     let sum : Verdict = wholeAt (choose c checksumDiffers 0) checksumAt in
@@ -185,7 +185,7 @@ view-first v computed =
     (first-append (headerRules v) (sections ++ last)
     ∙ ap₂ andThen (header-first v)
     (first-append sections last
-    ∙ ap₂ andThen (walk-first f refl split (sectionRules v) (sectionRule v) (section-first v) (count v) 0) (last-by (v .header) m t c past))
+    ∙ ap₂ andThen (walk-first f refl split (sectionRules v) (sectionFault v) (section-first v) (count v) 0) (last-by (v .header) m t c past))
     ∙ then-then (f head) (f walk) (f lack) (andThen tail sum)
     ∙ ap (λ (x : Verdict). andThen x (andThen tail sum)) (sym (split head (andThen walk lack) ∙ ap (andThen (f head)) (split walk lack)))
     ∙ then-assoc (f (andThen head (andThen walk lack))) tail sum)
@@ -225,19 +225,19 @@ roll-length-first s = read-first s
 
 -- ---- writing an image
 
-fields-by : (a b : Bool) (w : Verdict) → choose a (refuse 4 0) (choose b (refuse 5 0) w) ≡ andThen (wholeVerdict (choose a 4 (choose b 5 0))) w
+fields-by : (a b : Bool) (w : Verdict) → choose a (refuse wrongVersion 0) (choose b (refuse wrongCount 0) w) ≡ andThen (wholeVerdict (choose a wrongVersion (choose b wrongCount 0))) w
 fields-by true b w = refl
 fields-by false true w = refl
 fields-by false false w = refl
 
 -- 12, 1 and 15 together, or 12 and 1 and then 15
-plan-by : (a b c : Bool) → wholeVerdict (choose a 12 (choose b 1 (choose c 15 0))) ≡ andThen (choose a (refuse 12 0) (choose b (refuse 1 0) Accepted)) (choose c (refuse 15 0) Accepted)
+plan-by : (a b c : Bool) → wholeVerdict (choose a sectionMissing (choose b imageTooLong (choose c dataLengthDiffers 0))) ≡ andThen (choose a (refuse sectionMissing 0) (choose b (refuse imageTooLong 0) Accepted)) (choose c (refuse dataLengthDiffers 0) Accepted)
 plan-by true b c = refl
 plan-by false true c = refl
 plan-by false false true = refl
 plan-by false false false = refl
 
-then-room : (a : Verdict) (c : Bool) (w : Verdict) → andThen (andThen a (choose c (refuse 15 0) Accepted)) w ≡ andThen a (choose c (refuse 15 0) w)
+then-room : (a : Verdict) (c : Bool) (w : Verdict) → andThen (andThen a (choose c (refuse dataLengthDiffers 0) Accepted)) w ≡ andThen a (choose c (refuse dataLengthDiffers 0) w)
 then-room Accepted true w = refl
 then-room Accepted false w = refl
 then-room (Refused r) c w = refl
@@ -247,24 +247,24 @@ module _ (p : Plan) where
   abbrev differs : ℕ → Bool
   differs given = not (eqb given (dataBefore (p .places) (p .count)))
 
-  plan-then : (given : ℕ) → planVerdict p given ≡ andThen (firstThatApplies (planRules p)) (choose (differs given) (refuse 15 0) Accepted)
+  plan-then : (given : ℕ) → planVerdict p given ≡ andThen (firstThatApplies (planRules p)) (choose (differs given) (refuse dataLengthDiffers 0) Accepted)
   unfolding planVerdict fieldFault planFault sizeFault planRules firstThatApplies
   plan-then given =
       let kinds : ℕ → ℕ = plannedKind (p .places) in
       let m : Bool = missing kinds (p .version) (p .count) in
       let l : Bool = ltb sizeLimit (plainSize p) in
-      let last : List Rule = rule m sectionMissing 0 0 ∷ rule l 1 0 0 ∷ [] in
+      let last : List Rule = rule m sectionMissing 0 0 ∷ rule l imageTooLong 0 0 ∷ [] in
       let types : ℕ → List Rule = λ i. typeRules (p .version) kinds i 0 in
       let sections : List Rule = rulesFrom types (p .count) 0 in
       let walk : Verdict = firstFault (typeFault (p .version) kinds) (p .count) 0 in
       let v : Bool = not (versionKnown (p .version)) in
       let n : Bool = not (countKnown (p .count)) in
-      let fields : Verdict = wholeVerdict (choose v 4 (choose n 5 0)) in
+      let fields : Verdict = wholeVerdict (choose v wrongVersion (choose n wrongCount 0)) in
       ap (λ (x : Verdict). andThen fields (andThen walk x)) (plan-by m l (differs given))
-      ∙ then-then fields walk (firstThatApplies last) (choose (differs given) (refuse 15 0) Accepted)
-      ∙ ap (λ (x : Verdict). andThen x (choose (differs given) (refuse 15 0) Accepted))
+      ∙ then-then fields walk (firstThatApplies last) (choose (differs given) (refuse dataLengthDiffers 0) Accepted)
+      ∙ ap (λ (x : Verdict). andThen x (choose (differs given) (refuse dataLengthDiffers 0) Accepted))
       (sym
-      (ap (λ (x : Verdict). choose v (refuse 4 0) (choose n (refuse 5 0) x))
+      (ap (λ (x : Verdict). choose v (refuse wrongVersion 0) (choose n (refuse wrongCount 0) x))
       (first-append sections last ∙ ap (λ (x : Verdict). andThen x (firstThatApplies last)) (walk-first (λ v. v) refl (λ v w. refl) types (typeFault (p .version) kinds) (λ i. type-first (p .version) kinds i 0) (p .count) 0))
       ∙ fields-by v n (andThen walk (firstThatApplies last))))
 
@@ -274,14 +274,14 @@ module _ (p : Plan) where
       let o : Bool = ltb room (plainSize p) in
       ap (λ (x : Verdict). andThen x (choose o (refuse outputTooShort 0) Accepted)) (plan-then given)
       ∙ then-room (firstThatApplies (planRules p)) (differs given) (choose o (refuse outputTooShort 0) Accepted)
-      ∙ sym (first-append (planRules p) (rule (differs given) 15 0 0 ∷ rule o outputTooShort 0 0 ∷ []))
+      ∙ sym (first-append (planRules p) (rule (differs given) dataLengthDiffers 0 0 ∷ rule o outputTooShort 0 0 ∷ []))
 
   -- the length of a plan's image
   pub plan-length-first : planLength p .verdict ≡ firstThatApplies (planRules p)
   unfolding planLength
   plan-length-first =
       plan-then (dataBefore (p .places) (p .count))
-      ∙ ap (λ (b : Bool). andThen (firstThatApplies (planRules p)) (choose (not b) (refuse 15 0) Accepted)) (eq-eqb (dataBefore (p .places) (p .count)) _ refl)
+      ∙ ap (λ (b : Bool). andThen (firstThatApplies (planRules p)) (choose (not b) (refuse dataLengthDiffers 0) Accepted)) (eq-eqb (dataBefore (p .places) (p .count)) _ refl)
       ∙ then-none (firstThatApplies (planRules p))
 
 -- ---- reading a roll
@@ -294,8 +294,8 @@ module _ (s : List ℕ) where
 
   -- the rules on a head, and what follows it
   head-by : (a b c : Bool) (i : ℕ) (x : Ending) (w : Verdict) → w ≡ endingVerdict x
-      → andThen (choose a (refuseAt 16 (suc i) (recordStart s i)) (choose (either b c) (refuseAt 17 (suc i) (recordStart s i)) Accepted)) w
-      ≡ endingVerdict (choose (eqb (choose a 16 (choose b 17 (choose c 17 0))) 0) x (stopped (choose a 16 (choose b 17 (choose c 17 0))) i))
+      → andThen (choose a (refuseAt recordCut (suc i) (recordStart s i)) (choose (either b c) (refuseAt recordTypeWrong (suc i) (recordStart s i)) Accepted)) w
+      ≡ endingVerdict (choose (eqb (choose a recordCut (choose b recordTypeWrong (choose c recordTypeWrong 0))) 0) x (stopped (choose a recordCut (choose b recordTypeWrong (choose c recordTypeWrong 0))) i))
   head-by true b c i x w e = refl
   head-by false true c i x w e = refl
   head-by false false true i x w e = refl
@@ -303,8 +303,8 @@ module _ (s : List ℕ) where
 
   -- the rules on the rest of a record, and what follows it
   body-by : (a b r k t : Bool) (i : ℕ) (x : Ending) (w : Verdict) → w ≡ endingVerdict x
-      → andThen (choose a (refuseAt 5 0 (recordStart s i)) (choose b (refuseAt 16 (suc i) (recordStart s i)) (at (order r k t) (suc i) (recordStart s i)))) w
-      ≡ endingVerdict (choose (eqb (choose a 5 (choose b 16 (order r k t))) 0) x (stopped (choose a 5 (choose b 16 (order r k t))) i))
+      → andThen (choose a (refuseAt wrongCount 0 (recordStart s i)) (choose b (refuseAt recordCut (suc i) (recordStart s i)) (at (order r k t) (suc i) (recordStart s i)))) w
+      ≡ endingVerdict (choose (eqb (choose a wrongCount (choose b recordCut (order r k t))) 0) x (stopped (choose a wrongCount (choose b recordCut (order r k t))) i))
   body-by true b r k t i x w e = refl
   body-by false true r k t i x w e = refl
   body-by false false true true t i x w e = e
@@ -313,8 +313,8 @@ module _ (s : List ℕ) where
   body-by false false false k false i x w e = e
 
   end-by : (n : ℕ) (a b c : Bool)
-      → choose a (refuseAt 18 0 (recordStart s n + recordHeadSize)) (choose b (refuse 12 0) (choose c (refuse 1 0) Accepted))
-      ≡ choose (eqb (choose a 18 (choose b 12 (choose c 1 0))) 0) Accepted (endVerdict s (choose a 18 (choose b 12 (choose c 1 0))) n)
+      → choose a (refuseAt bytesAfterEnd 0 (recordStart s n + recordHeadSize)) (choose b (refuse sectionMissing 0) (choose c (refuse imageTooLong 0) Accepted))
+      ≡ choose (eqb (choose a bytesAfterEnd (choose b sectionMissing (choose c imageTooLong 0))) 0) Accepted (endVerdict s (choose a bytesAfterEnd (choose b sectionMissing (choose c imageTooLong 0))) n)
   end-by n true b c = refl
   end-by n false true c = refl
   end-by n false false true = refl
@@ -322,7 +322,7 @@ module _ (s : List ℕ) where
 
   end-first : (n : ℕ) → firstThatApplies (endRules s n) ≡ endingVerdict (ended n)
   unfolding firstThatApplies endRules rollFault
-  end-first n = end-by n (ltb (recordAt s n + recordHeadSize) (length s)) (missing (recordKind s) oldestVersion n) (ltb sizeLimit (imageSize s n))
+  end-first n = end-by n (ltb (recordAt s n + recordHeadSize) (length s)) (bootMissing (recordKind s) n) (ltb sizeLimit (sizeAsImage s n))
 
   either-way : (e : Bool) (x y : List Rule) (p q : Ending) → firstThatApplies x ≡ endingVerdict p → firstThatApplies y ≡ endingVerdict q
       → firstThatApplies (choose e x y) ≡ endingVerdict (choose e p q)
@@ -339,7 +339,7 @@ module _ (s : List ℕ) where
       let k : Bool = seen (recordKind s) kernel i in
       let t : Bool = seen (recordKind s) (recordKind s i) i in
       first-append (bodyRules s i) rest
-      ∙ ap (λ (o : Verdict). andThen (choose a (refuseAt 5 0 (recordStart s i)) (choose b (refuseAt 16 (suc i) (recordStart s i)) o)) (firstThatApplies rest)) (order-first (recordKind s) i (suc i) (recordStart s i))
+      ∙ ap (λ (o : Verdict). andThen (choose a (refuseAt wrongCount 0 (recordStart s i)) (choose b (refuseAt recordCut (suc i) (recordStart s i)) o)) (firstThatApplies rest)) (order-first (recordKind s) i (suc i) (recordStart s i))
       ∙ body-by a b r k t i x (firstThatApplies rest) e
 
   records-first : (n i : ℕ) → firstThatApplies (rollRulesFrom s n i) ≡ endingVerdict (endFrom s n i)
@@ -369,8 +369,8 @@ module _ (s : List ℕ) where
 
 -- the rules on the flags record, and what follows it
 flags-by : (a b c : Bool) (x : RollReading) (w : Verdict) → x .verdict ≡ w
-    → choose (eqb (choose a 16 (choose b 17 (choose c 16 0))) 0) x (refusedRoll (refuse (choose a 16 (choose b 17 (choose c 16 0))) 0)) .verdict
-    ≡ andThen (choose a (refuse 16 0) (choose b (refuse 17 0) (choose c (refuse 16 0) Accepted))) w
+    → choose (eqb (choose a recordCut (choose b recordTypeWrong (choose c recordCut 0))) 0) x (refusedRoll (refuse (choose a recordCut (choose b recordTypeWrong (choose c recordCut 0))) 0)) .verdict
+    ≡ andThen (choose a (refuse recordCut 0) (choose b (refuse recordTypeWrong 0) (choose c (refuse recordCut 0) Accepted))) w
 flags-by true b c x w e = refl
 flags-by false true c x w e = refl
 flags-by false false true x w e = refl
@@ -380,6 +380,6 @@ pub roll-read-first : (s : List ℕ) → readRoll s .verdict ≡ firstThatApplie
 unfolding readRoll flagsFault flagsRules firstThatApplies
 roll-read-first s =
     let rest : List Rule = rollRulesFrom (restOf s) (suc placeCount) 0 in
-    flags-by (ltb (length s) recordHeadSize) (either (not (eqb (leField 2 8 s) flagsType)) (not (eqb (leField 8 0 s) flagsLength))) (ltb (length s) flagsRecordSize)
+    flags-by (ltb (length s) recordHeadSize) (either (not (eqb (leField 2 recordTypeAt s) flagsType)) (not (eqb (leField 8 0 s) flagsLength))) (ltb (length s) flagsRecordSize)
     (readRest (rollFlags s) (restOf s)) (firstThatApplies rest) (rest-first (restOf s) (rollFlags s))
     ∙ sym (first-append (flagsRules s) rest)

@@ -11,8 +11,8 @@ use Rattle.eif.specs.Acceptance.{MeetsRules}
 use Rattle.eif.specs.declared.Reading.{Reading}
 use Rattle.eif.specs.declared.Section.{Section}
 use Rattle.eif.specs.declared.Verdict.the-variants.{Accepted}
-use Rattle.eif_rules.proofs.Reading.{reading-accepted}
-use Rattle.eif_rules.proofs.Table.{filled-at, filled-past}
+use Rattle.eif_lemmas.proofs.Reading.{reading-accepted}
+use Rattle.eif_lemmas.proofs.Table.{filled-at, filled-past}
 use Rattle.eif_laws.proofs.Acceptance.{accepted-exactly-when}
 
 module _ (s : List ℕ) (meets : MeetsRules s) where

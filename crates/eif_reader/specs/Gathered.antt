@@ -8,6 +8,6 @@ use Rattle.eif.specs.Layout.{sectionHeaderSize, offsetAt}
 
 -- the own headers of the sections before n, one after the other: of each whose offset points at as many bytes of the image
 abbrev pub Gathered : List ℕ → List ℕ → ℕ → Type 0
-Gathered image heads n =
+Gathered image headers n =
     (i : ℕ) → i < n → offsetAt image i + sectionHeaderSize ≤ length image
-    → take sectionHeaderSize (drop (sectionHeaderSize * i) heads) ≡ take sectionHeaderSize (drop (offsetAt image i) image)
+    → take sectionHeaderSize (drop (sectionHeaderSize * i) headers) ≡ take sectionHeaderSize (drop (offsetAt image i) image)

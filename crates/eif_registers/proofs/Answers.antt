@@ -1,36 +1,33 @@
 -- The registers of an accepted image by the step over its reading; and the answers.
 -- Assumes nothing.
-use Prim.Native.Nat.{ℕ, _≤_}
-use mathlib.Core.Path.{_≡_, refl, sym, ap, ap₂, _∙_}
-use mathlib.Core.List.{List, [], _∷_, _++_}
+use Prim.Native.Nat.{ℕ}
+use mathlib.Core.Path.{_≡_, ap, _∙_}
+use mathlib.Core.List.{List, [], _∷_}
 use native.Mathlib.Omega.{arith}
-use lib.ListN.{length, replicate}
+use lib.ListN.{getD, length}
 use Rattle.eif.specs.Numbers.{placeCount}
-use Rattle.eif.specs.Layout.{viewOf, countOf}
+use Rattle.eif.specs.Layout.{countOf}
 use Rattle.eif.specs.Reading.{verdictOf, sectionsOf, sectionAt, blankSection, dataOf, readImage}
-use Rattle.eif.specs.Stream.{streamSections, streamOf, joined}
+use Rattle.eif.specs.Stream.{streamSections, streamOf}
 use Rattle.eif.specs.declared.Reading.{Reading}
-use Rattle.eif.specs.declared.Section.{Section}
 use Rattle.eif.specs.declared.Refusal.{Refusal}
 use Rattle.eif.specs.declared.Stream.{Stream}
 use Rattle.eif.specs.declared.Stream.the-variants.{Whole, Boot, App}
-use Rattle.eif.specs.declared.Verdict.{Verdict}
 use Rattle.eif.specs.declared.Verdict.the-variants.{Accepted, Refused}
 use Rattle.eif.specs.Order.{firstThatApplies, imageRules}
 use Rattle.eif_laws.proofs.FirstApplies.{read-first}
-use Rattle.eif_rules.proofs.Table.{length-filled}
-use Rattle.eif_rules.proofs.Accept.{passes}
-use Rattle.eif_rules.proofs.Reading.{reading-accepted}
+use Rattle.eif_lemmas.proofs.Table.{length-filled}
+use Rattle.eif_lemmas.proofs.Accept.{passes}
+use Rattle.eif_lemmas.proofs.Reading.{reading-accepted}
 use Rattle.staged.proofs.Same.{joined-in}
 use Rattle.sha384_block.specs.Fips.{sha384}
-use Rattle.sha384.specs.State.{finished, fresh}
-use Rattle.eif_registers.specs.Rule.{registerFrom, registerOf, imageRegisters, noRegisters, asDigests, registersFor, registersAnswer, hashed, stepRegister, stepRegisters}
+use Rattle.eif_registers.specs.Rule.{registerFrom, registerOf, imageRegisters, noRegisters, registersFor, registersAnswer, stepRegister, stepRegisters}
 use Rattle.eif_registers.specs.declared.Measurement.{Measurement}
 use Rattle.eif_registers.proofs.Hashed.{digest-joined, stream-fits}
 
 module _ (s : List ℕ) where
-  pub answer-refused : (r : Refusal) → verdictOf s ≡ Refused r → registersFor (Refused r) (replicate 48 0 ∷ replicate 48 0 ∷ replicate 48 0 ∷ []) ≡ registersAnswer s
-  unfolding registersAnswer noRegisters
+  pub answer-refused : (r : Refusal) → verdictOf s ≡ Refused r → registersFor (Refused r) noRegisters ≡ registersAnswer s
+  unfolding registersAnswer
   answer-refused r e = simp e
 
   -- the order: the image's own rules
@@ -60,6 +57,10 @@ module _ (s : List ℕ) where
     pub step-is : (r : Reading) → r ≡ readImage s → stepRegisters (dataOf s) (r .sections) ≡ imageRegisters s
     step-is r is = ap (λ (x : Reading). stepRegisters (dataOf s) (x .sections)) (is ∙ reading-accepted s ok) ∙ registers-are
 
+-- an answer with three registers of a list
+abbrev pub three : List (List ℕ) → Measurement
+three l = registersFor Accepted (getD l 0 [] ∷ getD l 1 [] ∷ getD l 2 [] ∷ [])
+
 -- three, one by one
-pub three : {A : Type 0} {x y z x₁ y₁ z₁ : A} → x ≡ x₁ → y ≡ y₁ → z ≡ z₁ → _≡_ {A = List A} (x ∷ y ∷ z ∷ []) (x₁ ∷ y₁ ∷ z₁ ∷ [])
-three p q r = cc
+pub one-by-one : {A : Type 0} {x y z x₁ y₁ z₁ : A} → x ≡ x₁ → y ≡ y₁ → z ≡ z₁ → _≡_ {A = List A} (x ∷ y ∷ z ∷ []) (x₁ ∷ y₁ ∷ z₁ ∷ [])
+one-by-one p q r = cc

@@ -4,7 +4,7 @@ use Prim.Native.Nat.{ℕ, _≤_}
 use mathlib.Core.Path.{_≡_, ap, _∙_}
 use mathlib.Core.List.{List, [], _∷_}
 use native.Mathlib.Omega.{arith}
-use lib.ListN.{length, replicate}
+use lib.ListN.{length}
 use Rattle.eif.specs.Numbers.{sizeLimit, placeCount}
 use Rattle.eif.specs.Layout.{countOf}
 use Rattle.eif.specs.Reading.{blankSection, sectionAt, sectionsOf, dataOf}
@@ -14,13 +14,13 @@ use Rattle.eif.specs.declared.Section.{Section}
 use Rattle.eif.specs.declared.Stream.{Stream}
 use Rattle.eif.specs.declared.Stream.the-variants.{Whole, Boot, App}
 use Rattle.eif.specs.declared.Verdict.the-variants.{Accepted, Refused}
-use Rattle.eif_rules.proofs.Table.{length-filled}
+use Rattle.eif_lemmas.proofs.Table.{length-filled}
 use Rattle.plain_laws.proofs.ReadBack.{long}
 use Rattle.staged.specs.Staged.{afresh, stagedVerdict}
 use Rattle.staged.specs.View.{heldBy}
 use Rattle.staged.proofs.Accept.{Stages}
 use Rattle.staged.proofs.Afresh.{parts, changedPlan, afresh-is, changed-planned}
-use Rattle.staged.proofs.Held.{held-alone, within, listed, stream-is}
+use Rattle.staged.proofs.Held.{held-alone, within, stagedList, stream-is}
 use Rattle.sha384_block.specs.Fips.{sha384}
 use Rattle.sha384.specs.State.{totalLimit}
 use Rattle.eif_registers.specs.Rule.{registerFrom, registerOf, imageRegisters, noRegisters, registersFor, stepRegister, stepRegisters, stagedRegisters}
@@ -44,15 +44,15 @@ module _ (s r : List ℕ) (k : ℕ) (a : Stages s (length r) k k) where
       let t = afresh s r k in
       stream-fits t stream (sectionsOf t) fresh-small (length-filled (sectionAt t) blankSection placeCount (countOf t))
 
-  register-is : (stream : Stream) → stepRegister (heldBy s r) (listed s r k k a) stream ≡ registerOf (afresh s r k) stream
+  register-is : (stream : Stream) → stepRegister (heldBy s r) (stagedList s r k k a) stream ≡ registerOf (afresh s r k) stream
   unfolding stepRegister registerOf
   register-is stream =
       let e = stream-is s r k k a stream in
       let n = ap length e in
       let h = fresh-fits stream in
-      ap registerFrom (digest-joined (heldBy s r) (streamSections stream (listed s r k k a)) (omega arith) ∙ ap sha384 e)
+      ap registerFrom (digest-joined (heldBy s r) (streamSections stream (stagedList s r k k a)) (omega arith) ∙ ap sha384 e)
 
-  pub staged-registers : stepRegisters (heldBy s r) (listed s r k k a) ≡ imageRegisters (afresh s r k)
+  pub staged-registers : stepRegisters (heldBy s r) (stagedList s r k k a) ≡ imageRegisters (afresh s r k)
   unfolding stepRegisters imageRegisters
   staged-registers = rw (register-is Whole, register-is Boot, register-is App)
 
@@ -60,8 +60,8 @@ module _ (s r : List ℕ) (k : ℕ) (a : Stages s (length r) k k) where
 
 module _ (s r : List ℕ) (k : ℕ) where
   pub staged-refused : (x : Refusal) → stagedVerdict s (length r) k k ≡ Refused x
-      → registersFor (Refused x) (replicate 48 0 ∷ replicate 48 0 ∷ replicate 48 0 ∷ []) ≡ stagedRegisters s r k
-  unfolding stagedRegisters noRegisters
+      → registersFor (Refused x) noRegisters ≡ stagedRegisters s r k
+  unfolding stagedRegisters
   staged-refused x e = simp e
 
   pub staged-accepted : stagedVerdict s (length r) k k ≡ Accepted → registersFor Accepted (imageRegisters (afresh s r k)) ≡ stagedRegisters s r k

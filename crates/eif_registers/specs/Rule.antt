@@ -11,7 +11,7 @@ use Rattle.eif.specs.declared.Stream.{Stream}
 use Rattle.eif.specs.declared.Stream.the-variants.{Whole, Boot, App}
 use Rattle.eif.specs.declared.Verdict.{Verdict}
 use Rattle.sha384_block.specs.Fips.{sha384}
-use Rattle.sha384.specs.State.{fresh, updated, finished}
+use Rattle.sha384.specs.State.{initialState, updated, digestFrom}
 use Rattle.sha384.specs.declared.State.{State}
 use Rattle.staged.specs.Staged.{stagedVerdict, afresh}
 use Rattle.eif_registers.specs.declared.Digest.{Digest}
@@ -61,7 +61,7 @@ hashed held st [] = st
 hashed held st (x ∷ xs) = hashed held (updated st (held x) .state) xs
 
 unfoldable pub stepRegister : (Section → List ℕ) → List Section → Stream → List ℕ
-stepRegister held l stream = registerFrom (finished (hashed held fresh (streamSections stream l)))
+stepRegister held l stream = registerFrom (digestFrom (hashed held initialState (streamSections stream l)))
 
 unfoldable pub stepRegisters : (Section → List ℕ) → List Section → List (List ℕ)
 stepRegisters held l = stepRegister held l Whole ∷ stepRegister held l Boot ∷ stepRegister held l App ∷ []

@@ -6,13 +6,14 @@
 ghost use mathlib.Core.Path.{_≡_};
 ghost use mathlib.Core.Bool.{true};
 ghost use Prim.Native.Nat.{_≤_, min};
-ghost use lib.ListN.{take};
+ghost use mathlib.Core.List.{[], _∷_};
+ghost use lib.ListN.{take, getD};
 ghost use lib.Seq.{slice};
 ghost use Rattle.eif.specs.Numbers.{placeCount};
-ghost use Rattle.sha384.specs.State.{fresh, finished};
+ghost use Rattle.sha384.specs.State.{initialState, digestFrom};
 ghost use Rattle.eif.specs.Reading.{dataOf};
 ghost use Rattle.staged.specs.View.{heldBy};
-ghost use Rattle.eif_registers.specs.Rule.{registerFrom, hashed, stepRegisters, registersAnswer, stagedRegisters};
+ghost use Rattle.eif_registers.specs.Rule.{registerFrom, noRegisters, registersFor, registersAnswer, stagedRegisters, hashed, stepRegisters};
 use eif::PLACES;
 use eif::Reading;
 use eif::Section;
@@ -107,8 +108,8 @@ fn hash_both<'a>(
     boot: StreamSections,
 ) -> States
     requires { ⌜ (whole .count ≤ placeCount) × (boot .count ≤ placeCount) ⌝ }
-    ensures { λ r. ⌜ r .whole ≡ hashed (heldBy (now (base .entry)) (now (replacement .entry))) fresh (take (whole .count) (whole .sections)) ⌝ }
-    ensures { λ r. ⌜ r .boot ≡ hashed (heldBy (now (base .entry)) (now (replacement .entry))) fresh (take (boot .count) (boot .sections)) ⌝ }
+    ensures { λ r. ⌜ r .whole ≡ hashed (heldBy (now (base .entry)) (now (replacement .entry))) initialState (take (whole .count) (whole .sections)) ⌝ }
+    ensures { λ r. ⌜ r .boot ≡ hashed (heldBy (now (base .entry)) (now (replacement .entry))) initialState (take (boot .count) (boot .sections)) ⌝ }
 {
     let a = whole.sections;
     let b = boot.sections;
@@ -126,7 +127,7 @@ fn hash_both<'a>(
 
 // The register that a stream's state stands for.
 fn register(state: State) -> [u8; 48]
-    ensures { λ r. ⌜ r ≡ registerFrom (finished state) ⌝ }
+    ensures { λ r. ⌜ r ≡ registerFrom (digestFrom state) ⌝ }
 {
     let digest = sha384::finish(state);
     let mut both = [0u8; 96];
@@ -140,9 +141,9 @@ fn register(state: State) -> [u8; 48]
 fn step_over<'a>(base: &'a [u8], replacement: &'a [u8], all: [Section; PLACES]) -> [[u8; 48]; 3]
     ensures { λ r. ⌜ r ≡ stepRegisters (heldBy (now (base .entry)) (now (replacement .entry))) all ⌝ }
 {
-    let whole = eif_streams::sections(all, Stream::Whole);
-    let boot = eif_streams::sections(all, Stream::Boot);
-    let app = eif_streams::sections(all, Stream::App);
+    let whole = stream_reader::sections(all, Stream::Whole);
+    let boot = stream_reader::sections(all, Stream::Boot);
+    let app = stream_reader::sections(all, Stream::App);
     let both = hash_both(base, replacement, whole, boot);
     let others = app.sections;
     let app_end = take_sections(
@@ -169,6 +170,30 @@ pub fn step(image: &[u8], reading: Reading) -> [[u8; 48]; 3]
     step_over(image, &image[..0], all)
 }
 
+// An answer with these three.
+fn measured(all: [[u8; 48]; 3]) -> Measurement
+    ensures { λ r. ⌜ r ≡ registersFor Verdict.Accepted (getD all 0 [] ∷ getD all 1 [] ∷ getD all 2 [] ∷ []) ⌝ }
+{
+    let zeroth = all[0];
+    let first = all[1];
+    let second = all[2];
+    Measurement {
+        verdict: Verdict::Accepted,
+        registers: [Digest(zeroth), Digest(first), Digest(second)],
+    }
+}
+
+// A refusal, beside which they are zero.
+fn refused(verdict: Verdict) -> Measurement
+    ensures { λ r. ⌜ r ≡ registersFor verdict noRegisters ⌝ }
+{
+    let none = [0u8; 48];
+    Measurement {
+        verdict,
+        registers: [Digest(none), Digest(none), Digest(none)],
+    }
+}
+
 // The registers of an image; or its refusal, and all zero.
 pub fn registers(image: &[u8]) -> Measurement
     ensures { λ r. ⌜ r ≡ registersAnswer (now (image .entry)) ⌝ }
@@ -176,20 +201,10 @@ pub fn registers(image: &[u8]) -> Measurement
     let reading = eif_reader::read(image);
     let verdict = reading.verdict;
     let Verdict::Accepted = verdict else {
-        let none = [0u8; 48];
-        return Measurement {
-            verdict,
-            registers: [Digest(none), Digest(none), Digest(none)],
-        };
+        return refused(verdict);
     };
     let all = step(image, reading);
-    let zeroth = all[0];
-    let first = all[1];
-    let second = all[2];
-    Measurement {
-        verdict,
-        registers: [Digest(zeroth), Digest(first), Digest(second)],
-    }
+    measured(all)
 }
 
 // The registers of the image written afresh with a replacement for one section, from where the data lies; or the refusal, and all zero.
@@ -199,19 +214,9 @@ pub fn registers_staged<'a>(base: &'a [u8], replacement: &'a [u8], replaced: u64
     let view = staged_view::judge(base, replacement.len() as u64, replaced, replaced);
     let verdict = view.verdict;
     let Verdict::Accepted = verdict else {
-        let none = [0u8; 48];
-        return Measurement {
-            verdict,
-            registers: [Digest(none), Digest(none), Digest(none)],
-        };
+        return refused(verdict);
     };
     let sections = view.sections;
     let all = step_over(base, replacement, sections);
-    let zeroth = all[0];
-    let first = all[1];
-    let second = all[2];
-    Measurement {
-        verdict,
-        registers: [Digest(zeroth), Digest(first), Digest(second)],
-    }
+    measured(all)
 }

@@ -16,13 +16,13 @@ use Rattle.eif.specs.Numbers.{outputTooShort}
 use Rattle.eif.specs.Layout.{headerSize, checksumAt}
 use Rattle.eif.specs.Answers.{refuse}
 use Rattle.eif.specs.Reading.{checksumOf}
-use Rattle.eif.specs.Plan.{dataBefore, plainSize, entries, fixedFields, offsetTable, sizeTable, headerBytes, bodyBytes, plainImage, planVerdict, writeVerdict, writeAnswer, writeOutput}
+use Rattle.eif.specs.Plan.{dataBefore, plainSize, entries, fixedFields, offsetTable, sizeTable, headerBytes, bodyBytes, plainImage, planVerdict, writeVerdict, writeAnswer, writeOutput, offsetsOf, sizesOf}
 use Rattle.eif.specs.declared.Plan.{Plan}
 use Rattle.eif.specs.declared.Refusal.{Refusal}
 use Rattle.eif.specs.declared.Written.{Written}
 use Rattle.eif.specs.declared.Verdict.the-variants.{Accepted, Refused}
 use Rattle.plain_laws.proofs.Shape.{packed-zero, length-offsets, length-sizes, length-header, length-sections}
-use Rattle.eif_writer.specs.Parts.{offsetsOf, sizesOf, firstFields, nextFields, sealed}
+use Rattle.eif_writer.specs.Parts.{firstFields, nextFields, withChecksum}
 
 -- ---- the header
 
@@ -42,15 +42,15 @@ module _ (p : Plan) where
   length-next = refl
 
   length-offset-entries : length offsets ≡ 256
-  unfolding offsetTable offsetsOf
+  unfolding offsetTable
   length-offset-entries = length-offsets (p .places) (p .count)
 
   length-size-entries : length sizes ≡ 256
-  unfolding sizeTable sizesOf
+  unfolding sizeTable
   length-size-entries = length-sizes (p .places) (p .count)
 
   header-parts : firstFields p ++ (nextFields p ++ (offsets ++ (sizes ++ beBytes 4 0))) ≡ headerBytes p
-  unfolding headerBytes fixedFields offsetTable sizeTable offsetsOf sizesOf firstFields nextFields
+  unfolding headerBytes fixedFields offsetTable sizeTable firstFields nextFields
   header-parts = simp append-assoc
 
   pub header-over : (d d₁ d₂ d₃ d₄ d₅ : List ℕ) → d₁ ≡ over d 0 (firstFields p) → d₂ ≡ over d₁ 8 (nextFields p) → d₃ ≡ over d₂ 28 offsets
@@ -119,8 +119,8 @@ module _ (p : Plan) (given d a b : List ℕ) (sized : length given ≡ dataBefor
         (ap (take checksumAt) (append-assoc head gap body) ∙ take-at head (gap ++ body) checksumAt (length-header p))
         (drop-at (head ++ gap) body headerSize length-front)
 
-    pub sealed-plain : sealed b (plainSize p) ≡ over d 0 (plainImage p given)
-    unfolding sealed plainImage
+    pub sealed-plain : withChecksum b (plainSize p) ≡ over d 0 (plainImage p given)
+    unfolding withChecksum plainImage
     sealed-plain =
         let l = length-body in
         let w : length (head ++ (sum ++ body)) ≡ plainSize p =

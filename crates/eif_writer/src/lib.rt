@@ -6,9 +6,9 @@ ghost use Prim.Native.Nat.{_≤_};
 ghost use lib.ListN.{length};
 ghost use Rattle.octets.specs.Over.{over};
 ghost use Rattle.eif.specs.Numbers.{placeCount, sizeLimit};
-ghost use Rattle.eif.specs.Layout.{headerSize};
-ghost use Rattle.eif.specs.Plan.{packedAt, dataBefore, plainSize, entries, headerBytes, sectionHeader, sectionBytes, writeAnswer, writeOutput};
-ghost use Rattle.eif_writer.specs.Parts.{offsetsOf, sizesOf, firstFields, nextFields, sealed};
+ghost use Rattle.eif.specs.Layout.{headerSize, defaultMemAt};
+ghost use Rattle.eif.specs.Plan.{packedAt, dataBefore, plainSize, entries, headerBytes, sectionHeader, sectionBytes, writeAnswer, writeOutput, offsetsOf, sizesOf};
+ghost use Rattle.eif_writer.specs.Parts.{firstFields, nextFields, withChecksum};
 use eif::Header;
 use eif::PLACES;
 use eif::Place;
@@ -73,10 +73,10 @@ fn put_first(out: &mut [u8], plan: Plan)
 
 // The fields between those and the tables: default_mem, default_cpus, reserved and num_sections.
 fn put_next(out: &mut [u8], plan: Plan)
-    ensures { λ _. ⌜ now (out .exit) ≡ over (now (out .entry)) 8 (nextFields plan) ⌝ }
+    ensures { λ _. ⌜ now (out .exit) ≡ over (now (out .entry)) defaultMemAt (nextFields plan) ⌝ }
 {
-    octets::put_be64(out, Header::MEMORY_AT, plan.memory);
-    octets::put_be64(out, Header::CPUS_AT, plan.cpus);
+    octets::put_be64(out, Header::DEFAULT_MEM_AT, plan.default_mem);
+    octets::put_be64(out, Header::DEFAULT_CPUS_AT, plan.default_cpus);
     octets::put_be16(out, Header::RESERVED_AT, 0);
     octets::put_be16(out, Header::COUNT_AT, plan.count);
 }
@@ -133,9 +133,9 @@ fn put_sections(out: &mut [u8], places: [Place; PLACES], count: usize, lent: &[u
 // ---- the checksum
 
 // Of the first bytes, put into its place.
-fn seal(out: &mut [u8], total: usize)
+fn put_checksum(out: &mut [u8], total: usize)
     requires { ⌜ total ≤ length (now out) ⌝ }
-    ensures { λ _. ⌜ now (out .exit) ≡ sealed (now (out .entry)) total ⌝ }
+    ensures { λ _. ⌜ now (out .exit) ≡ withChecksum (now (out .entry)) total ⌝ }
 {
     let sum = eif_checksum::checksum(&out[..total]);
     octets::put_be32(out, Header::CHECKSUM_AT, sum);
@@ -149,11 +149,11 @@ pub fn write(plan: Plan, lent: &[u8], out: &mut [u8]) -> Written
     ensures { λ r. ⌜ r ≡ writeAnswer plan (length (now (lent .entry))) (length (now (out .entry))) ⌝ }
     ensures { λ _. ⌜ now (out .exit) ≡ writeOutput plan (now (lent .entry)) (now (out .entry)) ⌝ }
 {
-    let verdict = eif_plan::judge(plan, lent.len() as u64);
+    let verdict = plan_judge::judge(plan, lent.len() as u64);
     let Verdict::Accepted = verdict else {
         return Written { verdict, length: 0 };
     };
-    let total = eif_plan::image_size(plan);
+    let total = plan_judge::image_size(plan);
     if (out.len() as u64) < total {
         return Written {
             verdict: Verdict::refuse(Refusal::OUTPUT_TOO_SHORT, 0),
@@ -163,7 +163,7 @@ pub fn write(plan: Plan, lent: &[u8], out: &mut [u8]) -> Written
     let places = plan.places;
     put_header(out, plan);
     put_sections(out, places, plan.count as usize, lent);
-    seal(out, total as usize);
+    put_checksum(out, total as usize);
     Written {
         verdict,
         length: total,

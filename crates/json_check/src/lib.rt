@@ -24,8 +24,43 @@ struct State {
     stack: u64,
 }
 
+// The modes that the code names, of those of tables.rt: where an array and an object begin, after a value with nothing open, in an
+// array and in an object, and in a number that may end.
+const FIRST_ITEM: u8 = 1;
+
+const FIRST_MEMBER: u8 = 2;
+
+const AFTER_TEXT: u8 = 5;
+
+const AFTER_ITEM: u8 = 6;
+
+const AFTER_MEMBER: u8 = 7;
+
+const ZERO: u8 = 9;
+
+const WHOLE: u8 = 10;
+
+const FRACTION: u8 = 12;
+
+const POWER: u8 = 15;
+
 // The mode that is none: no text goes on like this.
 const FAULT: u8 = 51;
+
+// The other entries of the tables: a value ends here, a number ended before this byte, an array or an object is opened, the innermost
+// is closed.
+const STOP: u8 = 52;
+
+const AGAIN: u8 = 53;
+
+const OPEN_ARRAY: u8 = 54;
+
+const OPEN_OBJECT: u8 = 55;
+
+const CLOSE: u8 = 56;
+
+// The entries of a mode, one for each class of bytes.
+const CLASSES: usize = 40;
 
 fn wide(x: u8) -> usize
     ensures { λ r. ⌜ r ≡ x ⌝ }
@@ -38,12 +73,12 @@ fn after(stack: u64) -> u8
     ensures { λ r. ⌜ (r ≡ afterOf stack) × (r < 51) ⌝ }
 {
     if stack == NOTHING_OPEN {
-        return 5;
+        return AFTER_TEXT;
     }
     if stack % 2 == 0 {
-        return 6;
+        return AFTER_ITEM;
     }
-    7
+    AFTER_MEMBER
 }
 
 // What the tables say at a byte: where a number ended before it, what they say after a value.
@@ -52,47 +87,46 @@ fn act<'a>(class: &'a [u8; 256], next: &'a [u8; 2040], mode: u8, stack: u64, b: 
     ensures { λ r. ⌜ r ≡ actOf mode stack b ⌝ }
 {
     let c = wide(class[wide(b)]);
-    let first = next[wide(mode) * 40 + c];
-    if first == 53 {
+    let first = next[wide(mode) * CLASSES + c];
+    if first == AGAIN {
         let m = wide(after(stack));
-        return next[m * 40 + c];
+        return next[m * CLASSES + c];
     }
     first
 }
 
-// Where an entry of the tables leads: to a mode below 51; 52 ends a value, 54 and 55 open an array or an object, 56 closes the innermost,
-// and any other is a fault.
+// Where an entry of the tables leads: to a mode, or where it says one of the others; any that is none of these is a fault.
 fn turn(act: u8, stack: u64) -> State
     ensures { λ r. ⌜ (r .mode ≡ turnMode (kindOf act) act stack) × (r .stack ≡ turnStack (kindOf act) stack) × (r .mode ≤ 51) ⌝ }
 {
     if act < FAULT {
         return State { mode: act, stack };
     }
-    if act == 52 {
+    if act == STOP {
         return State {
             mode: after(stack),
             stack,
         };
     }
-    if act == 54 {
+    if act == OPEN_ARRAY {
         if stack < STACK_LIMIT {
             return State {
-                mode: 1,
+                mode: FIRST_ITEM,
                 stack: stack * 2,
             };
         }
         return State { mode: FAULT, stack };
     }
-    if act == 55 {
+    if act == OPEN_OBJECT {
         if stack < STACK_LIMIT {
             return State {
-                mode: 2,
+                mode: FIRST_MEMBER,
                 stack: stack * 2 + 1,
             };
         }
         return State { mode: FAULT, stack };
     }
-    if act == 56 {
+    if act == CLOSE {
         let outer = stack / 2;
         return State {
             mode: after(outer),
@@ -107,19 +141,19 @@ fn ends(mode: u8, stack: u64) -> bool
     ensures { λ r. ⌜ r ≡ endsOf mode stack ⌝ }
 {
     if stack == NOTHING_OPEN {
-        if mode == 5 {
+        if mode == AFTER_TEXT {
             return true;
         }
-        if mode == 9 {
+        if mode == ZERO {
             return true;
         }
-        if mode == 10 {
+        if mode == WHOLE {
             return true;
         }
-        if mode == 12 {
+        if mode == FRACTION {
             return true;
         }
-        return mode == 15;
+        return mode == POWER;
     }
     false
 }

@@ -13,12 +13,13 @@ use lib.Seq.{getD-append-add}
 use borrow.Author.Tests.{lt-ltb, le-ltb, eq-eqb, ne-eqb, ltb-true, eqb-true}
 use Rattle.json.specs.Verdict.{depthLimit}
 use Rattle.json_machine.specs.Table.{classes, rows, joined}
-use Rattle.json_machine.specs.Machine.{choose, stackLimit, afterOf, entryOf, Kind, goes, stops, closes, faults, opens, kindOf, bit}
-use Rattle.json_machine.proofs.Derive.{end, and, and-true}
+use Rattle.octets.specs.Logic.{both, choose}
+use Rattle.json_machine.specs.Machine.{stackLimit, afterOf, entryOf, Kind, goes, stops, closes, faults, opens, kindOf, bit}
+use Rattle.json_machine.proofs.Derive.{canEnd, and-true}
 use Rattle.json_machine.proofs.Modes.{Token, Str, Mode, m-value, m-after, m-firstItem, m-firstMember, m-key, m-colon, m-token, m-string, m-name, tokenNumber, stringNumber, nameNumber}
 use Rattle.json_machine.proofs.Modes as T
 use Rattle.json_machine.proofs.Classes.{class-below}
-use Rattle.json_machine.proofs.Step.{row, Next, refused, at, step, still, number, frames, afterNumber}
+use Rattle.json_machine.proofs.Step.{actAt, Next, refused, at, step, still, modeNumber, frames, afterNumber}
 
 -- ---- a stack of bits
 
@@ -91,7 +92,7 @@ stack-room d fs e =
 
 abbrev sized : List (List ℕ) → Bool
 sized [] = true
-sized (r ∷ rs) = and (eqb (length r) 40) (sized rs)
+sized (r ∷ rs) = both (eqb (length r) 40) (sized rs)
 
 in-row : (rs : List (List ℕ)) (n c : ℕ) → sized rs ≡ true → n < length rs → c < 40 → getD (joined rs) (n * 40 + c) 0 ≡ getD (getD rs n []) c 0
 in-row [] n c e h l = absurd (not-suc-le-zero h)
@@ -174,7 +175,7 @@ name-below T.s-afterED = refl
 name-below T.s-afterF0 = refl
 name-below T.s-afterF4 = refl
 
-pub number-below : (m : Mode) (fs : List Bool) → number m fs < 51
+pub number-below : (m : Mode) (fs : List Bool) → modeNumber m fs < 51
 number-below m-value fs = omega arith
 number-below m-after fs = after-below fs
 number-below m-firstItem fs = omega arith
@@ -193,20 +194,20 @@ pub data Spot : Type 0 where
 
 abbrev pub spotOf : Next → Spot
 spotOf refused = stopped
-spotOf (at m d fs) = spot (number m fs) d (frames m fs)
+spotOf (at m d fs) = spot (modeNumber m fs) d (frames m fs)
 
 first : Bool → ℕ
 first false = 1
 first true = 2
 
-abbrev pub turn : Kind → ℕ → ℕ → List Bool → Spot
-turn goes a d fs = spot a d fs
-turn stops a d fs = spot (afterNumber fs) d fs
-turn closes a d [] = impossible
-turn closes a d (f ∷ fs) = spot (afterNumber fs) (suc d) fs
-turn faults a d fs = stopped
-turn (opens f) a zero fs = stopped
-turn (opens f) a (suc d) fs = spot (1 + bit f) d (f ∷ fs)
+abbrev pub turnSpot : Kind → ℕ → ℕ → List Bool → Spot
+turnSpot goes a d fs = spot a d fs
+turnSpot stops a d fs = spot (afterNumber fs) d fs
+turnSpot closes a d [] = impossible
+turnSpot closes a d (f ∷ fs) = spot (afterNumber fs) (suc d) fs
+turnSpot faults a d fs = stopped
+turnSpot (opens f) a zero fs = stopped
+turnSpot (opens f) a (suc d) fs = spot (1 + bit f) d (f ∷ fs)
 
 abbrev pub does : ℕ → List Bool → ℕ → ℕ
 does n fs b = choose (eqb (cell n b) 53) (cell (afterNumber fs) b) (cell n b)
@@ -215,26 +216,26 @@ abbrev pub all : ℕ → (ℕ → Spot) → List Spot
 all zero f = []
 all (suc n) f = f n ∷ all n f
 
-abbrev pub headOf : List Spot → Spot
-headOf [] = impossible
-headOf (x ∷ l) = x
+abbrev pub firstOf : List Spot → Spot
+firstOf [] = impossible
+firstOf (x ∷ l) = x
 
 pub each : (f g : ℕ → Spot) (n : ℕ) → all n f ≡ all n g → (b : ℕ) → b < n → f b ≡ g b
 each f g zero e b h = absurd (not-suc-le-zero h)
 each f g (suc n) e b h =
     ⊎-elim
-    (λ (q : b ≡ n). subst (λ (m : ℕ). f m ≡ g m) (sym q) (ap headOf e))
+    (λ (q : b ≡ n). subst (λ (m : ℕ). f m ≡ g m) (sym q) (ap firstOf e))
     (λ (q : b < n). each f g n (ap tail e) b q)
     (eq-or-lt-of-le (le-of-suc-le-suc h))
 
 abbrev pub turnAt : Mode → ℕ → List Bool → ℕ → Spot
-turnAt m d fs b = turn (kindOf (does (number m fs) (frames m fs) b)) (does (number m fs) (frames m fs) b) d (frames m fs)
+turnAt m d fs b = turnSpot (kindOf (does (modeNumber m fs) (frames m fs) b)) (does (modeNumber m fs) (frames m fs) b) d (frames m fs)
 
 abbrev pub Same : Mode → ℕ → List Bool → Type 0
 Same m d fs = all 256 (λ b. spotOf (step m d fs b)) ≡ all 256 (λ b. turnAt m d fs b)
 
 same-token : (t : Token) (d : ℕ) (fs : List Bool) → Same (m-token t) d fs
-unfolding row cell kindOf
+unfolding actAt cell kindOf
 same-token T.t-minus d fs = refl
 same-token T.t-zero d [] = refl
 same-token T.t-zero d (false ∷ fs) = refl
@@ -262,7 +263,7 @@ same-token T.t-rue d fs = refl
 same-token T.t-ue d fs = refl
 
 same-string : (s : Str) (d : ℕ) (fs : List Bool) → Same (m-string s) d fs
-unfolding row cell kindOf
+unfolding actAt cell kindOf
 same-string T.s-char d fs = refl
 same-string T.s-escape d fs = refl
 same-string T.s-hex4 d fs = refl
@@ -278,7 +279,7 @@ same-string T.s-afterF0 d fs = refl
 same-string T.s-afterF4 d fs = refl
 
 same-name : (s : Str) (d : ℕ) (fs : List Bool) → Same (m-name s) d fs
-unfolding row cell kindOf
+unfolding actAt cell kindOf
 same-name T.s-char d fs = refl
 same-name T.s-escape d fs = refl
 same-name T.s-hex4 d fs = refl
@@ -293,18 +294,18 @@ same-name T.s-afterED d fs = refl
 same-name T.s-afterF0 d fs = refl
 same-name T.s-afterF4 d fs = refl
 
-pub same : (m : Mode) (d : ℕ) (fs : List Bool) → Same m d fs
-unfolding row cell kindOf
-same m-value zero fs = refl
-same m-value (suc d) fs = refl
-same m-after d [] = refl
-same m-after d (false ∷ fs) = refl
-same m-after d (true ∷ fs) = refl
-same m-firstItem zero fs = refl
-same m-firstItem (suc d) fs = refl
-same m-firstMember d fs = refl
-same m-key d fs = refl
-same m-colon d fs = refl
-same (m-token t) d fs = same-token t d fs
-same (m-string s) d fs = same-string s d fs
-same (m-name s) d fs = same-name s d fs
+pub coded-same : (m : Mode) (d : ℕ) (fs : List Bool) → Same m d fs
+unfolding actAt cell kindOf
+coded-same m-value zero fs = refl
+coded-same m-value (suc d) fs = refl
+coded-same m-after d [] = refl
+coded-same m-after d (false ∷ fs) = refl
+coded-same m-after d (true ∷ fs) = refl
+coded-same m-firstItem zero fs = refl
+coded-same m-firstItem (suc d) fs = refl
+coded-same m-firstMember d fs = refl
+coded-same m-key d fs = refl
+coded-same m-colon d fs = refl
+coded-same (m-token t) d fs = same-token t d fs
+coded-same (m-string s) d fs = same-string s d fs
+coded-same (m-name s) d fs = same-name s d fs

@@ -10,14 +10,15 @@ use lib.Dec.{eqb, ltb}
 use lib.ListN.{length, getD}
 use borrow.Author.Tests.{lt-ltb, le-ltb, eq-eqb, ne-eqb}
 use Rattle.json.specs.Verdict.{depthLimit}
-use Rattle.json_machine.specs.Machine.{stackLimit, both, afterOf, entryOf, actOf, Kind, goes, stops, closes, faults, opens, kindOf, bit, turnMode, turnStack, endsOf}
+use Rattle.octets.specs.Logic.{both}
+use Rattle.json_machine.specs.Machine.{stackLimit, afterOf, entryOf, actOf, Kind, goes, stops, closes, faults, opens, kindOf, bit, turnMode, turnStack, endsOf}
 use Rattle.octets.proofs.Over.{le-or-lt}
-use Rattle.json_machine.proofs.Derive.{end}
+use Rattle.json_machine.proofs.Derive.{canEnd}
 use Rattle.json_machine.proofs.Modes.{Token, Str, Mode, m-value, m-after, m-firstItem, m-firstMember, m-key, m-colon, m-token, m-string, m-name}
 use Rattle.json_machine.proofs.Modes as T
-use Rattle.json_machine.proofs.Step.{Next, refused, at, step, still, number, frames, afterNumber}
+use Rattle.json_machine.proofs.Step.{Next, refused, at, step, still, modeNumber, frames, afterNumber}
 use Rattle.json_machine.proofs.Within.{class-past, step-past}
-use Rattle.json_laws.proofs.Coded.{stackOf, stack-pos, stack-after, stack-up, stack-full, stack-room, cell, entry-cell, after-below, number-below, Spot, stopped, impossible, spot, spotOf, turn, does, turnAt, each, same}
+use Rattle.json_laws.proofs.Coded.{stackOf, stack-pos, stack-after, stack-up, stack-full, stack-room, cell, entry-cell, after-below, number-below, Spot, stopped, impossible, spot, spotOf, turnSpot, does, turnAt, each, coded-same}
 
 abbrev pub CodedSpot : Spot → ℕ → ℕ → Type 0
 CodedSpot stopped mo st = mo ≡ 51
@@ -34,9 +35,9 @@ never-impossible (at m d fs) e = let z : _≡_ {A = ℕ} 0 1 = cc in omega arith
 
 module _ (n : Next) (a : ℕ) where
   abbrev Turned : Kind → ℕ → List Bool → Type 0
-  Turned k d fs = CodedSpot (turn k a d fs) (turnMode k a (stackOf fs)) (turnStack k (stackOf fs))
+  Turned k d fs = CodedSpot (turnSpot k a d fs) (turnMode k a (stackOf fs)) (turnStack k (stackOf fs))
 
-  turned : (k : Kind) (d : ℕ) (fs : List Bool) → d + length fs ≡ depthLimit → spotOf n ≡ turn k a d fs → Turned k d fs
+  turned : (k : Kind) (d : ℕ) (fs : List Bool) → d + length fs ≡ depthLimit → spotOf n ≡ turnSpot k a d fs → Turned k d fs
   turned goes d fs h e = (refl, refl, h)
   turned stops d fs h e = (stack-after fs, refl, h)
   turned closes d [] h e = absurd (never-impossible n e)
@@ -47,18 +48,18 @@ module _ (n : Next) (a : ℕ) where
       let l = stack-room d fs h in
       simp (lt-ltb _ _ l) (refl, unfold stackOf in refl, omega arith)
 
-act-does : (m : Mode) (fs : List Bool) (b : ℕ) → actOf (number m fs) (stackOf (frames m fs)) b ≡ does (number m fs) (frames m fs) b
+act-does : (m : Mode) (fs : List Bool) (b : ℕ) → actOf (modeNumber m fs) (stackOf (frames m fs)) b ≡ does (modeNumber m fs) (frames m fs) b
 unfolding actOf
 act-does m fs b =
-    rw (stack-after (frames m fs), entry-cell (number m fs) b (number-below m fs), entry-cell (afterNumber (frames m fs)) b (after-below (frames m fs)))
+    rw (stack-after (frames m fs), entry-cell (modeNumber m fs) b (number-below m fs), entry-cell (afterNumber (frames m fs)) b (after-below (frames m fs)))
 
 abbrev pub Onward : Next → ℕ → ℕ → Type 0
 Onward n a st = Coded n (turnMode (kindOf a) a st) (turnStack (kindOf a) st)
 
 onward-below : (m : Mode) (d : ℕ) (fs : List Bool) (b : ℕ) → b < 256 → (mo st : ℕ) → Coded (at m d fs) mo st → Onward (step m d fs b) (actOf mo st b) st
 onward-below m d fs b l mo st (p, q, h) =
-    let e = each (λ b. spotOf (step m d fs b)) (λ b. turnAt m d fs b) 256 (same m d fs) b l in
-    let a = does (number m fs) (frames m fs) b in
+    let e = each (λ b. spotOf (step m d fs b)) (λ b. turnAt m d fs b) 256 (coded-same m d fs) b l in
+    let a = does (modeNumber m fs) (frames m fs) b in
     let t = turned (step m d fs b) a (kindOf a) d (frames m fs) h e in
     let S = stackOf (frames m fs) in
     let u = subst (λ (x : Spot). CodedSpot x (turnMode (kindOf a) a S) (turnStack (kindOf a) S)) (sym e) t in
@@ -92,7 +93,7 @@ ends-open n f fs =
     let z : stackOf fs * 2 + bit f ≡ 1 → ⊥ = λ e. omega arith in
     rw (ne-eqb _ _ z) refl
 
-ends-token : (t : Token) (d : ℕ) (fs : List Bool) → endsOf (number (m-token t) fs) (stackOf fs) ≡ end (still (m-token t) d fs)
+ends-token : (t : Token) (d : ℕ) (fs : List Bool) → endsOf (modeNumber (m-token t) fs) (stackOf fs) ≡ canEnd (still (m-token t) d fs)
 unfolding endsOf stackOf
 ends-token T.t-minus d fs = not-final (eqb (stackOf fs) 1)
 ends-token T.t-zero d [] = refl
@@ -120,7 +121,7 @@ ends-token T.t-l d fs = not-final (eqb (stackOf fs) 1)
 ends-token T.t-rue d fs = not-final (eqb (stackOf fs) 1)
 ends-token T.t-ue d fs = not-final (eqb (stackOf fs) 1)
 
-ends-string : (s : Str) (d : ℕ) (fs : List Bool) → endsOf (number (m-string s) fs) (stackOf fs) ≡ end (still (m-string s) d fs)
+ends-string : (s : Str) (d : ℕ) (fs : List Bool) → endsOf (modeNumber (m-string s) fs) (stackOf fs) ≡ canEnd (still (m-string s) d fs)
 unfolding endsOf
 ends-string T.s-char d fs = not-final (eqb (stackOf fs) 1)
 ends-string T.s-escape d fs = not-final (eqb (stackOf fs) 1)
@@ -136,7 +137,7 @@ ends-string T.s-afterED d fs = not-final (eqb (stackOf fs) 1)
 ends-string T.s-afterF0 d fs = not-final (eqb (stackOf fs) 1)
 ends-string T.s-afterF4 d fs = not-final (eqb (stackOf fs) 1)
 
-ends-name : (s : Str) (d : ℕ) (fs : List Bool) → endsOf (number (m-name s) fs) (stackOf (true ∷ fs)) ≡ end (still (m-name s) d fs)
+ends-name : (s : Str) (d : ℕ) (fs : List Bool) → endsOf (modeNumber (m-name s) fs) (stackOf (true ∷ fs)) ≡ canEnd (still (m-name s) d fs)
 unfolding endsOf
 ends-name T.s-char d fs = not-final (eqb (stackOf (true ∷ fs)) 1)
 ends-name T.s-escape d fs = not-final (eqb (stackOf (true ∷ fs)) 1)
@@ -152,7 +153,7 @@ ends-name T.s-afterED d fs = not-final (eqb (stackOf (true ∷ fs)) 1)
 ends-name T.s-afterF0 d fs = not-final (eqb (stackOf (true ∷ fs)) 1)
 ends-name T.s-afterF4 d fs = not-final (eqb (stackOf (true ∷ fs)) 1)
 
-pub coded-end : (m : Mode) (d : ℕ) (fs : List Bool) → endsOf (number m fs) (stackOf (frames m fs)) ≡ end (still m d fs)
+pub coded-end : (m : Mode) (d : ℕ) (fs : List Bool) → endsOf (modeNumber m fs) (stackOf (frames m fs)) ≡ canEnd (still m d fs)
 unfolding endsOf stackOf
 coded-end m-value zero fs = not-final (eqb (stackOf fs) 1)
 coded-end m-value (suc d) fs = not-final (eqb (stackOf fs) 1)

@@ -12,15 +12,16 @@ use lib.Seq.{take-at}
 use Rattle.json.specs.Verdict.{IsText, CanBegin, FirstFault, IsVerdict}
 use Rattle.json.specs.declared.JsonVerdict.{JsonVerdict}
 use Rattle.json.specs.declared.JsonVerdict.the-variants.{Text, Fault}
-use Rattle.json_machine.specs.Machine.{choose, actOf, kindOf, turnMode, turnStack, endsOf, walkFrom}
+use Rattle.octets.specs.Logic.{choose}
+use Rattle.json_machine.specs.Machine.{actOf, kindOf, turnMode, turnStack, endsOf, walkFrom}
 use Rattle.json_machine.proofs.Step.{Next, refused, at, step}
-use Rattle.json_machine.proofs.Law.{run, start, accepts, accepted, accepting, can-begin, cannot-begin}
+use Rattle.json_machine.proofs.Law.{runOver, begin, accepts, accepted, accepting, can-begin, cannot-begin}
 use Rattle.json_laws.proofs.Coded.{number-below}
 use Rattle.json_laws.proofs.Onward.{Coded, Onward, onward, coded-end}
 
 -- ---- lists
 
-run-append : (p : List ℕ) (n : Next) (t : List ℕ) → run n (p ++ t) ≡ run (run n p) t
+run-append : (p : List ℕ) (n : Next) (t : List ℕ) → runOver n (p ++ t) ≡ runOver (runOver n p) t
 run-append [] n t = refl
 run-append (b ∷ p) refused [] = refl
 run-append (b ∷ p) refused (c ∷ t) = refl
@@ -41,11 +42,11 @@ coded-refused : (n : Next) (mo st : ℕ) → Coded n mo st → mo ≡ 51 → n �
 coded-refused refused mo st c h = refl
 coded-refused (at m d fs) mo st c h = let l = number-below m fs in let e = c .0 in absurd (omega arith)
 
-coded-turn : (n : Next) (mo st b : ℕ) → mo < 51 → Coded n mo st → Onward (run n (b ∷ [])) (actOf mo st b) st
+coded-turn : (n : Next) (mo st b : ℕ) → mo < 51 → Coded n mo st → Onward (runOver n (b ∷ [])) (actOf mo st b) st
 coded-turn refused mo st b h c = absurd (omega arith)
 coded-turn (at m d fs) mo st b h c = onward m d fs b mo st c
 
-coded-begins : (p : List ℕ) (n : Next) → run start p ≡ n → (mo st : ℕ) → mo < 51 → Coded n mo st → CanBegin p
+coded-begins : (p : List ℕ) (n : Next) → runOver begin p ≡ n → (mo st : ℕ) → mo < 51 → Coded n mo st → CanBegin p
 coded-begins p refused e mo st l c = absurd (omega arith)
 coded-begins p (at m d fs) e mo st l c = can-begin p m d fs e
 
@@ -55,16 +56,16 @@ coded-ends (at m d fs) mo st l c = ap₂ endsOf (c .0) (c .1) ∙ coded-end m d 
 
 -- ---- the walk, after the bytes p
 
-module _ (p : List ℕ) (mo st : ℕ) (small : mo < 51) (coded : Coded (run start p) mo st) where
+module _ (p : List ℕ) (mo st : ℕ) (small : mo < 51) (coded : Coded (runOver begin p) mo st) where
   begins : CanBegin p
-  begins = coded-begins p (run start p) refl mo st small coded
+  begins = coded-begins p (runOver begin p) refl mo st small coded
 
   -- no byte is left
   right-end : (e : Bool) → endsOf mo st ≡ e → IsVerdict p (choose e Text (Fault (length p)))
-  right-end true e = accepted p (sym (coded-ends (run start p) mo st small coded) ∙ e)
+  right-end true e = accepted p (sym (coded-ends (runOver begin p) mo st small coded) ∙ e)
   right-end false e =
       record {
-        no-text = λ t. false≢true (sym e ∙ coded-ends (run start p) mo st small coded ∙ accepting p t);
+        no-text = λ t. false≢true (sym e ∙ coded-ends (runOver begin p) mo st small coded ∙ accepting p t);
         within = omega arith;
         before = subst (λ (l : List ℕ). CanBegin l) (sym whole) begins;
         there = λ l. absurd (omega arith);
@@ -84,13 +85,13 @@ module _ (p : List ℕ) (mo st : ℕ) (small : mo < 51) (coded : Coded (run star
     one-more : length more ≡ suc (length p)
     one-more = simp length-append (omega arith)
 
-    coded-more : Onward (run start more) (actOf mo st b) st
+    coded-more : Onward (runOver begin more) (actOf mo st b) st
     coded-more =
-        subst (λ (n : Next). Onward n (actOf mo st b) st) (sym (run-append p start (b ∷ []))) (coded-turn (run start p) mo st b small coded)
+        subst (λ (n : Next). Onward n (actOf mo st b) st) (sym (run-append p begin (b ∷ []))) (coded-turn (runOver begin p) mo st b small coded)
 
     right-fault : turnMode (kindOf (actOf mo st b)) (actOf mo st b) st ≡ 51 → FirstFault (p ++ (b ∷ t)) (length p)
     right-fault e =
-        let no : CanBegin more → ⊥ = cannot-begin more (coded-refused (run start more) _ _ coded-more e) in
+        let no : CanBegin more → ⊥ = cannot-begin more (coded-refused (runOver begin more) _ _ coded-more e) in
         let cut : take (suc (length p)) (p ++ (b ∷ t)) ≡ more =
         ap (take (suc (length p))) (sym joined) ∙ take-at more t (suc (length p)) one-more in
         let not-begin : CanBegin (take (suc (length p)) (p ++ (b ∷ t))) → ⊥ = λ v. no (subst (λ (l : List ℕ). CanBegin l) cut v) in
@@ -105,7 +106,7 @@ by-test : (s : List ℕ) (e : Bool) (v w : JsonVerdict) → (e ≡ true → IsVe
 by-test s true v w f g = f refl
 by-test s false v w f g = g refl
 
-pub right-from : (t p : List ℕ) (mo st : ℕ) → mo < 51 → Coded (run start p) mo st → IsVerdict (p ++ t) (walkFrom mo st (length p) t)
+pub right-from : (t p : List ℕ) (mo st : ℕ) → mo < 51 → Coded (runOver begin p) mo st → IsVerdict (p ++ t) (walkFrom mo st (length p) t)
 unfolding walkFrom
 right-from [] p mo st small coded =
     subst (λ (l : List ℕ). IsVerdict l (choose (endsOf mo st) Text (Fault (length p)))) (sym (append-nil p))
@@ -114,10 +115,10 @@ right-from (b ∷ t) p mo st small coded =
     let mo′ : ℕ = turnMode (kindOf (actOf mo st b)) (actOf mo st b) st in
     let st′ : ℕ = turnStack (kindOf (actOf mo st b)) st in
     let more : List ℕ = p ++ (b ∷ []) in
-    let c : Coded (run start more) mo′ st′ = coded-more p mo st small coded b t in
+    let c : Coded (runOver begin more) mo′ st′ = coded-more p mo st small coded b t in
     by-test (p ++ (b ∷ t)) (eqb mo′ 51) (Fault (length p)) (walkFrom mo′ st′ (suc (length p)) t)
     (λ e. right-fault p mo st small coded b t (eqb-true mo′ 51 e))
     (λ e.
-    let r = right-from t more mo′ st′ (coded-below (run start more) mo′ st′ c (eqb-false mo′ 51 e)) c in
+    let r = right-from t more mo′ st′ (coded-below (runOver begin more) mo′ st′ c (eqb-false mo′ 51 e)) c in
     subst (λ (l : List ℕ). IsVerdict l (walkFrom mo′ st′ (suc (length p)) t)) (append-assoc p (b ∷ []) t)
     (subst (λ (k : ℕ). IsVerdict (more ++ t) (walkFrom mo′ st′ k t)) (one-more p mo st small coded b t) r))

@@ -8,11 +8,12 @@ use borrow.Author.Tests.{ltb-true}
 use lib.Dec.{ltb}
 use lib.ListN.{getD}
 use Rattle.json_machine.specs.Table.{classes}
-use Rattle.json_machine.proofs.Derive.{and, and-true}
+use Rattle.octets.specs.Logic.{both}
+use Rattle.json_machine.proofs.Derive.{and-true}
 
 abbrev below : List ℕ → ℕ → Bool
 below [] n = true
-below (x ∷ l) n = and (ltb x n) (below l n)
+below (x ∷ l) n = both (ltb x n) (below l n)
 
 getD-below : (l : List ℕ) (n i : ℕ) → below l n ≡ true → 0 < n → getD l i 0 < n
 getD-below [] n i e z = z

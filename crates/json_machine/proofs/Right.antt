@@ -6,23 +6,23 @@ use mathlib.Core.Bool.{Bool, true, false}
 use mathlib.Core.List.{List, [], _∷_, headD, tail}
 use mathlib.Core.Logic.{⊎-elim}
 use native.Mathlib.Nat.{not-suc-le-zero, le-of-suc-le-suc, eq-or-lt-of-le}
-use Rattle.json.specs.Abnf.{Rule}
+use Rattle.json.specs.Abnf.{Abnf}
 use Rattle.json_machine.proofs.Derive.{rests}
 use Rattle.json_machine.specs.Table.{classes, rows}
 use Rattle.json_machine.proofs.Modes.{Token, Str, Mode, m-value, m-after, m-firstItem, m-firstMember, m-key, m-colon, m-token, m-string, m-name}
 use Rattle.json_machine.proofs.Modes as T
-use Rattle.json_machine.proofs.Step.{row, still, step, stills}
+use Rattle.json_machine.proofs.Step.{actAt, still, step, stills}
 
-abbrev pub all : ℕ → (ℕ → List (List Rule)) → List (List (List Rule))
+abbrev pub all : ℕ → (ℕ → List (List Abnf)) → List (List (List Abnf))
 all zero f = []
 all (suc n) f = f n ∷ all n f
 
-pub each : (f g : ℕ → List (List Rule)) (n : ℕ) → all n f ≡ all n g → (b : ℕ) → b < n → f b ≡ g b
+pub each : (f g : ℕ → List (List Abnf)) (n : ℕ) → all n f ≡ all n g → (b : ℕ) → b < n → f b ≡ g b
 unfolding headD
 each f g zero e b h = absurd (not-suc-le-zero h)
 each f g (suc n) e b h =
     ⊎-elim
-    (λ (q : b ≡ n). subst (λ (m : ℕ). f m ≡ g m) (sym q) (ap (λ (l : List (List (List Rule))). headD l []) e))
+    (λ (q : b ≡ n). subst (λ (m : ℕ). f m ≡ g m) (sym q) (ap (λ (l : List (List (List Abnf))). headD l []) e))
     (λ (q : b < n). each f g n (ap tail e) b q)
     (eq-or-lt-of-le (le-of-suc-le-suc h))
 
@@ -30,7 +30,7 @@ abbrev pub Right : Mode → ℕ → List Bool → Type 0
 Right m d fs = all 256 (λ b. rests b (still m d fs)) ≡ all 256 (λ b. stills (step m d fs b))
 
 right-token : (t : Token) (d : ℕ) (fs : List Bool) → Right (m-token t) d fs
-unfolding row
+unfolding actAt
 right-token T.t-minus d fs = refl
 right-token T.t-zero d [] = refl
 right-token T.t-zero d (false ∷ fs) = refl
@@ -58,7 +58,7 @@ right-token T.t-rue d fs = refl
 right-token T.t-ue d fs = refl
 
 right-string : (s : Str) (d : ℕ) (fs : List Bool) → Right (m-string s) d fs
-unfolding row
+unfolding actAt
 right-string T.s-char d fs = refl
 right-string T.s-escape d fs = refl
 right-string T.s-hex4 d fs = refl
@@ -74,7 +74,7 @@ right-string T.s-afterF0 d fs = refl
 right-string T.s-afterF4 d fs = refl
 
 right-name : (s : Str) (d : ℕ) (fs : List Bool) → Right (m-name s) d fs
-unfolding row
+unfolding actAt
 right-name T.s-char d fs = refl
 right-name T.s-escape d fs = refl
 right-name T.s-hex4 d fs = refl
@@ -90,7 +90,7 @@ right-name T.s-afterF0 d fs = refl
 right-name T.s-afterF4 d fs = refl
 
 pub right : (m : Mode) (d : ℕ) (fs : List Bool) → Right m d fs
-unfolding row
+unfolding actAt
 right m-value zero fs = refl
 right m-value (suc d) fs = refl
 right m-after d [] = refl

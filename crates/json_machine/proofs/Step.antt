@@ -4,7 +4,7 @@ use Prim.Native.Nat.{ℕ, zero, suc}
 use mathlib.Core.Bool.{Bool, true, false}
 use mathlib.Core.List.{List, [], _∷_}
 use lib.ListN.{getD}
-use Rattle.json.specs.Abnf.{Rule, range, _or_, many, byte, opt, some}
+use Rattle.json.specs.Abnf.{Abnf, range, _or_, many, byte, opt, some}
 use Rattle.json.specs.Utf8.{utf8-tail}
 use Rattle.json.specs.Grammar.{ws, digit, minus, plus, int, frac, exp, hexdig, escaped, char}
 use Rattle.json_machine.specs.Table.{classes, rows}
@@ -13,7 +13,7 @@ use Rattle.json_machine.proofs.Modes.{Token, Str, Mode, m-value, m-afte
 use Rattle.json_machine.proofs.Modes as T
 
 -- what may still come of a number or of false, null or true, and then k
-abbrev pub token : Token → List Rule → List Rule
+abbrev pub token : Token → List Abnf → List Abnf
 token T.t-minus k = int ∷ opt frac ∷ opt exp ∷ k
 token T.t-zero k = opt frac ∷ opt exp ∷ k
 token T.t-whole k = many digit ∷ opt frac ∷ opt exp ∷ k
@@ -33,10 +33,10 @@ token T.t-rue k = byte 0x72 ∷ byte 0x75 ∷ byte 0x65 ∷ k
 token T.t-ue k = byte 0x75 ∷ byte 0x65 ∷ k
 
 -- the rest of a string, between two characters
-abbrev pub chars : List Rule → List Rule
+abbrev pub chars : List Abnf → List Abnf
 chars k = many char ∷ byte 0x22 ∷ k
 
-abbrev pub str : Str → List Rule → List Rule
+abbrev pub str : Str → List Abnf → List Abnf
 str T.s-char k = chars k
 str T.s-escape k = escaped ∷ chars k
 str T.s-hex4 k = hexdig ∷ hexdig ∷ hexdig ∷ hexdig ∷ chars k
@@ -52,23 +52,23 @@ str T.s-afterF0 k = range 0x90 0xBF ∷ utf8-tail ∷ utf8-tail ∷ chars k
 str T.s-afterF4 k = range 0x80 0x8F ∷ utf8-tail ∷ utf8-tail ∷ chars k
 
 -- what may come after a value: d more may be opened, and these are open, an object where true
-abbrev pub after : ℕ → List Bool → List Rule
-after d [] = ws ∷ []
-after d (false ∷ fs) = ws ∷ items (plainValue d) ∷ byte 0x5D ∷ after (suc d) fs
-after d (true ∷ fs) = ws ∷ members (plainValue d) ∷ byte 0x7D ∷ after (suc d) fs
+abbrev pub afterValue : ℕ → List Bool → List Abnf
+afterValue d [] = ws ∷ []
+afterValue d (false ∷ fs) = ws ∷ items (plainValue d) ∷ byte 0x5D ∷ afterValue (suc d) fs
+afterValue d (true ∷ fs) = ws ∷ members (plainValue d) ∷ byte 0x7D ∷ afterValue (suc d) fs
 
-abbrev pub colon : ℕ → List Bool → List Rule
-colon d fs = ws ∷ byte 0x3A ∷ ws ∷ plainValue d ∷ after d (true ∷ fs)
+abbrev pub colon : ℕ → List Bool → List Abnf
+colon d fs = ws ∷ byte 0x3A ∷ ws ∷ plainValue d ∷ afterValue d (true ∷ fs)
 
-abbrev pub still : Mode → ℕ → List Bool → List Rule
-still m-value d fs = ws ∷ plainValue d ∷ after d fs
-still m-after d fs = after d fs
-still m-firstItem d fs = ws ∷ arrayRest (plainValue d) ∷ after (suc d) fs
-still m-firstMember d fs = ws ∷ objectRest (plainValue d) ∷ after (suc d) fs
-still m-key d fs = ws ∷ plainMember (plainValue d) ∷ members (plainValue d) ∷ byte 0x7D ∷ after (suc d) fs
+abbrev pub still : Mode → ℕ → List Bool → List Abnf
+still m-value d fs = ws ∷ plainValue d ∷ afterValue d fs
+still m-after d fs = afterValue d fs
+still m-firstItem d fs = ws ∷ arrayRest (plainValue d) ∷ afterValue (suc d) fs
+still m-firstMember d fs = ws ∷ objectRest (plainValue d) ∷ afterValue (suc d) fs
+still m-key d fs = ws ∷ plainMember (plainValue d) ∷ members (plainValue d) ∷ byte 0x7D ∷ afterValue (suc d) fs
 still m-colon d fs = colon d fs
-still (m-token t) d fs = token t (after d fs)
-still (m-string s) d fs = str s (after d fs)
+still (m-token t) d fs = token t (afterValue d fs)
+still (m-string s) d fs = str s (afterValue d fs)
 still (m-name s) d fs = str s (colon d fs)
 
 abbrev pub frames : Mode → List Bool → List Bool
@@ -87,24 +87,24 @@ afterNumber [] = 5
 afterNumber (false ∷ fs) = 6
 afterNumber (true ∷ fs) = 7
 
-abbrev pub number : Mode → List Bool → ℕ
-number m-value fs = 0
-number m-after fs = afterNumber fs
-number m-firstItem fs = 1
-number m-firstMember fs = 2
-number m-key fs = 3
-number m-colon fs = 4
-number (m-token t) fs = tokenNumber t
-number (m-string s) fs = stringNumber s
-number (m-name s) fs = nameNumber s
+abbrev pub modeNumber : Mode → List Bool → ℕ
+modeNumber m-value fs = 0
+modeNumber m-after fs = afterNumber fs
+modeNumber m-firstItem fs = 1
+modeNumber m-firstMember fs = 2
+modeNumber m-key fs = 3
+modeNumber m-colon fs = 4
+modeNumber (m-token t) fs = tokenNumber t
+modeNumber (m-string s) fs = stringNumber s
+modeNumber (m-name s) fs = nameNumber s
 
 pub data Next : Type 0 where
   refused : Next
   at : Mode → ℕ → List Bool → Next
 
-unfoldable pub row : ℕ → ℕ → Act
+unfoldable pub actAt : ℕ → ℕ → Act
 unfolding classes rows
-row n b = getD acts (getD (getD rows n []) (getD classes b 0) 0) T.fault
+actAt n b = getD acts (getD (getD rows n []) (getD classes b 0) 0) T.fault
 
 -- in the mode m, with d more to open and these open
 abbrev pub place : Mode → ℕ → List Bool → Next
@@ -147,8 +147,8 @@ act T.openObject d fs n = opened m-firstMember d fs
 act T.close d fs n = closed d fs
 
 abbrev pub step : Mode → ℕ → List Bool → ℕ → Next
-step m d fs b = act (row (number m fs) b) d (frames m fs) (act (row (afterNumber (frames m fs)) b) d (frames m fs) refused)
+step m d fs b = act (actAt (modeNumber m fs) b) d (frames m fs) (act (actAt (afterNumber (frames m fs)) b) d (frames m fs) refused)
 
-abbrev pub stills : Next → List (List Rule)
+abbrev pub stills : Next → List (List Abnf)
 stills refused = []
 stills (at m d fs) = still m d fs ∷ []

@@ -11,51 +11,52 @@ use borrow.Author.Tests.{lt-leb, ltb-true}
 use lib.Dec.{ltb, leb}
 use lib.ListN.{getD, length, List·getD-eq-default}
 use Rattle.octets.proofs.Over.{le-or-lt}
-use Rattle.json.specs.Abnf.{Rule, range, _·_, _or_, empty, many}
+use Rattle.json.specs.Abnf.{Abnf, range, _·_, _or_, empty, many}
 use Rattle.json_machine.specs.Table.{classes}
-use Rattle.json_machine.proofs.Derive.{rest, rests, and, and-true}
+use Rattle.octets.specs.Logic.{both}
+use Rattle.json_machine.proofs.Derive.{rest, rests, and-true}
 use Rattle.json_machine.proofs.Plain.{plainValue}
 use Rattle.json_machine.proofs.Modes.{Token, Str, Mode, m-value, m-after, m-firstItem, m-firstMember, m-key, m-colon, m-token, m-string, m-name, Act}
 use Rattle.json_machine.proofs.Modes as T
-use Rattle.json_machine.proofs.Step.{Next, still, step, stills, act, row, number, frames, afterNumber, after, colon, token, str, refused}
+use Rattle.json_machine.proofs.Step.{Next, still, step, stills, act, actAt, modeNumber, frames, afterNumber, afterValue, colon, token, str, refused}
 use Rattle.json_machine.proofs.Right.{each, right}
 
 -- each range is one of 1 to 255
-abbrev within : Rule → Bool
-within (range lo hi) = and (ltb 0 lo) (ltb hi 256)
-within (x · y) = and (within x) (within y)
-within (x or y) = and (within x) (within y)
+abbrev within : Abnf → Bool
+within (range lo hi) = both (ltb 0 lo) (ltb hi 256)
+within (x · y) = both (within x) (within y)
+within (x or y) = both (within x) (within y)
 within empty = true
 within (many x) = within x
 
-abbrev allWithin : List Rule → Bool
+abbrev allWithin : List Abnf → Bool
 allWithin [] = true
-allWithin (x ∷ k) = and (within x) (allWithin k)
+allWithin (x ∷ k) = both (within x) (allWithin k)
 
 -- ---- nothing is left after such a number
 
-and-false : (a : Bool) → and a false ≡ false
+and-false : (a : Bool) → both a false ≡ false
 and-false true = refl
 and-false false = refl
 
 module _ (b : ℕ) (outside : (b ≡ 0) ⊎ (256 ≤ b)) where
-  not-in : (lo hi : ℕ) → 0 < lo → hi < 256 → and (leb lo b) (leb b hi) ≡ false
+  not-in : (lo hi : ℕ) → 0 < lo → hi < 256 → both (leb lo b) (leb b hi) ≡ false
   not-in lo hi l h =
       ⊎-elim
       (λ (e : b ≡ 0). let z : b < lo = omega arith in rw (lt-leb lo b z) refl)
       (λ (e : 256 ≤ b). let z : hi < b = omega arith in rw (lt-leb b hi z) (and-false (leb lo b)))
       outside
 
-  none : (x : Rule) (k : List Rule) → within x ≡ true → rest b x k [] ≡ []
+  none : (x : Abnf) (k : List Abnf) → within x ≡ true → rest b x k [] ≡ []
   none (range lo hi) k e =
       let w = and-true (ltb 0 lo) (ltb hi 256) e in
       rw (not-in lo hi (ltb-true 0 lo (w .0)) (ltb-true hi 256 (w .1))) refl
   none (x · y) k e = let w = and-true (within x) (within y) e in ap (rest b x (y ∷ k)) (none y k (w .1)) ∙ none x (y ∷ k) (w .0)
-  none (x or y) k e = let w = and-true (within x) (within y) e in ap₂ (λ (l m : List (List Rule)). l ++ m) (none x k (w .0)) (none y k (w .1))
+  none (x or y) k e = let w = and-true (within x) (within y) e in ap₂ (λ (l m : List (List Abnf)). l ++ m) (none x k (w .0)) (none y k (w .1))
   none empty k e = refl
-  none (many x) k e = ap (λ (l : List (List Rule)). l ++ []) (none x (many x ∷ k) e)
+  none (many x) k e = ap (λ (l : List (List Abnf)). l ++ []) (none x (many x ∷ k) e)
 
-  rests-none : (k : List Rule) → allWithin k ≡ true → rests b k ≡ []
+  rests-none : (k : List Abnf) → allWithin k ≡ true → rests b k ≡ []
   rests-none [] e = refl
   rests-none (x ∷ k) e = let w = and-true (within x) (allWithin k) e in ap (rest b x k) (rests-none k (w .1)) ∙ none x k (w .0)
 
@@ -65,7 +66,7 @@ within-value : (d : ℕ) → within (plainValue d) ≡ true
 within-value zero = refl
 within-value (suc d) = rw (within-value d) refl
 
-within-after : (d : ℕ) (fs : List Bool) → allWithin (after d fs) ≡ true
+within-after : (d : ℕ) (fs : List Bool) → allWithin (afterValue d fs) ≡ true
 within-after d [] = refl
 within-after d (false ∷ fs) = rw (within-value d) (within-after (suc d) fs)
 within-after d (true ∷ fs) = rw (within-value d) (within-after (suc d) fs)
@@ -73,7 +74,7 @@ within-after d (true ∷ fs) = rw (within-value d) (within-after (suc d) fs)
 within-colon : (d : ℕ) (fs : List Bool) → allWithin (colon d fs) ≡ true
 within-colon d fs = rw (within-value d) (within-after (suc d) fs)
 
-within-token : (t : Token) (k : List Rule) → allWithin k ≡ true → allWithin (token t k) ≡ true
+within-token : (t : Token) (k : List Abnf) → allWithin k ≡ true → allWithin (token t k) ≡ true
 within-token T.t-minus k e = e
 within-token T.t-zero k e = e
 within-token T.t-whole k e = e
@@ -92,7 +93,7 @@ within-token T.t-l k e = e
 within-token T.t-rue k e = e
 within-token T.t-ue k e = e
 
-within-string : (s : Str) (k : List Rule) → allWithin k ≡ true → allWithin (str s k) ≡ true
+within-string : (s : Str) (k : List Abnf) → allWithin k ≡ true → allWithin (str s k) ≡ true
 within-string T.s-char k e = e
 within-string T.s-escape k e = e
 within-string T.s-hex4 k e = e
@@ -114,8 +115,8 @@ within-still m-firstItem d fs = rw (within-value d) (within-after (suc d) fs)
 within-still m-firstMember d fs = rw (within-value d) (within-after (suc d) fs)
 within-still m-key d fs = rw (within-value d) (within-after (suc d) fs)
 within-still m-colon d fs = within-colon d fs
-within-still (m-token t) d fs = within-token t (after d fs) (within-after d fs)
-within-still (m-string s) d fs = within-string s (after d fs) (within-after d fs)
+within-still (m-token t) d fs = within-token t (afterValue d fs) (within-after d fs)
+within-still (m-string s) d fs = within-string s (afterValue d fs) (within-after d fs)
 within-still (m-name s) d fs = within-string s (colon d fs) (within-colon d fs)
 
 -- ---- the machine takes a number from 256 on for 0
@@ -124,14 +125,14 @@ pub class-past : (b : ℕ) → 256 ≤ b → getD classes b 0 ≡ getD classes 0
 unfolding classes
 class-past b h = List·getD-eq-default classes 0 h
 
-pub row-past : (n b : ℕ) → 256 ≤ b → row n b ≡ row n 0
-unfolding row
+pub row-past : (n b : ℕ) → 256 ≤ b → actAt n b ≡ actAt n 0
+unfolding actAt
 row-past n b h = rw (class-past b h) refl
 
 module _ (m : Mode) (d : ℕ) (fs : List Bool) where
   pub step-past : (b : ℕ) → 256 ≤ b → step m d fs b ≡ step m d fs 0
   step-past b h =
-      ap₂ (λ (x y : Act). act x d (frames m fs) (act y d (frames m fs) refused)) (row-past (number m fs) b h) (row-past (afterNumber (frames m fs)) b h)
+      ap₂ (λ (x y : Act). act x d (frames m fs) (act y d (frames m fs) refused)) (row-past (modeNumber m fs) b h) (row-past (afterNumber (frames m fs)) b h)
 
   below : (b : ℕ) → b < 256 → rests b (still m d fs) ≡ stills (step m d fs b)
   below b l = each (λ b. rests b (still m d fs)) (λ b. stills (step m d fs b)) 256 (right m d fs) b l

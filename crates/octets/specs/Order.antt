@@ -1,7 +1,8 @@
 -- Both byte orders in one: what the two of `Bytes` are by an order.
 -- Assumes nothing.
-use Prim.Native.Nat.{ℕ, _+_, _-_, _*_}
+use Prim.Native.Nat.{ℕ, _-_}
 use mathlib.Core.List.{List}
+use lib.ListN.{length, take, drop}
 use Rattle.octets.specs.Bytes.{beValue, leValue, beBytes, leBytes, field, leField}
 use Rattle.octets.specs.declared.Order.{Order}
 use Rattle.octets.specs.declared.Order.the-variants.{Big, Little}
@@ -22,11 +23,11 @@ fieldOf Big w at s = field w at s
 fieldOf Little w at s = leField w at s
 
 -- where the byte stands, of so many, that counts most after k others
-abbrev pub placeOf : Order → ℕ → ℕ → ℕ
-placeOf Big count k = k
-placeOf Little count k = count - 1 - k
+abbrev pub bytePlace : Order → ℕ → ℕ → ℕ
+bytePlace Big count k = k
+bytePlace Little count k = count - 1 - k
 
--- the number of two halves; unit: 256 for each byte of a half
-abbrev pub joinOf : Order → ℕ → ℕ → ℕ → ℕ
-joinOf Big first second unit = first * unit + second
-joinOf Little first second unit = second * unit + first
+-- the number of the k bytes of a byte string that count most
+abbrev pub soFar : Order → List ℕ → ℕ → ℕ
+soFar Big t k = beValue (take k t)
+soFar Little t k = leValue (drop (length t - k) t)

@@ -4,9 +4,9 @@
 // a write leaves out the bytes that would lie past the end.
 ghost use mathlib.Core.Path.{_≡_};
 ghost use Prim.Native.Nat.{_+_, _-_, _*_, _^_, _<_, _≤_, min};
-ghost use lib.ListN.{length};
+ghost use lib.ListN.{length, take, drop};
 ghost use Rattle.octets.specs.Bytes.{beBytes, leBytes, field, leField};
-ghost use Rattle.octets.specs.Order.{bytesOf, fieldOf, placeOf, joinOf};
+ghost use Rattle.octets.specs.Order.{bytesOf, fieldOf, bytePlace, soFar};
 ghost use Rattle.octets.specs.Over.{over};
 
 fn wide(b: u8) -> u64
@@ -39,7 +39,7 @@ enum Order {
 // Where the byte stands, of `count`, that counts most after k others.
 fn place(order: Order, count: usize, k: usize) -> usize
     requires { ⌜ k < count ⌝ }
-    ensures { λ r. ⌜ r ≡ placeOf order count k ⌝ }
+    ensures { λ r. ⌜ r ≡ bytePlace order count k ⌝ }
     ensures { λ r. ⌜ r < count ⌝ }
 {
     match order {
@@ -65,18 +65,15 @@ fn part_value(s: &[u8], at: usize, width: usize, order: Order) -> u64
     v
 }
 
-// ---- a number that a slice has whole, by halves: this compiles to one load
+// ---- a number that a slice has whole: the same with no loop, which compiles to one load
 
-// The number of two halves of so many bytes; `unit` is 256 for each byte of a half.
-fn join(first: u64, second: u64, unit: u64, order: Order) -> u64
-    requires { ⌜ (first < unit) × (second < unit) × (unit ≤ 4294967296) ⌝ }
-    ensures { λ r. ⌜ r ≡ joinOf order first second unit ⌝ }
-    ensures { λ r. ⌜ r < unit * unit ⌝ }
+// The number of one byte more, in the order in which they count, of `count` bytes at a position.
+fn next(value: u64, s: &[u8], at: usize, count: usize, order: Order, k: usize) -> u64
+    requires { ⌜ (k < count) × (count ≤ 8) × (at + count ≤ length (now s)) × (value < 256 ^ k) × (value ≡ soFar order (take count (drop at (now s))) k) ⌝ }
+    ensures { λ r. ⌜ (r < 256 ^ (k + 1)) × (r ≡ soFar order (take count (drop at (now (s .entry)))) (k + 1)) ⌝ }
 {
-    match order {
-        Order::Big => first * unit + second,
-        Order::Little => second * unit + first,
-    }
+    let i = place(order, count, k);
+    value * 256 + wide(s[at + i])
 }
 
 fn two(s: &[u8], at: usize, order: Order) -> u64
@@ -84,7 +81,8 @@ fn two(s: &[u8], at: usize, order: Order) -> u64
     ensures { λ r. ⌜ r ≡ fieldOf order 2 at (now (s .entry)) ⌝ }
     ensures { λ r. ⌜ r < 256 ^ 2 ⌝ }
 {
-    join(wide(s[at]), wide(s[at + 1]), 256, order)
+    let a = next(0, s, at, 2, order, 0);
+    next(a, s, at, 2, order, 1)
 }
 
 fn four(s: &[u8], at: usize, order: Order) -> u64
@@ -92,7 +90,10 @@ fn four(s: &[u8], at: usize, order: Order) -> u64
     ensures { λ r. ⌜ r ≡ fieldOf order 4 at (now (s .entry)) ⌝ }
     ensures { λ r. ⌜ r < 256 ^ 4 ⌝ }
 {
-    join(two(s, at, order), two(s, at + 2, order), 65536, order)
+    let a = next(0, s, at, 4, order, 0);
+    let b = next(a, s, at, 4, order, 1);
+    let c = next(b, s, at, 4, order, 2);
+    next(c, s, at, 4, order, 3)
 }
 
 fn eight(s: &[u8], at: usize, order: Order) -> u64
@@ -100,12 +101,14 @@ fn eight(s: &[u8], at: usize, order: Order) -> u64
     ensures { λ r. ⌜ r ≡ fieldOf order 8 at (now (s .entry)) ⌝ }
     ensures { λ r. ⌜ r < 256 ^ 8 ⌝ }
 {
-    join(
-        four(s, at, order),
-        four(s, at + 4, order),
-        4294967296,
-        order,
-    )
+    let a = next(0, s, at, 8, order, 0);
+    let b = next(a, s, at, 8, order, 1);
+    let c = next(b, s, at, 8, order, 2);
+    let d = next(c, s, at, 8, order, 3);
+    let e = next(d, s, at, 8, order, 4);
+    let f = next(e, s, at, 8, order, 5);
+    let g = next(f, s, at, 8, order, 6);
+    next(g, s, at, 8, order, 7)
 }
 
 // ---- reading

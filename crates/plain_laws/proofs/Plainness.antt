@@ -1,7 +1,7 @@
 -- What is written is plain; and the plan of an accepted image is never refused, and its numbers fit.
 -- Assumes nothing.
 use Prim.Native.Nat.{ℕ, zero, suc, _+_, _≤_}
-use mathlib.Core.Path.{_≡_, refl, sym, ap, _∙_}
+use mathlib.Core.Path.{_≡_, refl, ap, _∙_}
 use mathlib.Core.List.{List}
 use native.Mathlib.Omega.{arith}
 use lib.ListN.{length, drop}
@@ -15,12 +15,13 @@ use Rattle.eif.specs.Plan.{plannedKind, plannedSize, packedAt, planVerdict, pla
 use Rattle.eif.specs.declared.Place.{Place}
 use Rattle.eif.specs.declared.Plan.{Plan}
 use Rattle.eif.specs.declared.Verdict.the-variants.{Accepted}
-use Rattle.eif_rules.proofs.Types.{order-same, missing-same}
-use Rattle.eif_rules.proofs.Table.{filled-past}
-use Rattle.eif_rules.proofs.Accept.{none-missing-of, order-at}
+use Rattle.eif_lemmas.proofs.Types.{order-same, missing-same}
+use Rattle.eif_lemmas.proofs.Table.{filled-past}
+use Rattle.eif_lemmas.proofs.Accept.{none-missing-of, order-at}
 use Rattle.plain_laws.proofs.Shape.{packed-suc, packed-zero}
 use Rattle.plain_laws.proofs.PlanRules.{Planned, →planned}
-use Rattle.plain_laws.proofs.Written.{Fits, read-count, offset-entry, size-entry, read-reserved, read-reserved-after}
+use Rattle.plain_laws.specs.RoundTrip.{Fits}
+use Rattle.plain_laws.proofs.Written.{read-count, offset-entry, size-entry, read-reserved, read-reserved-after}
 use Rattle.plain_laws.proofs.ReadBack.{plain-accepted}
 use Rattle.plain_laws.proofs.Joined.{bytes-joined, length-joined}
 use Rattle.plain_laws.proofs.WriteBack.{plan, piece, given, head, entry, place-is, kind-is, size-is, length-piece-is}
@@ -89,8 +90,8 @@ module _ (s : List ℕ) (ok : verdictOf s ≡ Accepted) where
     plan-fits =
         record {
           flags = field-lt 2 6 s w;
-          memory = field-lt 8 8 s w;
-          cpus = field-lt 8 16 s w;
+          «default_mem» = field-lt 8 8 s w;
+          «default_cpus» = field-lt 8 16 s w;
           section-flags = λ i h. rw (place-is s ok i h) (field-lt 2 (offsetAt s i + 2) s w);
         }
 

@@ -1,25 +1,26 @@
 -- A plan is accepted exactly when it meets every rule, said without an order of tests.
 -- Assumes nothing.
 use Prim.Native.Nat.{ℕ, _<_, _≤_}
-use mathlib.Core.Path.{_≡_, refl}
+use mathlib.Core.Path.{_≡_, refl, sym}
 use mathlib.Core.Bool.{Bool, true, false, not}
 use mathlib.Core.List.{List}
 use native.Mathlib.Omega.{arith}
-use borrow.Author.Tests.{le-ltb, eq-eqb, le-leb, ltb-false, eqb-true, leb-true, not-false}
+use borrow.Author.Tests.{le-ltb, eq-eqb, ltb-false, eqb-true, leb-true, not-false}
 use lib.Dec.{eqb, ltb, leb}
-use Rattle.eif.specs.Numbers.{sizeLimit, placeCount}
-use Rattle.eif.specs.Rules.{typeFault, versionKnown, countKnown, allowedIn, orderFault, missing, firstFault}
-use Rattle.eif.specs.Plan.{plannedKind, plainSize, dataBefore, fieldFault, sizeFault, planFault, planVerdict}
+use Rattle.eif.specs.Numbers.{sizeLimit, placeCount, fewestSections, oldestVersion, newestVersion}
+use Rattle.eif.specs.Rules.{typeFault, allowedIn, orderFault, missing, firstFault, fieldFault}
+use Rattle.eif.specs.Plan.{plannedKind, plainSize, dataBefore, sizeFault, planFault, planVerdict}
 use Rattle.eif.specs.declared.Place.{Place}
 use Rattle.eif.specs.declared.Plan.{Plan}
 use Rattle.eif.specs.declared.Verdict.the-variants.{Accepted}
-use Rattle.eif_rules.proofs.Logic.{choose-zero, both-true}
-use Rattle.eif_rules.proofs.Verdicts.{then-accepted, whole-zero, all-accepted, walk-accepted, walk-all}
+use Rattle.eif_lemmas.proofs.Logic.{choose-zero, both-true}
+use Rattle.eif_lemmas.proofs.Fields.{fields, fields-fine}
+use Rattle.eif_lemmas.proofs.Verdicts.{then-accepted, whole-zero, all-accepted, walk-accepted, walk-all}
 
 pub record Planned (p : Plan) (given : ℕ) : Type 0 where
-  pub low : 2 ≤ p .version
-  pub high : p .version ≤ 4
-  pub some : 2 ≤ p .count
+  pub low : oldestVersion ≤ p .version
+  pub high : p .version ≤ newestVersion
+  pub some : fewestSections ≤ p .count
   pub few : p .count ≤ placeCount
   pub allowed : (i : ℕ) → i < p .count → allowedIn (p .version) (plannedKind (p .places) i) ≡ true
   pub order : (i : ℕ) → i < p .count → orderFault (plannedKind (p .places)) (plannedKind (p .places) i) i ≡ 0
@@ -48,24 +49,20 @@ module _ (p : Plan) (given : ℕ) where
   at-place e i q = walk-accepted (typeFault (p .version) (plannedKind l)) (p .count) 0 e i (omega arith) (omega arith)
 
   pub planned→ : planVerdict p given ≡ Accepted → Planned p given
-  unfolding planVerdict fieldFault planFault sizeFault
+  unfolding planVerdict planFault sizeFault
   planned→ e =
       let a = then-accepted _ _ e in
       let b = then-accepted _ _ (a .1) in
-      let f = whole-zero _ (a .0) in
-      let g = choose-zero (not (versionKnown (p .version))) 3 _ f in
-      let h = choose-zero (not (countKnown (p .count))) 4 _ (g .1) in
-      let v = both-true _ _ (not-false _ (g .0)) in
-      let n = both-true _ _ (not-false _ (h .0)) in
+      let f = fields (p .version) (p .count) (whole-zero _ (a .0)) in
       let w = whole-zero _ (b .1) in
       let x = choose-zero (missing (plannedKind l) (p .version) (p .count)) 11 _ w in
       let y = choose-zero (ltb sizeLimit (plainSize p)) 0 _ (x .1) in
       let z = choose-zero (not (eqb given (dataBefore l (p .count)))) 14 _ (y .1) in
       record {
-        low = leb-true _ _ (v .0);
-        high = leb-true _ _ (v .1);
-        some = leb-true _ _ (n .0);
-        few = leb-true _ _ (n .1);
+        low = f .low;
+        high = f .high;
+        some = f .some;
+        few = f .few;
         allowed = λ i q. place-zero (p .version) l i (at-place (b .0) i q) .0;
         order = λ i q. place-zero (p .version) l i (at-place (b .0) i q) .1;
         none-missing = x .0;
@@ -74,9 +71,8 @@ module _ (p : Plan) (given : ℕ) where
       }
 
   module _ (a : Planned p given) where
-    fields-zero : fieldFault p ≡ 0
-    unfolding fieldFault
-    fields-zero = simp (le-leb _ _ (a .low), le-leb _ _ (a .high), le-leb _ _ (a .some), le-leb _ _ (a .few))
+    fields-zero : fieldFault (p .version) (p .count) ≡ 0
+    fields-zero = sym (fields-fine (p .version) (p .count) (a .low) (a .high) (a .some) (a .few))
 
     plan-zero : planFault p given ≡ 0
     unfolding planFault sizeFault
@@ -85,7 +81,7 @@ module _ (p : Plan) (given : ℕ) where
     pub →planned : planVerdict p given ≡ Accepted
     unfolding planVerdict
     →planned =
-        all-accepted (fieldFault p) (planFault p given) _ fields-zero
+        all-accepted (fieldFault (p .version) (p .count)) (planFault p given) _ fields-zero
         (walk-all (typeFault (p .version) (plannedKind l)) (p .count) 0
         (λ i k q. zero-place (p .version) l i (a .allowed i (omega arith)) (a .order i (omega arith)))) plan-zero
 

@@ -1,6 +1,6 @@
 -- Reading the plain image of a plan gives the plan back.
 -- Assumes nothing.
-use Prim.Native.Nat.{ℕ, zero, suc, _+_, _<_, _≤_}
+use Prim.Native.Nat.{ℕ, zero, suc, _+_, _<_}
 use mathlib.Core.Path.{_≡_, refl, sym, ap, ap₂, _∙_}
 use mathlib.Core.Bool.{false}
 use mathlib.Core.List.{List}
@@ -11,23 +11,22 @@ use Rattle.octets.specs.Bytes.{AreBytes}
 use Rattle.eif.specs.Numbers.{placeCount}
 use Rattle.eif.specs.Rules.{allowedIn, orderFault, missing}
 use Rattle.eif.specs.Table.{filled}
-use Rattle.eif.specs.Layout.{sectionHeaderSize, viewOf, architecture, memory, cpus, versionOf, countOf, startAt, kindAt}
-use Rattle.eif.specs.Reading.{entryRule, hasTail, checksumOf, verdictOf, sectionAt, blankSection, sectionsOf, markOf, readImage}
-use Rattle.eif.specs.Plan.{placeAt, plannedKind, plannedSize, packedAt, plainSize, plainImage}
+use Rattle.eif.specs.Layout.{viewOf, architecture, versionOf, countOf, startAt, kindAt}
+use Rattle.eif.specs.Reading.{entryFault, hasTail, checksumOf, verdictOf, sectionAt, blankSection, sectionsOf, markOf, readImage}
+use Rattle.eif.specs.Plan.{plannedKind, packedAt, plainSize, plainImage}
 use Rattle.eif.specs.declared.Place.{Place}
 use Rattle.eif.specs.declared.Plan.{Plan}
-use Rattle.eif.specs.declared.Section.{Section}
-use Rattle.eif.specs.declared.Reading.{Reading}
 use Rattle.eif.specs.declared.Verdict.the-variants.{Accepted}
-use Rattle.eif_rules.proofs.Types.{order-same, missing-same}
-use Rattle.eif_rules.proofs.Table.{filled-same}
-use Rattle.eif_rules.proofs.View.{no-fault, fault-order}
-use Rattle.eif_rules.proofs.Accept.{→accepted}
-use Rattle.eif_rules.proofs.Reading.{reading-accepted}
+use Rattle.eif_lemmas.proofs.Types.{order-same, missing-same}
+use Rattle.eif_lemmas.proofs.Table.{filled-same}
+use Rattle.eif_lemmas.proofs.View.{no-fault, fault-order}
+use Rattle.eif_lemmas.proofs.Accept.{→accepted}
+use Rattle.eif_lemmas.proofs.Reading.{reading-accepted}
 use Rattle.plain_laws.specs.Packed.{packedSection, packedSections, packedReading}
 use Rattle.plain_laws.proofs.PlanRules.{Planned}
 use Rattle.plain_laws.proofs.Shape.{packed-le, packed-zero, length-plain}
-use Rattle.plain_laws.proofs.Written.{Fits, read-magic, read-version, read-flags, read-memory, read-cpus, read-count, read-offset, read-size, read-kind, read-section-flags, read-own-size, read-start, read-end, read-sum}
+use Rattle.plain_laws.specs.RoundTrip.{Fits}
+use Rattle.plain_laws.proofs.Written.{read-magic, read-version, read-flags, read-default-mem, read-default-cpus, read-count, read-offset, read-size, read-kind, read-section-flags, read-own-size, read-start, read-end, read-sum}
 
 -- ---- it is accepted
 
@@ -41,7 +40,7 @@ module _ (p : Plan) (d : List ℕ) (a : Planned p (length d)) where
   pub long : length s ≡ plainSize p
   long = length-plain p d (a .sized)
 
-  entry-fine : (i : ℕ) → i < p .count → entryRule (viewOf s) i ≡ 0
+  entry-fine : (i : ℕ) → i < p .count → entryFault (viewOf s) i ≡ 0
   entry-fine i h =
       let o = read-offset p d a i h in
       let b = read-start p d a i h in
@@ -120,8 +119,8 @@ module _ (p : Plan) (d : List ℕ) (a : Planned p (length d)) where
           let v = read-version p d a in
           let n = read-count p d a in
           let f = read-flags p d a (c .flags) in
-          let m = read-memory p d a (c .memory) in
-          let u = read-cpus p d a (c .cpus) in
+          let m = read-default-mem p d a (c .«default_mem») in
+          let u = read-default-cpus p d a (c .«default_cpus») in
           let q = sections-back in
           reading-accepted s plain-accepted
-          ∙ (λ t. record { verdict = Accepted; version = v t; flags = f t; architecture = architecture (f t); memory = m t; cpus = u t; count = n t; sections = q t; ramdisks = markOf (q t) })
+          ∙ (λ t. record { verdict = Accepted; version = v t; flags = f t; architecture = architecture (f t); «default_mem» = m t; «default_cpus» = u t; count = n t; sections = q t; «ramdisk_mark» = markOf (q t) })

@@ -13,21 +13,21 @@ use lib.ListN.{length, getD, List·getD-map}
 use Rattle.octets.specs.Bytes.{AreBytes}
 use Rattle.octets.specs.Over.{over}
 use Rattle.eif.specs.Numbers.{placeCount, outputTooShort}
-use Rattle.eif.specs.Logic.{choose}
-use Rattle.eif.specs.Layout.{viewOf, reserved, reservedAfter, countOf, offsetAt, sizeAt}
+use Rattle.octets.specs.Logic.{choose}
 use Rattle.eif.specs.Answers.{refuse, andThen}
 use Rattle.eif.specs.Output.{outputFor}
 use Rattle.eif.specs.Reading.{verdictOf, blankSection, readImage, dataOf}
-use Rattle.eif.specs.Plan.{placeAt, dataBefore, plainSize, pieceAt, planVerdict, writeVerdict, plainImage, writtenFor, writeAnswer, planLength, writeOutput, Plain, placeOf, planOf, joinFrom, dataJoined}
+use Rattle.eif.specs.Plan.{placeAt, dataBefore, plainSize, pieceAt, planVerdict, writeVerdict, plainImage, writtenFor, writeAnswer, planLength, writeOutput, Plain, placeOf, planOf, dataJoined}
 use Rattle.eif.specs.declared.Plan.{Plan}
 use Rattle.eif.specs.declared.Verdict.{Verdict}
 use Rattle.eif.specs.declared.Verdict.the-variants.{Accepted}
-use Rattle.eif_rules.proofs.Table.{filled-at}
-use Rattle.eif_rules.proofs.Verdicts.{then-none}
-use Rattle.eif_rules.proofs.Reading.{reading-accepted}
+use Rattle.eif_lemmas.proofs.Table.{filled-at}
+use Rattle.eif_lemmas.proofs.Verdicts.{then-none}
+use Rattle.eif_lemmas.proofs.Reading.{reading-accepted}
 use Rattle.plain_laws.specs.Packed.{packedSection, packedReading, SamePlan}
 use Rattle.plain_laws.proofs.PlanRules.{Planned, planned→}
-use Rattle.plain_laws.proofs.Written.{Fits, read-data}
+use Rattle.plain_laws.specs.RoundTrip.{Fits, ReadsBack, Writes, WrittenFrom, UnusedZero, SameWriting}
+use Rattle.plain_laws.proofs.Written.{read-data}
 use Rattle.plain_laws.proofs.ReadBack.{plain-accepted, reads-back, long}
 use Rattle.plain_laws.proofs.Joined.{join-same, pieces-joined}
 use Rattle.plain_laws.proofs.WriteBack.{plan, given, joined-is, plain-again, length-plan}
@@ -35,20 +35,6 @@ use Rattle.plain_laws.proofs.Plainness.{is-plain, plan-accepted, plan-f
 use Rattle.plain_laws.proofs.SamePlan.{size-of-same, verdict-of-same, image-of-same}
 
 -- ---- what is written is read back
-
-pub record ReadsBack (p : Plan) (d : List ℕ) : Type 0 where
-  -- the plain image is accepted, and its reading has the plan's version, flags, memory, cpus and count, of each used place
-  -- the type, flags, length and packed position, and unused places blank
-  pub accepted : verdictOf (plainImage p d) ≡ Accepted
-  pub reading : readImage (plainImage p d) ≡ packedReading p
-  -- as a plan, that reading is the plan in every field and used place
-  pub plan-back : SamePlan (planOf (readImage (plainImage p d))) p
-  -- the data at those positions is the lent data's pieces in order, and joined it is the lent data
-  pub pieces : (i : ℕ) → i < p .count → dataOf (plainImage p d) (packedSection (p .places) i) ≡ pieceAt (p .places) d i
-  pub pieces-whole : joinFrom (pieceAt (p .places) d) (p .count) 0 ≡ d
-  pub data-back : dataJoined (plainImage p d) (readImage (plainImage p d)) ≡ d
-  -- the image is as long as reported
-  pub size : length (plainImage p d) ≡ plainSize p
 
 module _ (p : Plan) (d : List ℕ) (a : Planned p (length d)) where
   abbrev image : List ℕ
@@ -70,7 +56,7 @@ module _ (p : Plan) (d : List ℕ) (a : Planned p (length d)) where
       ∙ ap placeOf (filled-at (packedSection (p .places)) blankSection blankSection placeCount (p .count) i h (a .few))
 
   same-back : SamePlan (planOf (packedReading p)) p
-  same-back = record { version = refl; flags = refl; memory = refl; cpus = refl; count = refl; used = place-back }
+  same-back = record { version = refl; flags = refl; «default_mem» = refl; «default_cpus» = refl; count = refl; used = place-back }
 
 -- Reading the plain image of a plan that is not refused gives the plan's fields, used places and data back.
 pub read-plain : (p : Plan) (d : List ℕ) → planVerdict p (length d) ≡ Accepted → Fits p → AreBytes d → ReadsBack p d
@@ -109,15 +95,6 @@ length-is-written p given room e h =
     (ap₂ (λ (n : ℕ) (b : Bool). andThen (planVerdict p n) (choose b (refuse outputTooShort 0) Accepted)) e (le-ltb room (plainSize p) h)
     ∙ then-none (planVerdict p (dataBefore (p .places) (p .count))))
 
--- a plan and data for which the writer gives the image s
-pub record Writes (p : Plan) (given s : List ℕ) : Type 0 where
-  -- the plan is not refused, and its plain image is s
-  pub not-refused : planVerdict p (length given) ≡ Accepted
-  pub image : plainImage p given ≡ s
-  -- in an output at least as long the writer reports the length of s and writes s over the start
-  pub answer : (room : ℕ) → length s ≤ room → writeAnswer p (length given) room ≡ record { verdict = Accepted; length = length s }
-  pub output : (d : List ℕ) → length s ≤ length d → writeOutput p given d ≡ over d 0 s
-
 module _ (s : List ℕ) (w : AreBytes s) (pl : Plain s) where
   abbrev ok : verdictOf s ≡ Accepted
   ok = pl .accepted
@@ -143,15 +120,6 @@ write-read s w pl =
 
 -- ---- plain exactly when written
 
--- a plan that the writer does not refuse, and data, whose plain image is s
-pub record WrittenFrom (s : List ℕ) : Type 0 where
-  pub plan : Plan
-  pub given : List ℕ
-  pub fits : Fits plan
-  pub bytes : AreBytes given
-  pub not-refused : planVerdict plan (length given) ≡ Accepted
-  pub image : plainImage plan given ≡ s
-
 -- An image is plain exactly when it is the plain image of some plan that the writer does not refuse.
 pub plain-exactly-when : (s : List ℕ) → AreBytes s → (Plain s → WrittenFrom s) × (WrittenFrom s → Plain s)
 plain-exactly-when s w = (
@@ -166,13 +134,6 @@ plain-exactly-when s w = (
       },
   λ f. subst Plain (f .image) (plain-is-plain (f .plan) (f .given) (f .not-refused) (f .bytes)),
 )
-
--- every reserved field and unused entry is zero
-pub record UnusedZero (s : List ℕ) : Type 0 where
-  pub reserved-zero : reserved (viewOf s) ≡ 0
-  pub reserved-after-zero : reservedAfter (viewOf s) ≡ 0
-  pub unused-offset : (i : ℕ) → countOf s ≤ i → i < placeCount → offsetAt s i ≡ 0
-  pub unused-size : (i : ℕ) → countOf s ≤ i → i < placeCount → sizeAt s i ≡ 0
 
 -- An accepted image is one that the writer gives exactly when its reserved fields and unused entries are zero.
 pub accepted-plain-when : (s : List ℕ) → AreBytes s → verdictOf s ≡ Accepted → (WrittenFrom s → UnusedZero s) × (UnusedZero s → WrittenFrom s)
@@ -198,12 +159,7 @@ accepted-plain-when s w e = (
 
 -- ---- the one plain image
 
--- Plans that agree in version, flags, memory, cpus, count and used places have the same verdict, length and plain image.
-pub record SameWriting (p q : Plan) : Type 0 where
-  pub verdict : (given : ℕ) → planVerdict p given ≡ planVerdict q given
-  pub size : plainSize p ≡ plainSize q
-  pub image : (d : List ℕ) → plainImage p d ≡ plainImage q d
-
+-- Plans that agree in version, flags, default_mem, default_cpus, count and used places have the same verdict, length and plain image.
 pub one-plain-image : (p q : Plan) → SamePlan p q → SameWriting p q
 one-plain-image p q e = record { verdict = verdict-of-same p q e; size = size-of-same p q e; image = image-of-same p q e }
 
@@ -212,3 +168,9 @@ one-plain-image p q e = record { verdict = verdict-of-same p q e; size = size-of
 -- The plan of any accepted image is not refused, and its plain image is read back with the same fields, its sections packed.
 pub read-again : (s : List ℕ) → AreBytes s → verdictOf s ≡ Accepted → ReadsBack (plan s) (given s)
 read-again s w ok = read-plain (plan s) (given s) (plan-accepted s ok) (plan-fits s ok w) (bytes-given s ok w)
+
+-- The plain image of a plan and its data is the only one: a plain image whose reading gives the plan's fields and used places back, and whose
+-- sections' data joined is that data, is this image.
+pub only-plain : (s d : List ℕ) (p : Plan) → AreBytes s → Plain s → SamePlan (planOf (readImage s)) p → dataJoined s (readImage s) ≡ d → s ≡ plainImage p d
+only-plain s d p w pl same e =
+    sym (write-read s w pl .image) ∙ ap (plainImage (planOf (readImage s))) e ∙ one-plain-image (planOf (readImage s)) p same .image d

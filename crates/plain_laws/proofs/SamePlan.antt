@@ -9,18 +9,18 @@ use lib.Dec.{ltb, eqb}
 use lib.ListN.{take, drop}
 use Rattle.octets.specs.Bytes.{beBytes}
 use Rattle.crc32.specs.Crc.{crc32}
-use Rattle.eif.specs.Numbers.{sizeLimit, placeCount, imageTooLong, wrongVersion, wrongCount, typeNotAllowed, sectionMissing, dataLengthDiffers}
-use Rattle.eif.specs.Logic.{choose}
+use Rattle.eif.specs.Numbers.{sizeLimit, placeCount, imageTooLong, typeNotAllowed, sectionMissing, dataLengthDiffers}
+use Rattle.octets.specs.Logic.{choose}
 use Rattle.eif.specs.Answers.{wholeVerdict}
-use Rattle.eif.specs.Rules.{typeFault, versionKnown, countKnown, allowedIn, orderFault, missing, firstFault}
+use Rattle.eif.specs.Rules.{typeFault, allowedIn, orderFault, missing, firstFault, fieldFault}
 use Rattle.eif.specs.Layout.{magicNumber, sectionHeaderSize}
-use Rattle.eif.specs.Plan.{entries, placeAt, plannedKind, plannedSize, packedAt, dataBefore, plainSize, fieldFault, sizeFault, planFault, planVerdict, fixedFields, offsetTable, sizeTable, headerBytes, pieceAt, sectionHeader, sectionBytes, bodyBytes, plainImage}
+use Rattle.eif.specs.Plan.{entries, placeAt, plannedKind, plannedSize, packedAt, dataBefore, plainSize, sizeFault, planFault, planVerdict, fixedFields, offsetTable, sizeTable, headerBytes, pieceAt, sectionHeader, sectionBytes, bodyBytes, plainImage}
 use Rattle.eif.specs.declared.Place.{Place}
 use Rattle.eif.specs.declared.Plan.{Plan}
 use Rattle.plain_laws.specs.Packed.{SamePlan}
-use Rattle.eif_rules.proofs.Types.{order-same, missing-same}
-use Rattle.eif_rules.proofs.Table.{filled-same}
-use Rattle.eif_rules.proofs.Verdicts.{then-same, walk-same}
+use Rattle.eif_lemmas.proofs.Types.{order-same, missing-same}
+use Rattle.eif_lemmas.proofs.Table.{filled-same}
+use Rattle.eif_lemmas.proofs.Verdicts.{then-same, walk-same}
 
 -- ---- lists of places with the same first ones
 
@@ -88,10 +88,8 @@ module _ (p q : Plan) (e : SamePlan p q) where
 
   -- ---- the same verdict
 
-  fields-fault-same : fieldFault p ≡ fieldFault q
-  unfolding fieldFault
-  fields-fault-same =
-      ap₂ (λ (v n : ℕ). choose (not (versionKnown v)) wrongVersion (choose (not (countKnown n)) wrongCount 0)) (e .version) (e .count)
+  fields-fault-same : fieldFault (p .version) (p .count) ≡ fieldFault (q .version) (q .count)
+  fields-fault-same = ap₂ fieldFault (e .version) (e .count)
 
   walk : firstFault (typeFault (p .version) (plannedKind l)) (p .count) 0 ≡ firstFault (typeFault (q .version) (plannedKind m)) (q .count) 0
   walk =
@@ -118,8 +116,8 @@ module _ (p q : Plan) (e : SamePlan p q) where
   unfolding fixedFields
   fixed-same =
       λ t.
-      beBytes 4 magicNumber ++ (beBytes 2 (e .version t) ++ (beBytes 2 (e .flags t) ++ (beBytes 8 (e .memory t)
-      ++ (beBytes 8 (e .cpus t) ++ (beBytes 2 0 ++ beBytes 2 (e .count t))))))
+      beBytes 4 magicNumber ++ (beBytes 2 (e .version t) ++ (beBytes 2 (e .flags t) ++ (beBytes 8 (e .«default_mem» t)
+      ++ (beBytes 8 (e .«default_cpus» t) ++ (beBytes 2 0 ++ beBytes 2 (e .count t))))))
 
   header-same : headerBytes p ≡ headerBytes q
   unfolding headerBytes

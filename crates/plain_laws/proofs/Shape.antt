@@ -17,7 +17,7 @@ use Rattle.eif.specs.Layout.{magicNumber, headerSize, sectionHeaderSize, checks
 use Rattle.eif.specs.Plan.{entries, placeAt, plannedSize, packedAt, dataBefore, plainSize, pieceAt, fixedFields, offsetTable, sizeTable, headerBytes, sectionHeader, sectionBytes, bodyBytes, plainImage}
 use Rattle.eif.specs.declared.Plan.{Plan}
 use Rattle.eif.specs.declared.Place.{Place}
-use Rattle.eif_rules.proofs.Table.{length-filled}
+use Rattle.eif_lemmas.proofs.Table.{length-filled}
 use Rattle.plain_laws.proofs.Fields.{Bytes, be, join, length-entries, bytes-entries}
 
 -- ---- positions grow with the place
@@ -84,7 +84,7 @@ module _ (p : Plan) where
   unfolding headerBytes fixedFields offsetTable sizeTable
   bytes-header =
       join
-      (join (be 4 magicNumber) (join (be 2 (p .version)) (join (be 2 (p .flags)) (join (be 8 (p .memory)) (join (be 8 (p .cpus)) (join (be 2 0) (be 2 (p .count))))))))
+      (join (be 4 magicNumber) (join (be 2 (p .version)) (join (be 2 (p .flags)) (join (be 8 (p .«default_mem»)) (join (be 8 (p .«default_cpus»)) (join (be 2 0) (be 2 (p .count))))))))
       (join (table (filled (packedAt (p .places)) 0 placeCount (p .count))) (join (table (filled (plannedSize (p .places)) 0 placeCount (p .count))) (be 4 0))) .are
     where
       table : (l : List ℕ) → Bytes (entries l)

@@ -10,7 +10,7 @@ use Rattle.octets.specs.Bytes.{AreBytes, beValue, beBytes, field, leValue, leBy
 use Rattle.eif.specs.Table.{filled}
 use Rattle.eif.specs.Plan.{entries}
 use Rattle.octets.proofs.Value.{beBytes-beValue, leBytes-leValue, field-length, bytes-take, bytes-drop}
-use Rattle.eif_rules.proofs.Table.{filled-none}
+use Rattle.eif_lemmas.proofs.Table.{filled-none}
 
 module _ (s : List ℕ) (w : AreBytes s) where
   -- a field, and what stands after it

@@ -9,15 +9,15 @@ use lib.Seq.{take-at, drop-drop, drop-length}
 use Rattle.octets.specs.Bytes.{AreBytes, beBytes, field}
 use Rattle.crc32.specs.Crc.{crc32}
 use Rattle.eif.specs.Numbers.{placeCount}
-use Rattle.eif.specs.Layout.{magicNumber, headerSize, sectionHeaderSize, checksumAt, viewOf, headerFlags, memory, cpus, checksum, versionOf, countOf, offsetAt, sizeAt, startAt, kindAt, flagsAt}
+use Rattle.eif.specs.Layout.{magicNumber, headerSize, sectionHeaderSize, checksumAt, viewOf, headerFlags, defaultMem, defaultCpus, checksum, versionOf, countOf, offsetAt, sizeAt, startAt, kindAt, flagsAt}
 use Rattle.eif.specs.Reading.{checksumOf, verdictOf, sectionAt, blankSection, sectionsOf, readingOf, dataOf}
 use Rattle.eif.specs.Plan.{entries, placeAt, plannedKind, plannedSize, packedAt, pieceAt, fixedFields, offsetTable, sizeTable, headerBytes, sectionHeader, sectionBytes, bodyBytes, plainImage, Plain, placeOf, planOf, joinFrom, dataJoined}
 use Rattle.eif.specs.declared.Place.{Place}
 use Rattle.eif.specs.declared.Plan.{Plan}
 use Rattle.eif.specs.declared.Verdict.the-variants.{Accepted}
-use Rattle.eif_rules.proofs.Table.{filled-at}
-use Rattle.eif_rules.proofs.View.{Header, Sound, sound-of}
-use Rattle.eif_rules.proofs.Accept.{passes, sum-of, file-ends}
+use Rattle.eif_lemmas.proofs.Table.{filled-at}
+use Rattle.eif_lemmas.proofs.View.{Header, Sound, sound-of}
+use Rattle.eif_lemmas.proofs.Accept.{passes, sum-of, file-ends}
 use Rattle.plain_laws.proofs.Shape.{packed-suc, packed-zero, length-header}
 use Rattle.plain_laws.proofs.Split.{split, table-split, filled-full}
 use Rattle.plain_laws.proofs.Joined.{piece-is, join-same}
@@ -109,10 +109,10 @@ module _ (s : List ℕ) (w : AreBytes s) (pl : Plain s) where
   b3 = beBytes 2 (headerFlags (viewOf s))
 
   abbrev b4 : List ℕ
-  b4 = beBytes 8 (memory (viewOf s))
+  b4 = beBytes 8 (defaultMem (viewOf s))
 
   abbrev b5 : List ℕ
-  b5 = beBytes 8 (cpus (viewOf s))
+  b5 = beBytes 8 (defaultCpus (viewOf s))
 
   abbrev b6 : List ℕ
   b6 = beBytes 2 0
@@ -127,8 +127,8 @@ module _ (s : List ℕ) (w : AreBytes s) (pl : Plain s) where
       split s w 4 magicNumber 0 (head s ok .magic) (omega arith)
       ∙ ap (λ (r : List ℕ). b1 ++ r) (split s w 2 (versionOf s) 4 refl (omega arith)
       ∙ ap (λ (r : List ℕ). b2 ++ r) (split s w 2 (headerFlags (viewOf s)) 6 refl (omega arith)
-      ∙ ap (λ (r : List ℕ). b3 ++ r) (split s w 8 (memory (viewOf s)) 8 refl (omega arith)
-      ∙ ap (λ (r : List ℕ). b4 ++ r) (split s w 8 (cpus (viewOf s)) 16 refl (omega arith)
+      ∙ ap (λ (r : List ℕ). b3 ++ r) (split s w 8 (defaultMem (viewOf s)) 8 refl (omega arith)
+      ∙ ap (λ (r : List ℕ). b4 ++ r) (split s w 8 (defaultCpus (viewOf s)) 16 refl (omega arith)
       ∙ ap (λ (r : List ℕ). b5 ++ r) (split s w 2 0 24 (pl .reserved-zero) (omega arith)
       ∙ ap (λ (r : List ℕ). b6 ++ r) (split s w 2 (countOf s) 26 refl (omega arith)))))))
       ∙ regroup7 b1 b2 b3 b4 b5 b6 b7 (drop 28 s)

@@ -12,22 +12,15 @@ use Rattle.crc32.specs.Crc.{crc32}
 use Rattle.crc32.proofs.Bounds.{crc32-lt}
 use Rattle.eif.specs.Numbers.{sizeLimit, placeCount}
 use Rattle.eif.specs.Table.{filled}
-use Rattle.eif.specs.Layout.{magicNumber, viewOf, magic, headerFlags, memory, cpus, reserved, reservedAfter, checksum, versionOf, countOf, offsetAt, sizeAt, endAt, startAt, kindAt, flagsAt, ownSizeAt}
+use Rattle.eif.specs.Layout.{magicNumber, viewOf, magic, headerFlags, defaultMem, defaultCpus, reserved, reservedAfter, checksum, versionOf, countOf, offsetAt, sizeAt, endAt, startAt, kindAt, flagsAt, ownSizeAt}
 use Rattle.eif.specs.Reading.{checksumOf}
 use Rattle.eif.specs.Plan.{placeAt, plannedKind, plannedSize, packedAt, pieceAt, fixedFields, offsetTable, sizeTable, headerBytes, sectionHeader, bodyBytes, plainImage}
 use Rattle.eif.specs.declared.Plan.{Plan}
 use Rattle.eif.specs.declared.Place.{Place}
-use Rattle.eif_rules.proofs.Table.{length-filled, filled-at}
+use Rattle.eif_lemmas.proofs.Table.{length-filled, filled-at}
 use Rattle.plain_laws.proofs.Fields.{skip, here, last, below-filled, entry-at}
 use Rattle.plain_laws.proofs.Shape.{packed-le, packed-suc, packed-zero, length-fixed, length-offsets, length-sizes, length-header, bytes-header, bytes-sections, length-piece, past-header, before-sum, at-section, length-sectionHeader}
 use Rattle.plain_laws.proofs.PlanRules.{Planned, allowed-small}
-
--- the numbers of a plan that no rule judges fit their fields
-pub record Fits (p : Plan) : Type 0 where
-  pub flags : p .flags < 2 ^ 16
-  pub memory : p .memory < 2 ^ 64
-  pub cpus : p .cpus < 2 ^ 64
-  pub section-flags : (i : ℕ) → i < p .count → placeAt (p .places) i .flags < 2 ^ 16
 
 -- ---- the fixed fields
 
@@ -42,14 +35,14 @@ module _ (p : Plan) (r : List ℕ) where
   abbrev from-reserved : List ℕ
   from-reserved = beBytes 2 0 ++ from-count
 
-  abbrev from-cpus : List ℕ
-  from-cpus = beBytes 8 (p .cpus) ++ from-reserved
+  abbrev from-default-cpus : List ℕ
+  from-default-cpus = beBytes 8 (p .«default_cpus») ++ from-reserved
 
-  abbrev from-memory : List ℕ
-  from-memory = beBytes 8 (p .memory) ++ from-cpus
+  abbrev from-default-mem : List ℕ
+  from-default-mem = beBytes 8 (p .«default_mem») ++ from-default-cpus
 
   abbrev from-flags : List ℕ
-  from-flags = beBytes 2 (p .flags) ++ from-memory
+  from-flags = beBytes 2 (p .flags) ++ from-default-mem
 
   abbrev from-version : List ℕ
   from-version = beBytes 2 (p .version) ++ from-flags
@@ -62,14 +55,14 @@ module _ (p : Plan) (r : List ℕ) where
   past-version : (w k : ℕ) → field w (2 + k) (from-version ++ r) ≡ field w k (from-flags ++ r)
   past-version w k = skip w k 2 (beBytes 2 (p .version)) from-flags r refl
 
-  past-flags : (w k : ℕ) → field w (2 + k) (from-flags ++ r) ≡ field w k (from-memory ++ r)
-  past-flags w k = skip w k 2 (beBytes 2 (p .flags)) from-memory r refl
+  past-flags : (w k : ℕ) → field w (2 + k) (from-flags ++ r) ≡ field w k (from-default-mem ++ r)
+  past-flags w k = skip w k 2 (beBytes 2 (p .flags)) from-default-mem r refl
 
-  past-memory : (w k : ℕ) → field w (8 + k) (from-memory ++ r) ≡ field w k (from-cpus ++ r)
-  past-memory w k = skip w k 8 (beBytes 8 (p .memory)) from-cpus r refl
+  past-default-mem : (w k : ℕ) → field w (8 + k) (from-default-mem ++ r) ≡ field w k (from-default-cpus ++ r)
+  past-default-mem w k = skip w k 8 (beBytes 8 (p .«default_mem»)) from-default-cpus r refl
 
-  past-cpus : (w k : ℕ) → field w (8 + k) (from-cpus ++ r) ≡ field w k (from-reserved ++ r)
-  past-cpus w k = skip w k 8 (beBytes 8 (p .cpus)) from-reserved r refl
+  past-default-cpus : (w k : ℕ) → field w (8 + k) (from-default-cpus ++ r) ≡ field w k (from-reserved ++ r)
+  past-default-cpus w k = skip w k 8 (beBytes 8 (p .«default_cpus»)) from-reserved r refl
 
   fixed-magic : field 4 0 t ≡ magicNumber
   unfolding fixedFields
@@ -79,20 +72,20 @@ module _ (p : Plan) (r : List ℕ) where
   fixed-version h = past-magic 2 0 ∙ here 2 (p .version) from-flags r h
 
   fixed-flags : p .flags < 2 ^ 16 → field 2 6 t ≡ p .flags
-  fixed-flags h = past-magic 2 2 ∙ past-version 2 0 ∙ here 2 (p .flags) from-memory r h
+  fixed-flags h = past-magic 2 2 ∙ past-version 2 0 ∙ here 2 (p .flags) from-default-mem r h
 
-  fixed-memory : p .memory < 2 ^ 64 → field 8 8 t ≡ p .memory
-  fixed-memory h = past-magic 8 4 ∙ past-version 8 2 ∙ past-flags 8 0 ∙ here 8 (p .memory) from-cpus r h
+  fixed-default-mem : p .«default_mem» < 2 ^ 64 → field 8 8 t ≡ p .«default_mem»
+  fixed-default-mem h = past-magic 8 4 ∙ past-version 8 2 ∙ past-flags 8 0 ∙ here 8 (p .«default_mem») from-default-cpus r h
 
-  fixed-cpus : p .cpus < 2 ^ 64 → field 8 16 t ≡ p .cpus
-  fixed-cpus h = past-magic 8 12 ∙ past-version 8 10 ∙ past-flags 8 8 ∙ past-memory 8 0 ∙ here 8 (p .cpus) from-reserved r h
+  fixed-default-cpus : p .«default_cpus» < 2 ^ 64 → field 8 16 t ≡ p .«default_cpus»
+  fixed-default-cpus h = past-magic 8 12 ∙ past-version 8 10 ∙ past-flags 8 8 ∙ past-default-mem 8 0 ∙ here 8 (p .«default_cpus») from-reserved r h
 
   fixed-reserved : field 2 24 t ≡ 0
-  fixed-reserved = past-magic 2 20 ∙ past-version 2 18 ∙ past-flags 2 16 ∙ past-memory 2 8 ∙ past-cpus 2 0 ∙ here 2 0 from-count r (omega arith)
+  fixed-reserved = past-magic 2 20 ∙ past-version 2 18 ∙ past-flags 2 16 ∙ past-default-mem 2 8 ∙ past-default-cpus 2 0 ∙ here 2 0 from-count r (omega arith)
 
   fixed-count : p .count < 2 ^ 16 → field 2 26 t ≡ p .count
   fixed-count h =
-      past-magic 2 22 ∙ past-version 2 20 ∙ past-flags 2 18 ∙ past-memory 2 10 ∙ past-cpus 2 2
+      past-magic 2 22 ∙ past-version 2 20 ∙ past-flags 2 18 ∙ past-default-mem 2 10 ∙ past-default-cpus 2 2
       ∙ skip 2 0 2 (beBytes 2 0) from-count r refl ∙ last 2 (p .count) r h
 
 -- ---- a section's own header
@@ -173,11 +166,11 @@ module _ (p : Plan) (d : List ℕ) (a : Planned p (length d)) where
   pub read-flags : p .flags < 2 ^ 16 → headerFlags (viewOf image) ≡ p .flags
   read-flags h = ap (field 2 6) (parts p d) ∙ fixed-flags p rest h
 
-  pub read-memory : p .memory < 2 ^ 64 → memory (viewOf image) ≡ p .memory
-  read-memory h = ap (field 8 8) (parts p d) ∙ fixed-memory p rest h
+  pub read-default-mem : p .«default_mem» < 2 ^ 64 → defaultMem (viewOf image) ≡ p .«default_mem»
+  read-default-mem h = ap (field 8 8) (parts p d) ∙ fixed-default-mem p rest h
 
-  pub read-cpus : p .cpus < 2 ^ 64 → cpus (viewOf image) ≡ p .cpus
-  read-cpus h = ap (field 8 16) (parts p d) ∙ fixed-cpus p rest h
+  pub read-default-cpus : p .«default_cpus» < 2 ^ 64 → defaultCpus (viewOf image) ≡ p .«default_cpus»
+  read-default-cpus h = ap (field 8 16) (parts p d) ∙ fixed-default-cpus p rest h
 
   pub read-reserved : reserved (viewOf image) ≡ 0
   read-reserved = ap (field 2 24) (parts p d) ∙ fixed-reserved p rest

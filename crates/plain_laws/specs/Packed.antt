@@ -35,18 +35,18 @@ packedReading p =
       version = p .version;
       flags = p .flags;
       architecture = architecture (p .flags);
-      memory = p .memory;
-      cpus = p .cpus;
+      «default_mem» = p .«default_mem»;
+      «default_cpus» = p .«default_cpus»;
       count = p .count;
       sections = packedSections p;
-      ramdisks = markOf (packedSections p);
+      «ramdisk_mark» = markOf (packedSections p);
     }
 
 -- two plans agree in every field and in their used places
 pub record SamePlan (p q : Plan) : Type 0 where
   pub version : p .version ≡ q .version
   pub flags : p .flags ≡ q .flags
-  pub memory : p .memory ≡ q .memory
-  pub cpus : p .cpus ≡ q .cpus
+  pub «default_mem» : p .«default_mem» ≡ q .«default_mem»
+  pub «default_cpus» : p .«default_cpus» ≡ q .«default_cpus»
   pub count : p .count ≡ q .count
   pub used : (i : ℕ) → i < p .count → placeAt (p .places) i ≡ placeAt (q .places) i

@@ -108,21 +108,21 @@ fn worked() {
     let mut image = [0u8; 586];
     put_small(&mut image, 3);
     put(&mut image, 2, 574, SectionType::RAMDISK, b"");
-    case_images::seal(&mut image);
+    case_images::put_checksum(&mut image);
     registers(b"the worked example", &image);
 }
 
 fn no_ramdisk() {
     let mut image = [0u8; 574];
     put_small(&mut image, 2);
-    case_images::seal(&mut image);
+    case_images::put_checksum(&mut image);
     registers(b"no ramdisk", &image);
 }
 
 fn ordinary() {
     let mut image = [0u8; 633];
     put_ordinary(&mut image);
-    case_images::seal(&mut image);
+    case_images::put_checksum(&mut image);
     registers(b"three ramdisks", &image);
     step(b"the step over the same", &image, 633);
     step(b"the same, with the image cut at 600", &image, 600);
@@ -137,7 +137,7 @@ fn long_sections() {
     put(&mut image, 0, 548, SectionType::KERNEL, &data[..129]);
     put(&mut image, 1, 689, SectionType::COMMAND_LINE, &data[..127]);
     long_ramdisks(&mut image, &data);
-    case_images::seal(&mut image);
+    case_images::put_checksum(&mut image);
     registers(b"sections longer than a block", &image);
 }
 
@@ -159,7 +159,7 @@ fn command_line_first() {
     put(&mut image, 0, 548, SectionType::COMMAND_LINE, b"cmd");
     put(&mut image, 1, 563, SectionType::KERNEL, b"kernel");
     put(&mut image, 2, 581, SectionType::RAMDISK, b"ram");
-    case_images::seal(&mut image);
+    case_images::put_checksum(&mut image);
     registers(b"command line before the kernel", &image);
 }
 
@@ -168,7 +168,7 @@ fn command_line_between() {
     put_three(&mut image);
     put(&mut image, 2, 581, SectionType::COMMAND_LINE, b"cmd");
     put(&mut image, 3, 596, SectionType::RAMDISK, b"two");
-    case_images::seal(&mut image);
+    case_images::put_checksum(&mut image);
     registers(b"command line between two ramdisks", &image);
 }
 
@@ -177,14 +177,14 @@ fn command_line_last() {
     put_three(&mut image);
     put(&mut image, 2, 581, SectionType::RAMDISK, b"two");
     put(&mut image, 3, 596, SectionType::COMMAND_LINE, b"cmd");
-    case_images::seal(&mut image);
+    case_images::put_checksum(&mut image);
     registers(b"command line after the ramdisks", &image);
 }
 
 fn refused() {
     let mut image = [0u8; 633];
     put_ordinary(&mut image);
-    case_images::seal(&mut image);
+    case_images::put_checksum(&mut image);
     octets::put_be16(&mut image, Header::FLAGS_AT, 1);
     registers(b"its checksum wrong", &image);
     octets::put_be16(&mut image, 598, SectionType::KERNEL);

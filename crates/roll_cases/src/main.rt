@@ -461,7 +461,7 @@ fn worked_image() -> [u8; 586]
 {
     let mut image = [0u8; 586];
     put_worked(&mut image);
-    case_images::seal(&mut image);
+    case_images::put_checksum(&mut image);
     image
 }
 
@@ -488,7 +488,7 @@ fn before_kernel() {
     put_worked(&mut image);
     octets::put_be16(&mut image, 548, SectionType::COMMAND_LINE);
     octets::put_be16(&mut image, 561, SectionType::RAMDISK);
-    case_images::seal(&mut image);
+    case_images::put_checksum(&mut image);
     let mut out = [0xeeu8; 54];
     write(b"a ramdisk before the kernel", &image, &mut out);
 }
@@ -511,8 +511,8 @@ fn plan() -> Plan {
     Plan {
         version: 2,
         flags: 0,
-        memory: 0,
-        cpus: 0,
+        default_mem: 0,
+        default_cpus: 0,
         count: 3,
         places,
     }
@@ -561,7 +561,7 @@ fn pair_image(kernel: &[u8], at: u32, command_line: &[u8]) -> [u8; 575]
 {
     let mut image = [0u8; 575];
     put_pair(&mut image, 2, kernel, at, command_line);
-    case_images::seal(&mut image);
+    case_images::put_checksum(&mut image);
     image
 }
 
@@ -577,7 +577,7 @@ fn ramdisk_image(first: &[u8], second: &[u8]) -> [u8; 604]
     let mut image = [0u8; 604];
     put_pair(&mut image, 4, b"K", 561, b"a");
     put_ramdisks(&mut image, first, second);
-    case_images::seal(&mut image);
+    case_images::put_checksum(&mut image);
     image
 }
 
@@ -601,7 +601,7 @@ fn other_image() -> [u8; 636]
     let mut image = [0xaau8; 636];
     put_start(&mut image);
     put_rest(&mut image);
-    case_images::seal(&mut image);
+    case_images::put_checksum(&mut image);
     image
 }
 
@@ -622,7 +622,7 @@ fn flagged_image(flags: u16) -> [u8; 586]
 {
     let mut image = worked_image();
     octets::put_be16(&mut image, Header::FLAGS_AT, flags);
-    case_images::seal(&mut image);
+    case_images::put_checksum(&mut image);
     image
 }
 

@@ -13,8 +13,8 @@ use lib.Seq.{length-take-le, take-all}
 use Rattle.octets.specs.Bytes.{AreBytes}
 use Rattle.octets.specs.Over.{over}
 use Rattle.octets.proofs.Value.{bytes-take, field-lt}
-use Rattle.eif.specs.Numbers.{placeCount, outputTooShort}
-use Rattle.eif.specs.Logic.{choose}
+use Rattle.eif.specs.Numbers.{outputTooShort}
+use Rattle.octets.specs.Logic.{choose}
 use Rattle.eif.specs.Answers.{refuse, andThen}
 use Rattle.eif.specs.Output.{outputFor}
 use Rattle.eif.specs.Layout.{headerFlagsOf}
@@ -25,13 +25,14 @@ use Rattle.eif.specs.declared.Refusal.{Refusal}
 use Rattle.eif.specs.declared.RollReading.{RollReading}
 use Rattle.eif.specs.declared.Verdict.{Verdict}
 use Rattle.eif.specs.declared.Verdict.the-variants.{Accepted, Refused}
-use Rattle.eif_rules.proofs.Verdicts.{then-none}
+use Rattle.eif_lemmas.proofs.Verdicts.{then-none}
 use Rattle.roll_laws.specs.Listing.{listFrom, listingOf, foundIn}
 use Rattle.roll_laws.proofs.Prefix.{prefix-same}
 use Rattle.roll_laws.proofs.Positions.{sizes, kinds}
 use Rattle.roll_laws.proofs.Flags.{flags-past, flags-back, read-on, flags-same}
 use Rattle.roll_laws.proofs.RollRules.{→roll}
-use Rattle.roll_laws.proofs.ImageOfRoll.{ImageOf, image-of-roll}
+use Rattle.roll_laws.specs.Told.{ImageOf, ReadsList, ListOf}
+use Rattle.roll_laws.proofs.ImageOfRoll.{image-of-roll}
 use Rattle.roll_laws.proofs.RollOfImage.{image-fit, image-few, roll-whole, shorter}
 use Rattle.roll_laws.proofs.Listing.{found-from, listing-is}
 
@@ -73,15 +74,6 @@ module _ (s t : List ℕ) (s-bytes : AreBytes s) (s-accepted : verdictOf s ≡ A
 
 -- ---- the roll's reader
 
--- The roll's reader gives the list of any roll it accepts: that of the image, said from the image's sections alone.
-pub record ReadsList (s : List ℕ) : Type 0 where
-  -- the flags, the count, and of each section of type 1, 2 or 3 in file order the type, data position and length; unused places blank
-  pub reading : readRoll (rollBytes s) ≡ listingOf (headerFlagsOf s) (recordsOf s)
-  -- none is left out
-  pub few : length (recordsOf s) ≤ placeCount
-  -- the bytes at these positions of the roll are the sections' data
-  pub found : map (foundIn (rollBytes s)) (listFrom flagsRecordSize (recordsOf s)) ≡ recordsOf s
-
 -- its list, whatever its flags are read as, and the bytes there
 pub listing-of-roll : (s : List ℕ) → verdictOf s ≡ Accepted → readRoll (rollBytes s) ≡ listingOf (rollFlags (rollBytes s)) (recordsOf s)
 unfolding rollBytes
@@ -108,6 +100,7 @@ flags-of-roll : (s : List ℕ) → AreBytes s → rollFlags (rollBytes s) ≡ he
 unfolding rollBytes
 flags-of-roll s w = flags-back (headerFlagsOf s) (rollOf (recordsOf s)) (field-lt 2 6 s w)
 
+-- The roll's reader gives the list of the image, said from the image's sections alone.
 pub list-of-image : (s : List ℕ) → AreBytes s → verdictOf s ≡ Accepted → ReadsList s
 list-of-image s w ok =
     record {
@@ -120,14 +113,6 @@ pub list-of-roll : (t : List ℕ) (i : ImageOf t) → readRoll t ≡ listingOf (
 list-of-roll t i = ap readRoll (sym (i .roll)) ∙ list-of-image (i .image) (i .bytes) (i .accepted) .reading
 
 -- The roll's reader gives the list of any roll it accepts.
-pub record ListOf (t : List ℕ) : Type 0 where
-  -- an accepted image whose roll it is
-  pub of : ImageOf t
-  -- the answer is that image's list, none is left out, and the bytes at its positions are the sections' data
-  pub reading : readRoll t ≡ listingOf (headerFlagsOf (of .image)) (recordsOf (of .image))
-  pub few : length (recordsOf (of .image)) ≤ placeCount
-  pub found : map (foundIn t) (listFrom flagsRecordSize (recordsOf (of .image))) ≡ recordsOf (of .image)
-
 pub list-of-accepted : (t : List ℕ) → AreBytes t → readRoll t .verdict ≡ Accepted → ListOf t
 list-of-accepted t w ok =
     let i = image-of-roll t w ok in
@@ -190,9 +175,9 @@ module _ (s : List ℕ) (ok : verdictOf s ≡ Accepted) where
   roll-unwritten d h = ap (λ (v : Verdict). outputFor v (rollBytes s) d) (too-long (length d) h)
 
 -- The length of an image's roll is the writer's answer, were there room.
-pub length-is-written : (s : List ℕ) (room : ℕ) → length (rollBytes s) ≤ room → rollAnswer s room ≡ rollLength s
+pub roll-length-is-written : (s : List ℕ) (room : ℕ) → length (rollBytes s) ≤ room → rollAnswer s room ≡ rollLength s
 unfolding rollAnswer rollLength rollVerdict
-length-is-written s room h =
+roll-length-is-written s room h =
     ap (λ (v : Verdict). writtenFor v (length (rollBytes s)))
     (ap (λ (b : Bool). andThen (verdictOf s) (choose b (refuse outputTooShort 0) Accepted)) (le-ltb room (length (rollBytes s)) h) ∙ then-none (verdictOf s))
 

@@ -11,13 +11,13 @@ use lib.ListN.{length, drop, length-append}
 use lib.Seq.{drop-at}
 use Rattle.octets.specs.Bytes.{AreBytes, leBytes, leField}
 use Rattle.octets.proofs.Value.{leField-at}
-use Rattle.eif.specs.Logic.{choose}
+use Rattle.octets.specs.Logic.{choose}
 use Rattle.eif.specs.Answers.{refuse}
 use Rattle.eif.specs.Roll.{headOf, flagsType, flagsLength, flagsRecordSize, flagsRecord, flagsFault, rollFlags, restOf, refusedRoll, readRest, readRoll}
 use Rattle.eif.specs.declared.RollReading.{RollReading}
 use Rattle.eif.specs.declared.Verdict.the-variants.{Accepted}
-use Rattle.eif_rules.proofs.Verdicts.{never}
-use Rattle.eif_rules.proofs.Flags.{length-flags, flags-zero, zero-flags}
+use Rattle.eif_lemmas.proofs.Verdicts.{never}
+use Rattle.eif_lemmas.proofs.Flags.{length-flags, flags-zero, zero-flags}
 use Rattle.plain_laws.proofs.Split.{le-split}
 use Rattle.roll_laws.proofs.Positions.{head-size, head-kind}
 

@@ -12,49 +12,52 @@ use lib.ListN.{length, take, drop, replicate, take-append-drop, length-take, len
 use lib.Seq.{drop-drop, drop-length}
 use Rattle.octets.specs.Bytes.{AreBytes}
 use Rattle.octets.proofs.Value.{bytes-take, bytes-drop, leField-lt}
-use Rattle.eif.specs.Numbers.{placeCount, kernel, commandLine}
-use Rattle.eif.specs.Logic.{choose, either}
-use Rattle.eif.specs.Rules.{allowedIn, seen, orderFault, missing}
+use Rattle.eif.specs.Numbers.{placeCount, oldestVersion, kernel, commandLine, ramdisk}
+use Rattle.octets.specs.Logic.{choose, either}
+use Rattle.eif.specs.Rules.{allowedIn, seen, bootType, orderFault, bootMissing, missing}
 use Rattle.eif.specs.Table.{filled}
 use Rattle.eif.specs.Reading.{verdictOf, blankSection, dataOf}
 use Rattle.eif.specs.Plan.{blankPlace, placeAt, plannedKind, plannedSize, packedAt, plainImage, joinFrom}
-use Rattle.eif.specs.Roll.{Record, recordHeadSize, headOf, flagsRecordSize, flagsRecord, rollOf, inRoll, recordFor, recordsIn, recordsOf, rollBytes, rollFlags, restOf, recordAt, recordSize, recordKind, imageSize, readRest, readRoll}
+use Rattle.eif.specs.Roll.{Record, recordHeadSize, headOf, flagsRecordSize, flagsRecord, rollOf, recordFor, recordsIn, recordsOf, rollBytes, rollFlags, restOf, recordAt, recordSize, recordKind, sizeAsImage, readRest, readRoll}
 use Rattle.eif.specs.declared.Plan.{Plan}
 use Rattle.eif.specs.declared.Place.{Place}
 use Rattle.eif.specs.declared.Section.{Section}
 use Rattle.eif.specs.declared.Verdict.the-variants.{Accepted}
-use Rattle.eif_rules.proofs.Logic.{not-both, either-false}
-use Rattle.eif_rules.proofs.Types.{order-same, missing-same}
-use Rattle.eif_rules.proofs.Table.{filled-at, filled-none}
+use Rattle.eif_lemmas.proofs.Logic.{not-both, either-false}
+use Rattle.eif_lemmas.proofs.Types.{order-same, missing-same}
+use Rattle.eif_lemmas.proofs.Table.{filled-at, filled-none}
 use Rattle.plain_laws.proofs.Shape.{packed-suc, packed-zero, bytes-plain}
 use Rattle.plain_laws.proofs.PlanRules.{Planned}
-use Rattle.plain_laws.proofs.Written.{Fits, read-flags, read-data}
+use Rattle.plain_laws.specs.RoundTrip.{Fits}
+use Rattle.plain_laws.proofs.Written.{read-flags, read-data}
 use Rattle.plain_laws.proofs.Joined.{bytes-joined, piece-is, length-joined}
 use Rattle.plain_laws.specs.Packed.{packedSection}
 use Rattle.plain_laws.proofs.ReadBack.{plain-accepted, sections-back}
-use Rattle.roll_laws.proofs.RollRules.{Whole, roll→}
+use Rattle.roll_laws.specs.Told.{ImageOf}
+use Rattle.roll_laws.proofs.RollRules.{WholeRoll, roll→}
 use Rattle.roll_laws.proofs.Positions.{first-record, next-record, first-size, next-size}
 use Rattle.roll_laws.proofs.Flags.{head-split, flags-split, read-accepted}
 
 -- ---- the types of a roll
 
-known-allowed : (kind : ℕ) → 1 ≤ kind → kind ≤ 3 → allowedIn 2 kind ≡ true
+known-allowed : (kind : ℕ) → kernel ≤ kind → kind ≤ ramdisk → allowedIn oldestVersion kind ≡ true
 unfolding allowedIn
 known-allowed kind a b =
     let four : kind ≡ 4 → ⊥ = λ z. omega arith in
     let five : kind ≡ 5 → ⊥ = λ z. omega arith in
     simp (ne-eqb _ _ four, ne-eqb _ _ five, le-leb _ _ a, le-leb _ _ b)
 
-pub known-in-roll : (kind : ℕ) → 1 ≤ kind → kind ≤ 3 → inRoll kind ≡ true
+pub known-in-roll : (kind : ℕ) → 1 ≤ kind → kind ≤ 3 → bootType kind ≡ true
 known-in-roll kind a b = simp (le-leb _ _ a, le-leb _ _ b)
 
 -- kernel and command line are there
-pub missing-parts : (kinds : ℕ → ℕ) (version n : ℕ) → missing kinds version n ≡ false → (seen kinds kernel n ≡ true) × (seen kinds commandLine n ≡ true)
+pub boot-there : (kinds : ℕ → ℕ) (n : ℕ) → bootMissing kinds n ≡ false → (seen kinds kernel n ≡ true) × (seen kinds commandLine n ≡ true)
+boot-there kinds n e = let a = either-false _ _ e in (not-false _ (a .0), not-false _ (a .1))
+
+-- and nothing else need be in the oldest version
+nothing-missing : (kinds : ℕ → ℕ) (n : ℕ) → bootMissing kinds n ≡ false → missing kinds oldestVersion n ≡ false
 unfolding missing
-missing-parts kinds version n e =
-    let a = either-false _ _ e in
-    let b = either-false _ _ (a .1) in
-    (not-false _ (a .0), not-false _ (b .0))
+nothing-missing kinds n e = rw e refl
 
 -- so there are two
 two : (kinds : ℕ → ℕ) (n : ℕ) → seen kinds kernel n ≡ true → seen kinds commandLine n ≡ true → 2 ≤ n
@@ -88,7 +91,7 @@ module _ (s : List ℕ) where
 
   module _ (f n : ℕ) where
     abbrev rollPlan : Plan
-    rollPlan = record { version = 2; flags = f; memory = 0; cpus = 0; count = n; places = filled rollPlace blankPlace placeCount n }
+    rollPlan = record { version = oldestVersion; flags = f; «default_mem» = 0; «default_cpus» = 0; count = n; places = filled rollPlace blankPlace placeCount n }
 
     abbrev rollData : List ℕ
     rollData = joinFrom rollPiece n 0
@@ -97,7 +100,7 @@ module _ (s : List ℕ) where
     rollImage = plainImage rollPlan rollData
 
 -- s is the rest of a roll with flags f
-module _ (f : ℕ) (f-fits : f < 2 ^ 16) (s : List ℕ) (w : AreBytes s) (n : ℕ) (a : Whole s n) where
+module _ (f : ℕ) (f-fits : f < 2 ^ 16) (s : List ℕ) (w : AreBytes s) (n : ℕ) (a : WholeRoll s n) where
   abbrev p : Plan
   p = rollPlan s f n
 
@@ -119,7 +122,7 @@ module _ (f : ℕ) (f-fits : f < 2 ^ 16) (s : List ℕ) (w : AreBytes s) (n : �
   size-is : (i : ℕ) → i < n → plannedSize l i ≡ recordSize s i
   size-is i h = ap (λ (x : Place). x .length .0) (place-is i h)
 
-  pub packed-is : (i : ℕ) → i ≤ n → packedAt l i ≡ imageSize s i
+  pub packed-is : (i : ℕ) → i ≤ n → packedAt l i ≡ sizeAsImage s i
   packed-is zero h = packed-zero l ∙ sym (first-size s)
   packed-is (suc i) h = packed-suc l i ∙ ap₂ (λ (x y : ℕ). x + 12 + y) (packed-is i (omega arith)) (size-is i h) ∙ sym (next-size s i)
 
@@ -131,7 +134,7 @@ module _ (f : ℕ) (f-fits : f < 2 ^ 16) (s : List ℕ) (w : AreBytes s) (n : �
 
   pub roll-planned : Planned p (length d)
   roll-planned =
-      let m = missing-parts (recordKind s) 2 n (a .none-missing) in
+      let m = boot-there (recordKind s) n (a .none-missing) in
       let z = packed-is n (omega arith) in
       let q = a .small in
       record {
@@ -139,17 +142,17 @@ module _ (f : ℕ) (f-fits : f < 2 ^ 16) (s : List ℕ) (w : AreBytes s) (n : �
         high = omega arith;
         some = two (recordKind s) n (m .0) (m .1);
         few = a .few;
-        allowed = λ i h. ap (allowedIn 2) (kind-is i h) ∙ known-allowed (recordKind s i) (a .known i h .0) (a .known i h .1);
+        allowed = λ i h. ap (allowedIn oldestVersion) (kind-is i h) ∙ known-allowed (recordKind s i) (a .known i h .0) (a .known i h .1);
         order = λ i h.
             ap (λ (k : ℕ). orderFault (plannedKind l) k i) (kind-is i h)
             ∙ order-same (plannedKind l) (recordKind s) (recordKind s i) i (λ j g. kind-is j (omega arith)) ∙ a .order i h;
-        none-missing = missing-same (plannedKind l) (recordKind s) 2 n kind-is ∙ a .none-missing;
+        none-missing = missing-same (plannedKind l) (recordKind s) oldestVersion n kind-is ∙ nothing-missing (recordKind s) n (a .none-missing);
         small = omega arith;
         sized = length-joined l n (rollPiece s) length-piece-is;
       }
 
   roll-fits : Fits p
-  roll-fits = record { flags = f-fits; memory = omega arith; cpus = omega arith; section-flags = λ i h. rw (place-is i h) (omega arith) }
+  roll-fits = record { flags = f-fits; «default_mem» = omega arith; «default_cpus» = omega arith; section-flags = λ i h. rw (place-is i h) (omega arith) }
 
   bytes-d : AreBytes d
   bytes-d = bytes-joined (rollPiece s) n 0 (λ j. bytes-take (recordSize s j) (drop (recordAt s j + 10) s) (bytes-drop (recordAt s j + 10) s w))
@@ -186,11 +189,11 @@ module _ (f : ℕ) (f-fits : f < 2 ^ 16) (s : List ℕ) (w : AreBytes s) (n : �
     bytes : dataOf image x ≡ rollPiece s i
 
   step : (x : Section) (rest : List Record) (i : ℕ) → i < n → Matches x i → rollOf rest ≡ drop (recordAt s (suc i)) s
-      → rollOf (choose (inRoll (x .kind)) (recordFor image x ∷ rest) rest) ≡ drop (recordAt s i) s
+      → rollOf (choose (bootType (x .kind)) (recordFor image x ∷ rest) rest) ≡ drop (recordAt s i) s
   unfolding rollOf
   step x rest i h m e =
       let k = a .known i h in
-      let t : inRoll (x .kind) ≡ true = ap inRoll (m .kind) ∙ known-in-roll (recordKind s i) (k .0) (k .1) in
+      let t : bootType (x .kind) ≡ true = ap bootType (m .kind) ∙ known-in-roll (recordKind s i) (k .0) (k .1) in
       ap (λ (b : Bool). rollOf (choose b (recordFor image x ∷ rest) rest)) t
       ∙ ap₂ (λ (b : List ℕ) (r : List ℕ). headOf (length b) (x .kind) ++ (b ++ r)) (m .bytes) e
       ∙ ap₂ (λ (z q : ℕ). headOf z q ++ (rollPiece s i ++ drop (recordAt s (suc i)) s)) (length-piece-is i h ∙ size-is i h) (m .kind)
@@ -222,13 +225,6 @@ module _ (f : ℕ) (f-fits : f < 2 ^ 16) (s : List ℕ) (w : AreBytes s) (n : �
   roll-again = ap₂ (λ (x : ℕ) (r : List ℕ). flagsRecord x ++ r) (read-flags p d roll-planned f-fits) rest-again
 
 -- ---- the law
-
--- an accepted image whose roll is t
-pub record ImageOf (t : List ℕ) : Type 0 where
-  pub image : List ℕ
-  pub bytes : AreBytes image
-  pub accepted : verdictOf image ≡ Accepted
-  pub roll : rollBytes image ≡ t
 
 pub image-of-roll : (t : List ℕ) → AreBytes t → readRoll t .verdict ≡ Accepted → ImageOf t
 image-of-roll t w e =

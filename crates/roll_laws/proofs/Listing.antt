@@ -11,10 +11,10 @@ use Rattle.eif.specs.Numbers.{placeCount}
 use Rattle.eif.specs.Table.{filled}
 use Rattle.eif.specs.Roll.{Record, recordHeadSize, flagsRecordSize, rollOf, recordAt, recordSize, recordKind, listedAt, blankRecord, acceptedRoll}
 use Rattle.eif.specs.declared.RollRecord.{RollRecord}
-use Rattle.eif_rules.proofs.Table.{filled-none}
+use Rattle.eif_lemmas.proofs.Table.{filled-none}
 use Rattle.roll_laws.specs.Listing.{listFrom, listingOf, foundIn}
 use Rattle.roll_laws.proofs.Positions.{first-record, next-record, blank, head-past}
-use Rattle.roll_laws.proofs.RollRules.{listed}
+use Rattle.roll_laws.proofs.RollRules.{listedRoll}
 
 -- ---- what it points at
 
@@ -67,7 +67,7 @@ module _ (t : List ℕ) where
       (omega (arith, next-record t i)) (later i r rs a)
       ∙ ap (λ (k : ℕ). listFrom (at + recordHeadSize + length (r .bytes)) rs ++ replicate k blankRecord) (sym n))
 
-  pub listing-is : (flags : ℕ) (rs : List Record) → length rs ≤ placeCount → AreAt t 0 rs → listed flags t (length rs) ≡ listingOf flags rs
+  pub listing-is : (flags : ℕ) (rs : List Record) → length rs ≤ placeCount → AreAt t 0 rs → listedRoll flags t (length rs) ≡ listingOf flags rs
   listing-is flags rs h a =
       ap (acceptedRoll flags (length rs))
       (filled-from rs placeCount 0 flagsRecordSize (listedAt t) h (λ j. let z : j ≡ 0 + j = omega arith in ap (listedAt t) z) (ap (λ (n : ℕ). flagsRecordSize + n) (first-record t)) a)

@@ -9,14 +9,14 @@ use borrow.Author.Tests.{ne-eqb}
 use lib.Dec.{eqb}
 use lib.ListN.{length, getD}
 use Rattle.eif.specs.Numbers.{kernel, ramdisk, ramdiskBeforeKernel, typeRepeated}
-use Rattle.eif.specs.Logic.{choose, either}
-use Rattle.eif.specs.Rules.{seen, orderFault}
+use Rattle.octets.specs.Logic.{choose, either}
+use Rattle.eif.specs.Rules.{seen, orderFault, bootType}
 use Rattle.eif.specs.Table.{filled}
 use Rattle.eif.specs.Reading.{blankSection}
-use Rattle.eif.specs.Roll.{Record, inRoll, recordFor, recordsIn}
+use Rattle.eif.specs.Roll.{Record, recordFor, recordsIn}
 use Rattle.eif.specs.declared.Section.{Section}
-use Rattle.eif_rules.proofs.Logic.{not-both}
-use Rattle.eif_rules.proofs.Table.{filled-none}
+use Rattle.eif_lemmas.proofs.Logic.{not-both}
+use Rattle.eif_lemmas.proofs.Table.{filled-none}
 use Rattle.roll_laws.proofs.Positions.{blank}
 use Rattle.roll_laws.proofs.ImageOfRoll.{none-in}
 
@@ -30,9 +30,9 @@ pub orderIn : List ℕ → ℕ → ℕ
 orderIn e k = choose (eqb k ramdisk) (choose (has kernel e) 0 ramdiskBeforeKernel) (choose (has k e) typeRepeated 0)
 
 -- the earlier types after some records more
-abbrev pub after : List ℕ → List Record → List ℕ
-after e [] = e
-after e (r ∷ rs) = after (r .kind ∷ e) rs
+abbrev pub kindsAfter : List ℕ → List Record → List ℕ
+kindsAfter e [] = e
+kindsAfter e (r ∷ rs) = kindsAfter (r .kind ∷ e) rs
 
 abbrev pub Ordered : List ℕ → List Record → Type 0
 Ordered e [] = Unit
@@ -40,7 +40,7 @@ Ordered e (r ∷ rs) = (orderIn e (r .kind) ≡ 0) × Ordered (r .kind ∷ e) rs
 
 -- of the types that a roll holds, the list has those before place i
 pub Knows : (ℕ → ℕ) → ℕ → List ℕ → Type 0
-Knows kinds i e = (k : ℕ) → inRoll k ≡ true → has k e ≡ seen kinds k i
+Knows kinds i e = (k : ℕ) → bootType k ≡ true → has k e ≡ seen kinds k i
 
 -- ---- the list and the places say the same
 
@@ -49,12 +49,12 @@ unfolding Knows seen
 knows-none kinds k m = refl
 
 -- two lists of places that a list knows
-pub knows-both : (f g : ℕ → ℕ) (i j : ℕ) (e : List ℕ) → Knows f i e → Knows g j e → (k : ℕ) → inRoll k ≡ true → seen g k j ≡ seen f k i
+pub knows-both : (f g : ℕ → ℕ) (i j : ℕ) (e : List ℕ) → Knows f i e → Knows g j e → (k : ℕ) → bootType k ≡ true → seen g k j ≡ seen f k i
 unfolding Knows
 knows-both f g i j e a b k m = sym (b k m) ∙ a k m
 
 module _ (kinds : ℕ → ℕ) where
-  order-known : (k i : ℕ) (e : List ℕ) → inRoll k ≡ true → Knows kinds i e → orderIn e k ≡ orderFault kinds k i
+  order-known : (k i : ℕ) (e : List ℕ) → bootType k ≡ true → Knows kinds i e → orderIn e k ≡ orderFault kinds k i
   unfolding orderIn orderFault Knows
   order-known k i e m h = simp (h kernel refl, h k m)
 
@@ -62,17 +62,17 @@ module _ (kinds : ℕ → ℕ) where
   unfolding Knows seen
   knows-more i x e q h k m = ap₂ (λ (y : ℕ) (b : Bool). either (eqb y k) b) q (h k m)
 
-  knows-skip : (i : ℕ) (e : List ℕ) → inRoll (kinds i) ≡ false → Knows kinds i e → Knows kinds (suc i) e
+  knows-skip : (i : ℕ) (e : List ℕ) → bootType (kinds i) ≡ false → Knows kinds i e → Knows kinds (suc i) e
   unfolding Knows seen
   knows-skip i e n h k m =
-      let no : kinds i ≡ k → ⊥ = λ z. not-both (sym n ∙ ap inRoll z ∙ m) in
+      let no : kinds i ≡ k → ⊥ = λ z. not-both (sym n ∙ ap bootType z ∙ m) in
       h k m ∙ sym (ap (λ (b : Bool). either b (seen kinds k i)) (ne-eqb _ _ no))
 
 -- ---- from the sections of an image to its records
 
 pub record Follows (kinds : ℕ → ℕ) (i : ℕ) (e : List ℕ) (rs : List Record) : Type 0 where
   pub ordered : Ordered e rs
-  pub knows : Knows kinds i (after e rs)
+  pub knows : Knows kinds i (kindsAfter e rs)
 
 module _ (s : List ℕ) (kinds : ℕ → ℕ) where
   -- the records of the later of m places
@@ -81,11 +81,11 @@ module _ (s : List ℕ) (kinds : ℕ → ℕ) where
 
   follow : (x : Section) (rest : List Record) (i n : ℕ) (e : List ℕ) → x .kind ≡ kinds i → orderFault kinds (kinds i) i ≡ 0 → Knows kinds i e
       → ((e : List ℕ) → Knows kinds (suc i) e → Follows kinds n e rest)
-      → (b : Bool) → inRoll (x .kind) ≡ b → Follows kinds n e (choose b (recordFor s x ∷ rest) rest)
+      → (b : Bool) → bootType (x .kind) ≡ b → Follows kinds n e (choose b (recordFor s x ∷ rest) rest)
   follow x rest i n e q c k again true t =
       let r = again (x .kind ∷ e) (knows-more kinds i (x .kind) e q k) in
       record { ordered = (order-known kinds (x .kind) i e t k ∙ ap (λ (a : ℕ). orderFault kinds a i) q ∙ c, r .ordered); knows = r .knows }
-  follow x rest i n e q c k again false t = again e (knows-skip kinds i e (ap inRoll (sym q) ∙ t) k)
+  follow x rest i n e q c k again false t = again e (knows-skip kinds i e (ap bootType (sym q) ∙ t) k)
 
   pub order-of-sections : (m n i : ℕ) (f : ℕ → Section) (e : List ℕ) → n ≤ m → ((j : ℕ) → j < n → f j .kind ≡ kinds (i + j))
       → ((j : ℕ) → j < n → orderFault kinds (kinds (i + j)) (i + j) ≡ 0) → Knows kinds i e
@@ -104,15 +104,15 @@ module _ (s : List ℕ) (kinds : ℕ → ℕ) where
       order-of-sections m n (suc i) (λ j. f (suc j)) e (omega arith)
       (λ j l. let r : i + suc j ≡ suc i + j = omega arith in q (suc j) (omega arith) ∙ ap kinds r)
       (λ j l. let r : i + suc j ≡ suc i + j = omega arith in subst (λ (a : ℕ). orderFault kinds (kinds a) a ≡ 0) r (o (suc j) (omega arith))) k in
-      subst (λ (a : ℕ). Follows kinds a e (choose (inRoll (f 0 .kind)) (recordFor s (f 0) ∷ later f m n) (later f m n))) y
+      subst (λ (a : ℕ). Follows kinds a e (choose (bootType (f 0 .kind)) (recordFor s (f 0) ∷ later f m n) (later f m n))) y
       (follow (f 0) (later f m n) i (suc i + n) e (q 0 (omega arith) ∙ ap kinds z)
-      (subst (λ (a : ℕ). orderFault kinds (kinds a) a ≡ 0) z (o 0 (omega arith))) k again (inRoll (f 0 .kind)) refl)
+      (subst (λ (a : ℕ). orderFault kinds (kinds a) a ≡ 0) z (o 0 (omega arith))) k again (bootType (f 0 .kind)) refl)
 
 -- ---- from records to their places in a roll
 
 abbrev pub AllInRoll : List Record → Type 0
 AllInRoll [] = Unit
-AllInRoll (r ∷ rs) = (inRoll (r .kind) ≡ true) × AllInRoll rs
+AllInRoll (r ∷ rs) = (bootType (r .kind) ≡ true) × AllInRoll rs
 
 module _ (kinds : ℕ → ℕ) where
   -- the places from i on have the records' types
@@ -136,9 +136,9 @@ module _ (kinds : ℕ → ℕ) where
       subst (λ (x : ℕ). orderFault kinds (kinds x) x ≡ 0) y
       (order-of-records rs (suc i) (r .kind ∷ e) (a .1) (later-types i r rs q) (knows-more kinds i (r .kind) e (first-type i r rs q) k) (o .1) j (omega arith))
 
-  pub knows-after : (rs : List Record) (i : ℕ) (e : List ℕ) → Types i rs → Knows kinds i e → Knows kinds (i + length rs) (after e rs)
+  pub knows-after : (rs : List Record) (i : ℕ) (e : List ℕ) → Types i rs → Knows kinds i e → Knows kinds (i + length rs) (kindsAfter e rs)
   knows-after [] i e q k = let z : i ≡ i + 0 = omega arith in subst (λ (x : ℕ). Knows kinds x e) z k
   knows-after (r ∷ rs) i e q k =
       let y : suc i + length rs ≡ i + suc (length rs) = omega arith in
-      subst (λ (x : ℕ). Knows kinds x (after (r .kind ∷ e) rs)) y
+      subst (λ (x : ℕ). Knows kinds x (kindsAfter (r .kind ∷ e) rs)) y
       (knows-after rs (suc i) (r .kind ∷ e) (later-types i r rs q) (knows-more kinds i (r .kind) e (first-type i r rs q) k))

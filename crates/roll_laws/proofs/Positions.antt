@@ -9,7 +9,7 @@ use lib.Seq.{drop-at, drop-drop, drop-cons}
 use Rattle.octets.specs.Bytes.{leBytes, leField}
 use Rattle.octets.proofs.Value.{leField-at, leField-drop, leField-drop0}
 use Rattle.eif.specs.Layout.{headerSize, sectionHeaderSize}
-use Rattle.eif.specs.Roll.{Record, recordHeadSize, headOf, rollOf, recordAt, recordSize, recordKind, imageSize}
+use Rattle.eif.specs.Roll.{Record, recordHeadSize, headOf, rollOf, recordAt, recordSize, recordKind, sizeAsImage}
 use Rattle.roll_laws.proofs.Prefix.{Fit}
 
 -- ---- one record further
@@ -23,12 +23,12 @@ module _ (s : List ℕ) where
   unfolding recordAt
   next-record i = refl
 
-  pub first-size : imageSize s 0 ≡ headerSize
-  unfolding imageSize
+  pub first-size : sizeAsImage s 0 ≡ headerSize
+  unfolding sizeAsImage
   first-size = refl
 
-  pub next-size : (i : ℕ) → imageSize s (suc i) ≡ imageSize s i + sectionHeaderSize + recordSize s i
-  unfolding imageSize
+  pub next-size : (i : ℕ) → sizeAsImage s (suc i) ≡ sizeAsImage s i + sectionHeaderSize + recordSize s i
+  unfolding sizeAsImage
   next-size i = refl
 
 -- ---- a record's head

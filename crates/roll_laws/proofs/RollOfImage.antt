@@ -12,32 +12,32 @@ use lib.ListN.{length, drop, getD, length-append, length-take, length-drop}
 use lib.Seq.{drop-cons, drop-length}
 use Rattle.octets.specs.Bytes.{leField}
 use Rattle.octets.proofs.Value.{leField-drop, leField-drop0}
-use Rattle.eif.specs.Numbers.{sizeLimit, placeCount, kernel, commandLine}
-use Rattle.eif.specs.Logic.{choose}
-use Rattle.eif.specs.Rules.{seen, orderFault, missing}
+use Rattle.eif.specs.Numbers.{sizeLimit, placeCount, kernel, commandLine, ramdisk}
+use Rattle.octets.specs.Logic.{choose}
+use Rattle.eif.specs.Rules.{bootType, seen, orderFault, bootMissing, missing}
 use Rattle.eif.specs.Table.{filled}
 use Rattle.eif.specs.Layout.{headerSize, sectionHeaderSize, versionOf, headerFlagsOf, countOf, offsetAt, sizeAt, startAt, kindAt}
 use Rattle.eif.specs.Reading.{verdictOf, sectionAt, blankSection, sectionsOf, dataOf}
-use Rattle.eif.specs.Roll.{Record, headOf, flagsRecord, rollOf, inRoll, recordFor, recordsIn, recordsOf, rollBytes, recordAt, recordSize, recordKind, imageSize}
+use Rattle.eif.specs.Roll.{Record, headOf, flagsRecord, rollOf, recordFor, recordsIn, recordsOf, rollBytes, recordAt, recordSize, recordKind, sizeAsImage}
 use Rattle.eif.specs.declared.Section.{Section}
 use Rattle.eif.specs.declared.Verdict.the-variants.{Accepted}
-use Rattle.eif_rules.proofs.Logic.{both-true}
-use Rattle.eif_rules.proofs.Table.{filled-none, length-filled}
-use Rattle.eif_rules.proofs.Accept.{none-missing-of, order-at}
-use Rattle.eif_rules.proofs.Flags.{length-flags}
+use Rattle.eif_lemmas.proofs.Logic.{both-true, either-false}
+use Rattle.eif_lemmas.proofs.Table.{filled-none, length-filled}
+use Rattle.eif_lemmas.proofs.Accept.{none-missing-of, order-at}
+use Rattle.eif_lemmas.proofs.Flags.{length-flags}
 use Rattle.plain_laws.proofs.WriteBack.{head, entry}
 use Rattle.plain_laws.proofs.Plainness.{start-inside}
-use Rattle.roll_laws.proofs.RollRules.{Whole}
+use Rattle.roll_laws.proofs.RollRules.{WholeRoll}
 use Rattle.roll_laws.proofs.Prefix.{Fit}
 use Rattle.roll_laws.proofs.Positions.{first-size, next-size, blank, suffix, sizes, kinds}
-use Rattle.roll_laws.proofs.ImageOfRoll.{missing-parts, none-in, known-in-roll}
+use Rattle.roll_laws.proofs.ImageOfRoll.{boot-there, none-in, known-in-roll}
 use Rattle.roll_laws.proofs.Order.{AllInRoll, Types, Follows, knows-none, knows-both, knows-after, order-of-sections, order-of-records}
 
 -- ---- records that an image can hold
 
 pub record Held (r : Record) : Type 0 where
-  pub low : 1 ≤ r .kind
-  pub high : r .kind ≤ 3
+  pub low : kernel ≤ r .kind
+  pub high : r .kind ≤ ramdisk
   pub small : length (r .bytes) ≤ sizeLimit
 
 abbrev pub AllHeld : List Record → Type 0
@@ -64,15 +64,15 @@ module _ (s : List ℕ) (small : length s ≤ sizeLimit) where
   data-small : (x : Section) → length (dataOf s x) ≤ sizeLimit
   data-small x = simp (length-take, length-drop) (omega arith)
 
-  held-one : (x : Section) → inRoll (x .kind) ≡ true → Held (recordFor s x)
+  held-one : (x : Section) → bootType (x .kind) ≡ true → Held (recordFor s x)
   held-one x t = let b = both-true (leb 1 (x .kind)) (leb (x .kind) 3) t in record { low = leb-true _ _ (b .0); high = leb-true _ _ (b .1); small = data-small x }
 
   all-held : (l : List Section) → AllHeld (recordsIn s l)
   unfolding recordsIn
   all-held [] = tt
-  all-held (x ∷ xs) = one (all-held xs) (inRoll (x .kind)) refl
+  all-held (x ∷ xs) = one (all-held xs) (bootType (x .kind)) refl
     where
-      one : AllHeld (recordsIn s xs) → (b : Bool) → inRoll (x .kind) ≡ b → AllHeld (choose b (recordFor s x ∷ recordsIn s xs) (recordsIn s xs))
+      one : AllHeld (recordsIn s xs) → (b : Bool) → bootType (x .kind) ≡ b → AllHeld (choose b (recordFor s x ∷ recordsIn s xs) (recordsIn s xs))
       one a true t = (held-one x t, a)
       one a false t = a
 
@@ -80,7 +80,7 @@ module _ (s : List ℕ) (small : length s ≤ sizeLimit) where
 records-few : (s : List ℕ) (l : List Section) → length (recordsIn s l) ≤ length l
 unfolding recordsIn
 records-few s [] = omega arith
-records-few s (x ∷ xs) = one (records-few s xs) (inRoll (x .kind))
+records-few s (x ∷ xs) = one (records-few s xs) (bootType (x .kind))
   where
     one : length (recordsIn s xs) ≤ length xs → (b : Bool) → length (choose b (recordFor s x ∷ recordsIn s xs) (recordsIn s xs)) ≤ suc (length xs)
     one h true = omega arith
@@ -121,8 +121,8 @@ module _ (s : List ℕ) (ok : verdictOf s ≡ Accepted) where
       let y : suc i + n ≡ i + suc n = omega arith in
       let r = sum-le m n (suc i) (λ j. f (suc j)) (omega arith) (omega arith) (λ j l. let t : i + suc j ≡ suc i + j = omega arith in q (suc j) (omega arith) ∙ ap (sectionAt s) t) in
       let e : length (dataOf s (f 0)) ≤ sizeAt s i = rw (q 0 (omega arith) ∙ ap (sectionAt s) z) (simp length-take (omega arith)) in
-      subst (λ (a : ℕ). startAt s i + sumOf (choose (inRoll (f 0 .kind)) (recordFor s (f 0) ∷ later f m n) (later f m n)) ≤ startAt s a) y
-      (sum-one (f 0) (later f m n) i (startAt s (suc i + n)) e (entry s ok i (omega arith) .starts) r (inRoll (f 0 .kind)))
+      subst (λ (a : ℕ). startAt s i + sumOf (choose (bootType (f 0 .kind)) (recordFor s (f 0) ∷ later f m n) (later f m n)) ≤ startAt s a) y
+      (sum-one (f 0) (later f m n) i (startAt s (suc i + n)) e (entry s ok i (omega arith) .starts) r (bootType (f 0 .kind)))
 
   -- the records fit in the image, after its header
   sum-small : headerSize + sumOf (recordsOf s) ≤ length s
@@ -157,8 +157,11 @@ end-kind : leField 2 8 (headOf 0 0) ≡ 0
 unfolding headOf leField
 end-kind = refl
 
-none-missing-from : (kinds : ℕ → ℕ) (n : ℕ) → seen kinds kernel n ≡ true → seen kinds commandLine n ≡ true → missing kinds 2 n ≡ false
+boot-of-missing : (kinds : ℕ → ℕ) (version n : ℕ) → missing kinds version n ≡ false → bootMissing kinds n ≡ false
 unfolding missing
+boot-of-missing kinds version n e = either-false _ _ e .0
+
+none-missing-from : (kinds : ℕ → ℕ) (n : ℕ) → seen kinds kernel n ≡ true → seen kinds commandLine n ≡ true → bootMissing kinds n ≡ false
 none-missing-from kinds n a b = simp (a, b)
 
 module _ (rs : List Record) (held : AllHeld rs) where
@@ -193,7 +196,7 @@ module _ (rs : List Record) (held : AllHeld rs) where
   end-kind-is : recordKind t n ≡ 0
   end-kind-is = leField-drop 2 8 (recordAt t n) t ∙ ap (leField 2 8) at-end ∙ end-kind
 
-  sizes-sum : (i : ℕ) → i ≤ n → imageSize t i + sumOf (drop i rs) ≡ headerSize + sumOf rs
+  sizes-sum : (i : ℕ) → i ≤ n → sizeAsImage t i + sumOf (drop i rs) ≡ headerSize + sumOf rs
   sizes-sum zero h = ap (λ (x : ℕ). x + sumOf rs) (first-size t)
   sizes-sum (suc i) h =
       let r = sizes-sum i (omega arith) in
@@ -234,7 +237,7 @@ module _ (s : List ℕ) (ok : verdictOf s ≡ Accepted) where
   types j h = let z : 0 + j ≡ j = omega arith in ap (recordKind roll) z ∙ kinds rs image-fit j h
 
   -- a type that a roll holds is in the roll where it is in the image
-  seen-both : (k : ℕ) → inRoll k ≡ true → seen (kindAt s) k (countOf s) ≡ true → seen (recordKind roll) k (length rs) ≡ true
+  seen-both : (k : ℕ) → bootType k ≡ true → seen (kindAt s) k (countOf s) ≡ true → seen (recordKind roll) k (length rs) ≡ true
   seen-both k m e =
       let y : 0 + countOf s ≡ countOf s = omega arith in
       let z : 0 + length rs ≡ length rs = omega arith in
@@ -249,9 +252,9 @@ module _ (s : List ℕ) (ok : verdictOf s ≡ Accepted) where
       subst (λ (x : ℕ). orderFault (recordKind roll) (recordKind roll x) x ≡ 0) y
       (order-of-records (recordKind roll) rs 0 [] (held-in-roll rs held) types (knows-none (recordKind roll)) (ordered .ordered) i h)
 
-  pub roll-whole : Whole roll (length rs)
+  pub roll-whole : WholeRoll roll (length rs)
   roll-whole =
-      let m = missing-parts (kindAt s) (versionOf s) (countOf s) (none-missing-of s ok) in
+      let m = boot-there (kindAt s) (countOf s) (boot-of-missing (kindAt s) (versionOf s) (countOf s) (none-missing-of s ok)) in
       let z = sizes-sum rs held (length rs) (omega arith) in
       let u = sum-small s ok in
       let v = head s ok .small in

@@ -10,45 +10,45 @@ use native.Mathlib.Nat.{eq-or-lt-of-le}
 use borrow.Author.Tests.{eq-eqb, ne-eqb, le-ltb, lt-leb, eqb-true, eqb-false, ltb-false, leb-false, not-false}
 use lib.Dec.{eqb, ltb, leb}
 use lib.ListN.{length}
-use Rattle.eif.specs.Numbers.{sizeLimit, placeCount}
-use Rattle.eif.specs.Logic.{both, choose}
-use Rattle.eif.specs.Rules.{orderFault, missing}
+use Rattle.eif.specs.Numbers.{sizeLimit, placeCount, kernel, ramdisk}
+use Rattle.octets.specs.Logic.{both, choose}
+use Rattle.eif.specs.Rules.{orderFault, bootMissing}
 use Rattle.eif.specs.Table.{filled}
-use Rattle.eif.specs.Roll.{recordAt, recordSize, recordKind, isEnd, headFault, bodyFault, Ending, ended, stopped, endFrom, imageSize, rollFault, endVerdict, listedAt, blankRecord, acceptedRoll, refusedRoll, rollAnswerFor, readRest}
+use Rattle.eif.specs.Roll.{recordHeadSize, endType, recordAt, recordSize, recordKind, isEnd, headFault, bodyFault, Ending, ended, stopped, endFrom, sizeAsImage, rollFault, endVerdict, listedAt, blankRecord, acceptedRoll, refusedRoll, rollAnswerFor, readRest}
 use Rattle.eif.specs.declared.RollReading.{RollReading}
 use Rattle.eif.specs.declared.Verdict.the-variants.{Accepted}
-use Rattle.eif_rules.proofs.Logic.{choose-zero}
-use Rattle.eif_rules.proofs.Verdicts.{never}
+use Rattle.eif_lemmas.proofs.Logic.{choose-zero}
+use Rattle.eif_lemmas.proofs.Verdicts.{never}
 
 -- what the accepted rest of a roll has, if it has n records
-pub record Whole (s : List ℕ) (n : ℕ) : Type 0 where
+pub record WholeRoll (s : List ℕ) (n : ℕ) : Type 0 where
   pub few : n ≤ placeCount
-  pub heads : (i : ℕ) → i ≤ n → recordAt s i + 10 ≤ length s
-  pub known : (i : ℕ) → i < n → (1 ≤ recordKind s i) × (recordKind s i ≤ 3)
+  pub heads : (i : ℕ) → i ≤ n → recordAt s i + recordHeadSize ≤ length s
+  pub known : (i : ℕ) → i < n → (kernel ≤ recordKind s i) × (recordKind s i ≤ ramdisk)
   pub inside : (i : ℕ) → i < n → recordAt s (suc i) ≤ length s
   pub order : (i : ℕ) → i < n → orderFault (recordKind s) (recordKind s i) i ≡ 0
-  pub end-kind : recordKind s n ≡ 0
+  pub end-kind : recordKind s n ≡ endType
   pub end-size : recordSize s n ≡ 0
-  pub ends : recordAt s n + 10 ≡ length s
-  pub none-missing : missing (recordKind s) 2 n ≡ false
-  pub small : imageSize s n ≤ sizeLimit
+  pub ends : recordAt s n + recordHeadSize ≡ length s
+  pub none-missing : bootMissing (recordKind s) n ≡ false
+  pub small : sizeAsImage s n ≤ sizeLimit
 
 -- what reading it answers
-abbrev pub listed : ℕ → List ℕ → ℕ → RollReading
-listed flags s n = acceptedRoll flags n (filled (listedAt s) blankRecord placeCount n)
+abbrev pub listedRoll : ℕ → List ℕ → ℕ → RollReading
+listedRoll flags s n = acceptedRoll flags n (filled (listedAt s) blankRecord placeCount n)
 
 -- ---- one record
 
 module _ (s : List ℕ) (i : ℕ) where
-  head-zero : headFault s i ≡ 0 → (recordAt s i + 10 ≤ length s) × (recordKind s i ≤ 3) × (both (isEnd s i) (not (eqb (recordSize s i) 0)) ≡ false)
+  head-zero : headFault s i ≡ 0 → (recordAt s i + recordHeadSize ≤ length s) × (recordKind s i ≤ ramdisk) × (both (isEnd s i) (not (eqb (recordSize s i) 0)) ≡ false)
   unfolding headFault
   head-zero e =
-      let a = choose-zero (ltb (length s) (recordAt s i + 10)) 15 _ e in
-      let b = choose-zero (ltb 3 (recordKind s i)) 16 _ (a .1) in
+      let a = choose-zero (ltb (length s) (recordAt s i + recordHeadSize)) 15 _ e in
+      let b = choose-zero (ltb ramdisk (recordKind s i)) 16 _ (a .1) in
       let c = choose-zero (both (isEnd s i) (not (eqb (recordSize s i) 0))) 16 _ (b .1) in
       (ltb-false _ _ (a .0), ltb-false _ _ (b .0), c .0)
 
-  zero-head : recordAt s i + 10 ≤ length s → recordKind s i ≤ 3 → both (isEnd s i) (not (eqb (recordSize s i) 0)) ≡ false → headFault s i ≡ 0
+  zero-head : recordAt s i + recordHeadSize ≤ length s → recordKind s i ≤ ramdisk → both (isEnd s i) (not (eqb (recordSize s i) 0)) ≡ false → headFault s i ≡ 0
   unfolding headFault
   zero-head a b c = simp (le-ltb _ _ a, le-ltb _ _ b, c)
 
@@ -79,7 +79,7 @@ record Clean (s : List ℕ) (i : ℕ) : Type 0 where
   body : bodyFault s i ≡ 0
 
 -- from record i on, in at most m records, the end record is record n
-record Ended (s : List ℕ) (i m n : ℕ) : Type 0 where
+record EndsAt (s : List ℕ) (i m n : ℕ) : Type 0 where
   from : i ≤ n
   before : n < i + m
   clean : (j : ℕ) → i ≤ j → j < n → Clean s j
@@ -91,7 +91,7 @@ module _ (s : List ℕ) where
   abbrev afterHead : ℕ → ℕ → Bool → Ending
   afterHead m i b = choose b (ended i) (choose (eqb (bodyFault s i) 0) (endFrom s m (suc i)) (stopped (bodyFault s i) i))
 
-  ended→ : (m i n : ℕ) → endFrom s m i ≡ ended n → Ended s i m n
+  ended→ : (m i n : ℕ) → endFrom s m i ≡ ended n → EndsAt s i m n
   unfolding endFrom
   ended→ zero i n e = let z : _≡_ {A = ℕ} 0 1 = cc in absurd (omega arith)
   ended→ (suc m) i n e = go (λ q. ended→ m (suc i) n q) (isEnd s i) refl (a .1)
@@ -99,7 +99,7 @@ module _ (s : List ℕ) where
       a : (eqb (headFault s i) 0 ≡ true) × (afterHead m i (isEnd s i) ≡ ended n)
       a = choose-ended (eqb (headFault s i) 0) _ _ _ n e
 
-      go : (endFrom s m (suc i) ≡ ended n → Ended s (suc i) m n) → (b : Bool) → isEnd s i ≡ b → afterHead m i b ≡ ended n → Ended s i (suc m) n
+      go : (endFrom s m (suc i) ≡ ended n → EndsAt s (suc i) m n) → (b : Bool) → isEnd s i ≡ b → afterHead m i b ≡ ended n → EndsAt s i (suc m) n
       go again true q r =
           let z = same-ended i n r in
           record {
@@ -127,7 +127,7 @@ module _ (s : List ℕ) where
             stops = t .stops;
           }
 
-  →ended : (m i n : ℕ) → Ended s i m n → endFrom s m i ≡ ended n
+  →ended : (m i n : ℕ) → EndsAt s i m n → endFrom s m i ≡ ended n
   unfolding endFrom
   →ended zero i n t = let f = t .from in let u = t .before in absurd (omega arith)
   →ended (suc m) i n t =
@@ -146,22 +146,22 @@ positive zero z = absurd (z refl)
 positive (suc k) z = omega arith
 
 module _ (s : List ℕ) (n : ℕ) where
-  fault-zero : rollFault s n ≡ 0 → (length s ≤ recordAt s n + 10) × (missing (recordKind s) 2 n ≡ false) × (imageSize s n ≤ sizeLimit)
+  fault-zero : rollFault s n ≡ 0 → (length s ≤ recordAt s n + recordHeadSize) × (bootMissing (recordKind s) n ≡ false) × (sizeAsImage s n ≤ sizeLimit)
   unfolding rollFault
   fault-zero e =
-      let a = choose-zero (ltb (recordAt s n + 10) (length s)) 17 _ e in
-      let b = choose-zero (missing (recordKind s) 2 n) 11 _ (a .1) in
-      let c = choose-zero (ltb sizeLimit (imageSize s n)) 0 _ (b .1) in
+      let a = choose-zero (ltb (recordAt s n + recordHeadSize) (length s)) 17 _ e in
+      let b = choose-zero (bootMissing (recordKind s) n) 11 _ (a .1) in
+      let c = choose-zero (ltb sizeLimit (sizeAsImage s n)) 0 _ (b .1) in
       (ltb-false _ _ (a .0), b .0, ltb-false _ _ (c .0))
 
-  zero-fault : recordAt s n + 10 ≡ length s → missing (recordKind s) 2 n ≡ false → imageSize s n ≤ sizeLimit → rollFault s n ≡ 0
+  zero-fault : recordAt s n + recordHeadSize ≡ length s → bootMissing (recordKind s) n ≡ false → sizeAsImage s n ≤ sizeLimit → rollFault s n ≡ 0
   unfolding rollFault
-  zero-fault a b c = simp (le-ltb (recordAt s n + 10) (length s) (omega arith), b, le-ltb _ _ c)
+  zero-fault a b c = simp (le-ltb (recordAt s n + recordHeadSize) (length s) (omega arith), b, le-ltb _ _ c)
 
   end-size-zero : isEnd s n ≡ true → both (isEnd s n) (not (eqb (recordSize s n) 0)) ≡ false → recordSize s n ≡ 0
   end-size-zero q e = eqb-true _ _ (not-false _ (simp q at e))
 
-  whole-of : Ended s 0 (suc placeCount) n → rollFault s n ≡ 0 → Whole s n
+  whole-of : EndsAt s 0 (suc placeCount) n → rollFault s n ≡ 0 → WholeRoll s n
   whole-of t f =
       let b = fault-zero f in
       let u = t .before in
@@ -180,7 +180,7 @@ module _ (s : List ℕ) (n : ℕ) where
         small = b .2;
       }
 
-  ended-of : Whole s n → Ended s 0 (suc placeCount) n
+  ended-of : WholeRoll s n → EndsAt s 0 (suc placeCount) n
   ended-of a =
       let f = a .few in
       record {
@@ -198,20 +198,20 @@ module _ (s : List ℕ) (n : ℕ) where
         stops = eq-eqb _ _ (a .end-kind);
       }
 
-pub roll→ : (flags : ℕ) (s : List ℕ) → readRest flags s .verdict ≡ Accepted → Whole s (readRest flags s .count)
+pub roll→ : (flags : ℕ) (s : List ℕ) → readRest flags s .verdict ≡ Accepted → WholeRoll s (readRest flags s .count)
 unfolding readRest
 roll→ flags s e = go (endFrom s (suc placeCount) 0) refl e
   where
     fine : (n : ℕ) → endFrom s (suc placeCount) 0 ≡ ended n → (b : Bool) → eqb (rollFault s n) 0 ≡ b
-        → choose b (listed flags s n) (refusedRoll (endVerdict s (rollFault s n) n)) .verdict ≡ Accepted → Whole s (choose b (listed flags s n) (refusedRoll (endVerdict s (rollFault s n) n)) .count)
+        → choose b (listedRoll flags s n) (refusedRoll (endVerdict s (rollFault s n) n)) .verdict ≡ Accepted → WholeRoll s (choose b (listedRoll flags s n) (refusedRoll (endVerdict s (rollFault s n) n)) .count)
     fine n q true z v = whole-of s n (ended→ s (suc placeCount) 0 n q) (eqb-true _ _ z)
     fine n q false z v = never _ v
 
-    go : (x : Ending) → endFrom s (suc placeCount) 0 ≡ x → rollAnswerFor flags s x .verdict ≡ Accepted → Whole s (rollAnswerFor flags s x .count)
+    go : (x : Ending) → endFrom s (suc placeCount) 0 ≡ x → rollAnswerFor flags s x .verdict ≡ Accepted → WholeRoll s (rollAnswerFor flags s x .count)
     go (ended n) q v = fine n q (eqb (rollFault s n) 0) refl v
     go (stopped k l) q v = never _ v
 
-pub →roll : (flags : ℕ) (s : List ℕ) (n : ℕ) → Whole s n → readRest flags s ≡ listed flags s n
+pub →roll : (flags : ℕ) (s : List ℕ) (n : ℕ) → WholeRoll s n → readRest flags s ≡ listedRoll flags s n
 unfolding readRest
 →roll flags s n a =
     ap (rollAnswerFor flags s) (→ended s (suc placeCount) 0 n (ended-of s n a)) ∙ simp (zero-fault s n (a .ends) (a .none-missing) (a .small))

@@ -1,55 +1,56 @@
 -- Whole is the roll with its heads taken out, and each stream is what it keeps of that.
 -- Assumes nothing.
 use Prim.Native.Nat.{ℕ, suc, _+_, _-_}
-use mathlib.Core.Path.{_≡_, refl, sym, ap, ap₂, _∙_}
-use mathlib.Core.Bool.{Bool, true, false, not}
+use mathlib.Core.Path.{_≡_, refl, sym, ap, _∙_}
+use mathlib.Core.Bool.{Bool, true, false}
 use mathlib.Core.List.{List, [], _∷_, _++_, map}
 use native.Mathlib.Omega.{arith}
 use native.Mathlib.Nat.{add-zero}
 use borrow.Author.Tests.{eqb-true, le-leb}
-use lib.Dec.{eqb, ltb}
+use lib.Dec.{eqb}
 use lib.ListN.{length, take, replicate}
 use lib.Seq.{take-at}
 use Rattle.eif.specs.Numbers.{placeCount, kernel, ramdisk}
-use Rattle.eif.specs.Logic.{both, choose}
+use Rattle.octets.specs.Logic.{choose}
 use Rattle.eif.specs.Reading.{ramdiskIn, dataOf, sectionsOf, verdictOf}
-use Rattle.eif.specs.Roll.{Record, flagsRecordSize, inRoll, recordFor, recordsIn, recordsOf, rollBytes, blankRecord, readRoll}
-use Rattle.eif.specs.Stream.{keeps, kept, sectionKind, streamSections, joined, streamOf}
+use Rattle.eif.specs.Rules.{bootType}
+use Rattle.eif.specs.Roll.{Record, flagsRecordSize, recordFor, recordsIn, recordsOf, rollBytes, blankRecord}
+use Rattle.eif.specs.Stream.{keeps, kept, sectionKind, sectionsData, streamOf}
 use Rattle.eif.specs.declared.RollReading.{RollReading}
 use Rattle.eif.specs.declared.RollRecord.{RollRecord}
 use Rattle.eif.specs.declared.Section.{Section}
 use Rattle.eif.specs.declared.Stream.{Stream}
 use Rattle.eif.specs.declared.Stream.the-variants.{Whole, Boot, App}
 use Rattle.eif.specs.declared.Verdict.the-variants.{Accepted}
-use Rattle.roll_laws.specs.Listing.{listFrom, listingOf, foundIn, bytesAt, entriesOf, joinedAt, withoutHeads, streamInRoll}
+use Rattle.roll_laws.specs.Listing.{listFrom, foundIn, bytesAt, entriesOf, joinedAt, withoutHeads, streamInRoll}
 use Rattle.roll_laws.proofs.Demand3.{listing-of-roll, found-in-roll}
 
 -- ---- what is kept of records
 
-abbrev recordKind : Record → ℕ
-recordKind r = r .kind
+abbrev kindOfRecord : Record → ℕ
+kindOfRecord r = r .kind
 
 abbrev entryKind : RollRecord → ℕ
 entryKind x = x .kind
 
 -- the bytes of records, joined
-unfoldable bytesOf : List Record → List ℕ
-bytesOf [] = []
-bytesOf (r ∷ rs) = r .bytes ++ bytesOf rs
+unfoldable recordBytes : List Record → List ℕ
+recordBytes [] = []
+recordBytes (r ∷ rs) = r .bytes ++ recordBytes rs
 
 -- a type that a roll does not hold is no ramdisk, and no stream keeps it
-no-ramdisk : (kind : ℕ) → inRoll kind ≡ false → eqb kind ramdisk ≡ false
+no-ramdisk : (kind : ℕ) → bootType kind ≡ false → eqb kind ramdisk ≡ false
 no-ramdisk kind e = by (eqb kind ramdisk) refl
   where
     by : (b : Bool) → eqb kind ramdisk ≡ b → eqb kind ramdisk ≡ false
     by false f = f
     by true f =
         let k : kind ≡ ramdisk = eqb-true kind ramdisk f in
-        let t : inRoll kind ≡ true = simp (le-leb kernel kind (omega arith), le-leb kind ramdisk (omega arith)) in
+        let t : bootType kind ≡ true = simp (le-leb kernel kind (omega arith), le-leb kind ramdisk (omega arith)) in
         let z : _≡_ {A = ℕ} 1 0 = ap (λ (b : Bool). choose b 1 0) (sym t ∙ e) in
         absurd (omega arith)
 
-not-kept : (stream : Stream) (kind before : ℕ) → inRoll kind ≡ false → keeps stream kind before ≡ false
+not-kept : (stream : Stream) (kind before : ℕ) → bootType kind ≡ false → keeps stream kind before ≡ false
 unfolding keeps
 not-kept Whole kind before e = e
 not-kept Boot kind before e = simp e
@@ -57,58 +58,58 @@ not-kept App kind before e = simp (no-ramdisk kind e)
 
 module _ (s : List ℕ) (stream : Stream) where
   -- the data of what a stream keeps of sections is that of what it keeps of their records
-  by-kept : (x : Section) (rs : List Record) (l : List Section) (b : Bool) → bytesOf rs ≡ joined s l
-      → bytesOf (choose b (recordFor s x ∷ rs) rs) ≡ joined s (choose b (x ∷ l) l)
-  unfolding bytesOf joined
+  by-kept : (x : Section) (rs : List Record) (l : List Section) (b : Bool) → recordBytes rs ≡ sectionsData s l
+      → recordBytes (choose b (recordFor s x ∷ rs) rs) ≡ sectionsData s (choose b (x ∷ l) l)
+  unfolding recordBytes sectionsData
   by-kept x rs l true e = ap (λ (b : List ℕ). dataOf s x ++ b) e
   by-kept x rs l false e = e
 
-  kept-records : (before : ℕ) (l : List Section) → bytesOf (kept stream recordKind before (recordsIn s l)) ≡ joined s (kept stream sectionKind before l)
-  unfolding kept recordsIn bytesOf joined
+  kept-records : (before : ℕ) (l : List Section) → recordBytes (kept stream kindOfRecord before (recordsIn s l)) ≡ sectionsData s (kept stream sectionKind before l)
+  unfolding kept recordsIn recordBytes sectionsData
   kept-records before [] = refl
-  kept-records before (x ∷ xs) = by-type (inRoll (x .kind)) refl (λ n. kept-records n xs)
+  kept-records before (x ∷ xs) = by-type (bootType (x .kind)) refl (λ n. kept-records n xs)
     where
-      by-type : (b : Bool) → inRoll (x .kind) ≡ b
-          → ((n : ℕ) → bytesOf (kept stream recordKind n (recordsIn s xs)) ≡ joined s (kept stream sectionKind n xs))
-          → bytesOf (kept stream recordKind before (choose b (recordFor s x ∷ recordsIn s xs) (recordsIn s xs)))
-          ≡ joined s (choose (keeps stream (x .kind) before) (x ∷ kept stream sectionKind (before + ramdiskIn (x .kind)) xs) (kept stream sectionKind (before + ramdiskIn (x .kind)) xs))
+      by-type : (b : Bool) → bootType (x .kind) ≡ b
+          → ((n : ℕ) → recordBytes (kept stream kindOfRecord n (recordsIn s xs)) ≡ sectionsData s (kept stream sectionKind n xs))
+          → recordBytes (kept stream kindOfRecord before (choose b (recordFor s x ∷ recordsIn s xs) (recordsIn s xs)))
+          ≡ sectionsData s (choose (keeps stream (x .kind) before) (x ∷ kept stream sectionKind (before + ramdiskIn (x .kind)) xs) (kept stream sectionKind (before + ramdiskIn (x .kind)) xs))
       by-type true e later =
-          by-kept x (kept stream recordKind (before + ramdiskIn (x .kind)) (recordsIn s xs)) (kept stream sectionKind (before + ramdiskIn (x .kind)) xs) (keeps stream (x .kind) before)
+          by-kept x (kept stream kindOfRecord (before + ramdiskIn (x .kind)) (recordsIn s xs)) (kept stream sectionKind (before + ramdiskIn (x .kind)) xs) (keeps stream (x .kind) before)
           (later (before + ramdiskIn (x .kind)))
       by-type false e later =
           let z : before ≡ before + ramdiskIn (x .kind) = sym (ap (λ (b : Bool). before + choose b 1 0) (no-ramdisk (x .kind) e) ∙ add-zero before) in
           later before
-          ∙ ap (λ (n : ℕ). joined s (kept stream sectionKind n xs)) z
-          ∙ sym (ap (λ (b : Bool). joined s (choose b (x ∷ kept stream sectionKind (before + ramdiskIn (x .kind)) xs) (kept stream sectionKind (before + ramdiskIn (x .kind)) xs))) (not-kept stream (x .kind) before e))
+          ∙ ap (λ (n : ℕ). sectionsData s (kept stream sectionKind n xs)) z
+          ∙ sym (ap (λ (b : Bool). sectionsData s (choose b (x ∷ kept stream sectionKind (before + ramdiskIn (x .kind)) xs) (kept stream sectionKind (before + ramdiskIn (x .kind)) xs))) (not-kept stream (x .kind) before e))
 
 -- Whole keeps all records
-all-kept : (s : List ℕ) (before : ℕ) (l : List Section) → kept Whole recordKind before (recordsIn s l) ≡ recordsIn s l
+all-kept : (s : List ℕ) (before : ℕ) (l : List Section) → kept Whole kindOfRecord before (recordsIn s l) ≡ recordsIn s l
 unfolding kept keeps recordsIn
 all-kept s before [] = refl
-all-kept s before (x ∷ xs) = by-type (inRoll (x .kind)) refl (λ n. all-kept s n xs)
+all-kept s before (x ∷ xs) = by-type (bootType (x .kind)) refl (λ n. all-kept s n xs)
   where
-    by-type : (b : Bool) → inRoll (x .kind) ≡ b → ((n : ℕ) → kept Whole recordKind n (recordsIn s xs) ≡ recordsIn s xs)
-        → kept Whole recordKind before (choose b (recordFor s x ∷ recordsIn s xs) (recordsIn s xs)) ≡ choose b (recordFor s x ∷ recordsIn s xs) (recordsIn s xs)
+    by-type : (b : Bool) → bootType (x .kind) ≡ b → ((n : ℕ) → kept Whole kindOfRecord n (recordsIn s xs) ≡ recordsIn s xs)
+        → kept Whole kindOfRecord before (choose b (recordFor s x ∷ recordsIn s xs) (recordsIn s xs)) ≡ choose b (recordFor s x ∷ recordsIn s xs) (recordsIn s xs)
     by-type true e later =
-        ap (λ (b : Bool). choose b (recordFor s x ∷ kept Whole recordKind (before + ramdiskIn (x .kind)) (recordsIn s xs)) (kept Whole recordKind (before + ramdiskIn (x .kind)) (recordsIn s xs))) e
+        ap (λ (b : Bool). choose b (recordFor s x ∷ kept Whole kindOfRecord (before + ramdiskIn (x .kind)) (recordsIn s xs)) (kept Whole kindOfRecord (before + ramdiskIn (x .kind)) (recordsIn s xs))) e
         ∙ ap (λ (r : List Record). recordFor s x ∷ r) (later (before + ramdiskIn (x .kind)))
     by-type false e later = later before
 
 -- what is kept of entries, and of the records that they point at
 module _ (t : List ℕ) (stream : Stream) where
-  kept-entries : (before : ℕ) (l : List RollRecord) → map (foundIn t) (kept stream entryKind before l) ≡ kept stream recordKind before (map (foundIn t) l)
+  kept-entries : (before : ℕ) (l : List RollRecord) → map (foundIn t) (kept stream entryKind before l) ≡ kept stream kindOfRecord before (map (foundIn t) l)
   unfolding kept
   kept-entries before [] = refl
   kept-entries before (x ∷ xs) =
       let n : ℕ = before + ramdiskIn (x .kind) in
-      by (keeps stream (x .kind) before) x (kept stream entryKind n xs) (kept stream recordKind n (map (foundIn t) xs)) (kept-entries n xs)
+      by (keeps stream (x .kind) before) x (kept stream entryKind n xs) (kept stream kindOfRecord n (map (foundIn t) xs)) (kept-entries n xs)
     where
       by : (b : Bool) (x : RollRecord) (l : List RollRecord) (rs : List Record) → map (foundIn t) l ≡ rs → map (foundIn t) (choose b (x ∷ l) l) ≡ choose b (foundIn t x ∷ rs) rs
       by true x l rs e = ap (λ (r : List Record). foundIn t x ∷ r) e
       by false x l rs e = e
 
-  joined-found : (l : List RollRecord) → joinedAt t l ≡ bytesOf (map (foundIn t) l)
-  unfolding joinedAt bytesOf
+  joined-found : (l : List RollRecord) → joinedAt t l ≡ recordBytes (map (foundIn t) l)
+  unfolding joinedAt recordBytes
   joined-found [] = refl
   joined-found (x ∷ xs) = ap (λ (b : List ℕ). bytesAt t x ++ b) (joined-found xs)
 
@@ -137,7 +138,7 @@ module _ (s : List ℕ) (ok : verdictOf s ≡ Accepted) where
       sym
       (ap (λ (l : List RollRecord). joinedAt t (kept stream entryKind 0 l)) entries-are
       ∙ joined-found t stream (kept stream entryKind 0 (listFrom flagsRecordSize rs))
-      ∙ ap bytesOf (kept-entries t stream 0 (listFrom flagsRecordSize rs) ∙ ap (kept stream recordKind 0) (found-in-roll s))
+      ∙ ap recordBytes (kept-entries t stream 0 (listFrom flagsRecordSize rs) ∙ ap (kept stream kindOfRecord 0) (found-in-roll s))
       ∙ kept-records s stream 0 (sectionsOf s))
 
   -- Whole is the image's roll with the heads taken out.
@@ -146,5 +147,5 @@ module _ (s : List ℕ) (ok : verdictOf s ≡ Accepted) where
   whole-is-roll =
       let rs = recordsOf s in
       sym
-      (ap (joinedAt t) entries-are ∙ joined-found t Whole (listFrom flagsRecordSize rs) ∙ ap bytesOf (found-in-roll s ∙ sym (all-kept s 0 (sectionsOf s)))
+      (ap (joinedAt t) entries-are ∙ joined-found t Whole (listFrom flagsRecordSize rs) ∙ ap recordBytes (found-in-roll s ∙ sym (all-kept s 0 (sectionsOf s)))
       ∙ kept-records s Whole 0 (sectionsOf s))

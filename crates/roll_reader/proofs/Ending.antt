@@ -10,18 +10,18 @@ use native.Mathlib.Numerals.{add-one}
 use borrow.Author.Tests.{lt-ltb, le-ltb, eq-eqb, ne-eqb, eqb-true}
 use lib.Dec.{eqb}
 use lib.ListN.{length}
-use Rattle.eif.specs.Numbers.{sizeLimit, placeCount, oldestVersion, imageTooLong, sectionMissing, bytesAfterEnd}
-use Rattle.eif.specs.Logic.{choose}
+use Rattle.eif.specs.Numbers.{sizeLimit, placeCount, imageTooLong, sectionMissing, bytesAfterEnd}
+use Rattle.octets.specs.Logic.{choose}
 use Rattle.eif.specs.Answers.{refuse, refuseAt}
-use Rattle.eif.specs.Rules.{missing}
+use Rattle.eif.specs.Rules.{bootMissing}
 use Rattle.eif.specs.Table.{filled}
 use Rattle.eif.specs.Layout.{headerSize, sectionHeaderSize}
-use Rattle.eif.specs.Roll.{recordHeadSize, flagsRecordSize, endType, Ending, ended, stopped, recordAt, recordKind, isEnd, endVerdict, listedAt, blankRecord, headFault, bodyFault, endFrom, imageSize, rollFault, refusedRoll, acceptedRoll, rollAnswerFor, readRest}
+use Rattle.eif.specs.Roll.{recordHeadSize, flagsRecordSize, endType, Ending, ended, stopped, recordAt, recordKind, isEnd, endVerdict, listedAt, blankRecord, headFault, bodyFault, endFrom, sizeAsImage, rollFault, refusedRoll, acceptedRoll, rollAnswerFor, readRest}
 use Rattle.eif.specs.declared.Refusal.{Refusal}
 use Rattle.eif.specs.declared.RollRecord.{RollRecord}
 use Rattle.eif.specs.declared.Verdict.the-variants.{Accepted, Refused}
-use Rattle.eif_rules.proofs.Logic.{zero-or}
-use Rattle.eif_rules.proofs.Verdicts.{never}
+use Rattle.eif_lemmas.proofs.Logic.{zero-or}
+use Rattle.eif_lemmas.proofs.Verdicts.{never}
 use Rattle.roll_reader.specs.declared.Walked.{Walked}
 use Rattle.roll_reader.specs.Walk.{recordFault, stoppedWith, stoppedAt, endedAt, walkFor, walkOf}
 use Rattle.roll_reader.proofs.Records.{head-fits, by-head, by-end, by-body}
@@ -104,8 +104,8 @@ end-in s (suc n) i k e =
 -- ---- the rules on the whole roll
 
 -- what the records before i take in an image: before each data it has a section header where the roll has a record's head
-pub image-size : (s : List ℕ) (i : ℕ) → imageSize s i ≡ headerSize + (sectionHeaderSize - recordHeadSize) * i + recordAt s i
-unfolding imageSize recordAt
+pub image-size : (s : List ℕ) (i : ℕ) → sizeAsImage s i ≡ headerSize + (sectionHeaderSize - recordHeadSize) * i + recordAt s i
+unfolding sizeAsImage recordAt
 image-size s zero = refl
 image-size s (suc i) = omega (arith, image-size s i)
 
@@ -115,16 +115,16 @@ module _ (s : List ℕ) (n : ℕ) where
   roll-more h = simp (lt-ltb _ _ h)
 
   module _ (last : length s ≤ recordAt s n + recordHeadSize) where
-    pub roll-missing : missing (recordKind s) oldestVersion n ≡ true → sectionMissing ≡ rollFault s n
+    pub roll-missing : bootMissing (recordKind s) n ≡ true → sectionMissing ≡ rollFault s n
     unfolding rollFault
     roll-missing e = simp (le-ltb _ _ last, e)
 
-    module _ (complete : missing (recordKind s) oldestVersion n ≡ false) where
-      pub roll-long : sizeLimit < imageSize s n → imageTooLong ≡ rollFault s n
+    module _ (complete : bootMissing (recordKind s) n ≡ false) where
+      pub roll-long : sizeLimit < sizeAsImage s n → imageTooLong ≡ rollFault s n
       unfolding rollFault
       roll-long h = simp (le-ltb _ _ last, complete, lt-ltb _ _ h)
 
-      pub roll-good : imageSize s n ≤ sizeLimit → 0 ≡ rollFault s n
+      pub roll-good : sizeAsImage s n ≤ sizeLimit → 0 ≡ rollFault s n
       unfolding rollFault
       roll-good h = simp (le-ltb _ _ last, complete, le-ltb _ _ h)
 

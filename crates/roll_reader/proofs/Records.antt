@@ -11,13 +11,13 @@ use lib.Seq.{length-take-le}
 use Rattle.octets.specs.Bytes.{leField}
 use Rattle.eif.specs.Numbers.{placeCount, ramdisk, wrongCount, recordCut, recordTypeWrong}
 use Rattle.eif.specs.Table.{filled}
-use Rattle.eif.specs.Rules.{orderFault, missing}
+use Rattle.eif.specs.Rules.{orderFault, bootMissing}
 use Rattle.eif.specs.Roll.{recordHeadSize, flagsRecordSize, endType, recordAt, recordSize, recordKind, listedAt, headFault, bodyFault}
-use Rattle.eif_rules.proofs.Logic.{choose-zero, zero-or}
-use Rattle.eif_rules.proofs.Table.{filled-at, length-filled}
+use Rattle.eif_lemmas.proofs.Logic.{choose-zero, zero-or}
+use Rattle.eif_lemmas.proofs.Table.{filled-at, length-filled}
 use Rattle.roll_reader.specs.Walk.{recordFault}
-use Rattle.type_rules.specs.Kinds.{kindIn}
-use Rattle.type_rules.proofs.Parts.{order-part, missing-part}
+use Rattle.type_judge.specs.Kinds.{listedKind}
+use Rattle.type_judge.proofs.Parts.{order-part, boot-missing-part}
 
 -- ---- a table of what the records before hold
 
@@ -32,11 +32,11 @@ module _ (s kinds : List ℕ) (n : ℕ) (few : n ≤ placeCount) (kept : kinds �
   kept-at : (j : ℕ) → j < n → getD kinds j 0 ≡ recordKind s j
   kept-at j h = ap (λ (l : List ℕ). getD l j 0) kept ∙ filled-at (recordKind s) 0 0 placeCount n j h few
 
-  pub kept-order : (kind : ℕ) → orderFault (kindIn (take n kinds)) kind (length (take n kinds)) ≡ orderFault (recordKind s) kind n
+  pub kept-order : (kind : ℕ) → orderFault (listedKind (take n kinds)) kind (length (take n kinds)) ≡ orderFault (recordKind s) kind n
   kept-order = order-part kinds (recordKind s) n within kept-at
 
-  pub kept-missing : (version : ℕ) → missing (kindIn (take n kinds)) version (length (take n kinds)) ≡ missing (recordKind s) version n
-  kept-missing = missing-part kinds (recordKind s) n within kept-at
+  pub kept-missing : bootMissing (listedKind (take n kinds)) (length (take n kinds)) ≡ bootMissing (recordKind s) n
+  kept-missing = boot-missing-part kinds (recordKind s) n within kept-at
 
 -- ---- a record's head
 

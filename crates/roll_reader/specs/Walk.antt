@@ -5,7 +5,7 @@ use mathlib.Core.List.{List}
 use lib.Dec.{eqb}
 use lib.ListN.{replicate}
 use Rattle.eif.specs.Numbers.{placeCount, wrongCount}
-use Rattle.eif.specs.Logic.{choose}
+use Rattle.octets.specs.Logic.{choose}
 use Rattle.eif.specs.Answers.{refuseAt}
 use Rattle.eif.specs.Table.{filled}
 use Rattle.eif.specs.Roll.{flagsRecordSize, Ending, stopped, ended, recordAt, recordKind, listedAt, blankRecord, isEnd, headFault, bodyFault, endFrom}

@@ -82,7 +82,7 @@ fn record_fault(rest: &[u8], kinds: &[u16], i: usize, at: usize) -> u8
     if left < length {
         return Refusal::RECORD_CUT;
     }
-    type_rules::order_fault(&kinds[..i], kind)
+    type_judge::order_fault(&kinds[..i], kind)
 }
 
 // ---- all records
@@ -172,7 +172,7 @@ fn roll_fault(rest: &[u8], kinds: &[u16], n: usize, end: usize) -> u8
     if end + RecordHead::SIZE < rest.len() {
         return Refusal::BYTES_AFTER_END;
     }
-    if type_rules::lacks(&kinds[..n], eif::OLDEST_VERSION) {
+    if type_judge::lacks_boot(&kinds[..n]) {
         return Refusal::SECTION_MISSING;
     }
     let size = Header::SIZE + (SectionHeader::SIZE - RecordHead::SIZE) * n + end;

@@ -13,9 +13,9 @@ use Rattle.eif.specs.Roll.{flagsRecordSize, flagsRecord, rollOf, recordsOf, rol
 use Rattle.eif.specs.declared.Reading.{Reading}
 use Rattle.eif.specs.declared.Section.{Section}
 use Rattle.eif.specs.declared.Verdict.the-variants.{Accepted}
-use Rattle.eif_rules.proofs.Reading.{reading-verdict, reading-accepted}
-use Rattle.eif_rules.proofs.Table.{All, all-filled, length-filled}
-use Rattle.eif_rules.proofs.Accept.{Inside, length-data, passes}
+use Rattle.eif_lemmas.proofs.Reading.{reading-verdict, reading-accepted}
+use Rattle.eif_lemmas.proofs.Table.{All, all-filled, length-filled}
+use Rattle.eif_lemmas.proofs.Accept.{Inside, length-data, passes}
 use Rattle.plain_laws.proofs.WriteBack.{entry}
 use Rattle.staged.specs.View.{Holds, heldBy}
 use Rattle.staged.proofs.Same.{recordsBy, records-in}

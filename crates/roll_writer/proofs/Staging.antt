@@ -8,7 +8,7 @@ use Rattle.eif.specs.Reading.{readImage}
 use Rattle.eif.specs.Roll.{flagsRecordSize, rollBytes}
 use Rattle.eif.specs.declared.Section.{Section}
 use Rattle.eif.specs.declared.Verdict.the-variants.{Accepted}
-use Rattle.eif_rules.proofs.Table.{All}
+use Rattle.eif_lemmas.proofs.Table.{All}
 use Rattle.staged.specs.Staged.{afresh, stagedVerdict}
 use Rattle.staged.specs.View.{Holds, heldBy, stagedView}
 use Rattle.staged.specs.declared.Staged.{Staged}
@@ -30,14 +30,14 @@ module _ (s r : List ℕ) (k : ℕ) (x : Staged) (is : x ≡ stagedView s (lengt
     stages : Stages s (length r) k k
     stages = staged→ s (length r) k k ok
 
-    sections-are : x .sections ≡ held.listed s r k k stages
+    sections-are : x .sections ≡ held.stagedList s r k k stages
     sections-are = view-sections s (length r) k k x is told
 
     pub holds : All (Holds (heldBy s r)) (x .sections)
     holds = rw sections-are (holds-all s r k k stages)
 
     pub bounded : sizeFor (x .sections) ≤ sizeBound
-    bounded = rw sections-are (size-bounded (held.listed s r k k stages) (listed-long s r k k stages) (small-all s r k k stages))
+    bounded = rw sections-are (size-bounded (held.stagedList s r k k stages) (listed-long s r k k stages) (small-all s r k k stages))
 
     -- the flags fit in two bytes
     module _ (h : x .flags < 2 ^ 16) where
@@ -46,7 +46,7 @@ module _ (s r : List ℕ) (k : ℕ) (x : Staged) (is : x ≡ stagedView s (lengt
           let f = view-flags s (length r) k k x is told in
           let g : readImage s .flags < 2 ^ 16 = rw (sym f) h in
           ap₂ (λ (n : ℕ) (l : List Section). sectionsRoll n (heldBy s r) l) f sections-are
-          ∙ sections-roll (heldBy s r) (readImage s .flags) (held.listed s r k k stages) (holds-all s r k k stages)
+          ∙ sections-roll (heldBy s r) (readImage s .flags) (held.stagedList s r k k stages) (holds-all s r k k stages)
           ∙ held.roll-is s r k k stages g
 
       pub length-is : (n : ℕ) → n ≡ sizeFor (x .sections) → flagsRecordSize + n ≡ length (rollBytes (afresh s r k))

@@ -12,15 +12,16 @@ use lib.Seq.{drop-cons}
 use Rattle.octets.specs.Over.{over}
 use Rattle.octets.proofs.Over.{over-append}
 use Rattle.eif.specs.Numbers.{sizeLimit, placeCount}
-use Rattle.eif.specs.Logic.{choose}
+use Rattle.octets.specs.Logic.{choose}
 use Rattle.eif.specs.Reading.{blankSection}
-use Rattle.eif.specs.Roll.{Record, recordHeadSize, flagsRecordSize, headOf, flagsRecord, endType, inRoll, rollOf}
+use Rattle.eif.specs.Rules.{bootType}
+use Rattle.eif.specs.Roll.{recordHeadSize, flagsRecordSize, headOf, flagsRecord, endType, rollOf}
 use Rattle.eif.specs.declared.Section.{Section}
-use Rattle.eif_rules.proofs.Table.{All, all-at}
-use Rattle.eif_rules.proofs.Flags.{length-flags}
+use Rattle.eif_lemmas.proofs.Table.{All, all-at}
+use Rattle.eif_lemmas.proofs.Flags.{length-flags}
 use Rattle.staged.specs.View.{Holds}
 use Rattle.staged.proofs.Same.{recordsBy}
-use Rattle.roll_writer.specs.Write.{partOf, partSize, rollFor, sizeFor, sizeBound, sectionsRoll}
+use Rattle.roll_writer.specs.Write.{rollPart, rollPartSize, rollFor, sizeFor, sizeBound, sectionsRoll}
 
 -- ---- one section
 
@@ -29,55 +30,55 @@ unfolding headOf
 length-head size kind = refl
 
 module _ (held : Section → List ℕ) (x : Section) (holds : Holds held x) where
-  pub length-part : length (partOf held x) ≡ partSize x
-  unfolding partOf partSize
-  length-part = by (inRoll (x .kind))
+  pub length-part : length (rollPart held x) ≡ rollPartSize x
+  unfolding rollPart rollPartSize
+  length-part = by (bootType (x .kind))
     where
       by : (b : Bool) → length (choose b (headOf (x .length .0) (x .kind) ++ held x) []) ≡ choose b (recordHeadSize + x .length .0) 0
       by true = simp (length-append, length-head, holds)
       by false = refl
 
-part-small : (x : Section) → x .length .0 ≤ sizeLimit → partSize x ≤ recordHeadSize + sizeLimit
-unfolding partSize
-part-small x h = by (inRoll (x .kind))
+part-small : (x : Section) → x .length .0 ≤ sizeLimit → rollPartSize x ≤ recordHeadSize + sizeLimit
+unfolding rollPartSize
+part-small x h = by (bootType (x .kind))
   where
     by : (b : Bool) → choose b (recordHeadSize + x .length .0) 0 ≤ recordHeadSize + sizeLimit
     by true = omega arith
     by false = omega arith
 
 module _ (x : Section) where
-  module _ (e : inRoll (x .kind) ≡ true) where
-    pub size-in : partSize x ≡ recordHeadSize + x .length .0
-    unfolding partSize
+  module _ (e : bootType (x .kind) ≡ true) where
+    pub size-in : rollPartSize x ≡ recordHeadSize + x .length .0
+    unfolding rollPartSize
     size-in = rw e
 
     -- its head and then its data
     pub part-over : (held : Section → List ℕ) (d : List ℕ) (at : ℕ)
-        → over (over d at (headOf (x .length .0) (x .kind))) (at + recordHeadSize) (held x) ≡ over d at (partOf held x)
-    unfolding partOf
+        → over (over d at (headOf (x .length .0) (x .kind))) (at + recordHeadSize) (held x) ≡ over d at (rollPart held x)
+    unfolding rollPart
     part-over held d at =
         let h = headOf (x .length .0) (x .kind) in
         let n = length-head (x .length .0) (x .kind) in
         rw e (ap (λ (m : ℕ). over (over d at h) (at + m) (held x)) (sym n) ∙ sym (over-append d at h (held x)))
 
-  module _ (e : inRoll (x .kind) ≡ false) where
-    pub size-out : partSize x ≡ 0
-    unfolding partSize
+  module _ (e : bootType (x .kind) ≡ false) where
+    pub size-out : rollPartSize x ≡ 0
+    unfolding rollPartSize
     size-out = rw e
 
-    pub part-none : (held : Section → List ℕ) (d : List ℕ) (at : ℕ) → d ≡ over d at (partOf held x)
-    unfolding partOf over
+    pub part-none : (held : Section → List ℕ) (d : List ℕ) (at : ℕ) → d ≡ over d at (rollPart held x)
+    unfolding rollPart over
     part-none held d at = rw e
 
 -- ---- the list from section i on
 
 module _ (l : List Section) (i : ℕ) (h : i < length l) where
-  pub size-step : sizeFor (drop i l) ≡ partSize (getD l i blankSection) + sizeFor (drop (suc i) l)
+  pub size-step : sizeFor (drop i l) ≡ rollPartSize (getD l i blankSection) + sizeFor (drop (suc i) l)
   unfolding sizeFor
   size-step = rw (drop-cons l i blankSection h)
 
   module _ (held : Section → List ℕ) where
-    roll-step : rollFor held (drop i l) ≡ partOf held (getD l i blankSection) ++ rollFor held (drop (suc i) l)
+    roll-step : rollFor held (drop i l) ≡ rollPart held (getD l i blankSection) ++ rollFor held (drop (suc i) l)
     unfolding rollFor
     roll-step = rw (drop-cons l i blankSection h)
 
@@ -87,10 +88,10 @@ module _ (l : List Section) (i : ℕ) (h : i < length l) where
 
       -- the record of section i written, and then the rest
       pub roll-over : (d : List ℕ) (at : ℕ)
-          → over (over d at (partOf held (getD l i blankSection))) (at + partSize (getD l i blankSection)) (rollFor held (drop (suc i) l))
+          → over (over d at (rollPart held (getD l i blankSection))) (at + rollPartSize (getD l i blankSection)) (rollFor held (drop (suc i) l))
           ≡ over d at (rollFor held (drop i l))
       roll-over d at =
-          let p = partOf held (getD l i blankSection) in
+          let p = rollPart held (getD l i blankSection) in
           let r = rollFor held (drop (suc i) l) in
           ap (λ (n : ℕ). over (over d at p) (at + n) r) (sym (length-part held (getD l i blankSection) holds-at))
           ∙ sym (over-append d at p r) ∙ ap (over d at) (sym roll-step)
@@ -121,7 +122,7 @@ module _ (held : Section → List ℕ) where
   unfolding rollFor sizeFor All
   length-roll [] a = length-head 0 endType
   length-roll (x ∷ xs) a =
-      length-append (partOf held x) (rollFor held xs) ∙ ap₂ (λ (m n : ℕ). m + n) (length-part held x (a .0)) (length-roll xs (a .1))
+      length-append (rollPart held x) (rollFor held xs) ∙ ap₂ (λ (m n : ℕ). m + n) (length-part held x (a .0)) (length-roll xs (a .1))
 
   records-at : (x : Section) (xs : List Section) (b : Bool) → Holds held x → rollFor held xs ≡ rollOf (recordsBy held xs)
       → choose b (headOf (x .length .0) (x .kind) ++ held x) [] ++ rollFor held xs
@@ -133,9 +134,9 @@ module _ (held : Section → List ℕ) where
       ∙ ap₂ (λ (n : ℕ) (l : List ℕ). headOf n (x .kind) ++ (held x ++ l)) (sym holds) e
 
   roll-records : (l : List Section) → All (Holds held) l → rollFor held l ≡ rollOf (recordsBy held l)
-  unfolding rollFor recordsBy partOf All rollOf
+  unfolding rollFor recordsBy rollPart All rollOf
   roll-records [] a = refl
-  roll-records (x ∷ xs) a = records-at x xs (inRoll (x .kind)) (a .0) (roll-records xs (a .1))
+  roll-records (x ∷ xs) a = records-at x xs (bootType (x .kind)) (a .0) (roll-records xs (a .1))
 
   module _ (flags : ℕ) (l : List Section) (a : All (Holds held) l) where
     -- with flags it is the roll of the sections' records

@@ -6,32 +6,33 @@ use mathlib.Core.List.{List, [], _∷_, _++_}
 use lib.Dec.{ltb}
 use lib.ListN.{length}
 use Rattle.eif.specs.Numbers.{sizeLimit, placeCount, outputTooShort}
-use Rattle.eif.specs.Logic.{choose}
+use Rattle.octets.specs.Logic.{choose}
 use Rattle.eif.specs.Answers.{refuse}
 use Rattle.eif.specs.Output.{outputFor}
 use Rattle.eif.specs.Plan.{writtenFor}
-use Rattle.eif.specs.Roll.{recordHeadSize, headOf, flagsRecord, endType, inRoll}
+use Rattle.eif.specs.Rules.{bootType}
+use Rattle.eif.specs.Roll.{recordHeadSize, headOf, flagsRecord, endType}
 use Rattle.eif.specs.declared.Section.{Section}
 use Rattle.eif.specs.declared.Verdict.{Verdict}
 use Rattle.eif.specs.declared.Verdict.the-variants.{Accepted}
 use Rattle.eif.specs.declared.Written.{Written}
 
 -- a section's record, or no bytes where a roll leaves its type out
-unfoldable pub partOf : (Section → List ℕ) → Section → List ℕ
-partOf held x = choose (inRoll (x .kind)) (headOf (x .length .0) (x .kind) ++ held x) []
+unfoldable pub rollPart : (Section → List ℕ) → Section → List ℕ
+rollPart held x = choose (bootType (x .kind)) (headOf (x .length .0) (x .kind) ++ held x) []
 
 -- how long that is where the data is as long as the section says
-unfoldable pub partSize : Section → ℕ
-partSize x = choose (inRoll (x .kind)) (recordHeadSize + x .length .0) 0
+unfoldable pub rollPartSize : Section → ℕ
+rollPartSize x = choose (bootType (x .kind)) (recordHeadSize + x .length .0) 0
 
 -- the records in file order, and the end record
 unfoldable pub rollFor : (Section → List ℕ) → List Section → List ℕ
 rollFor held [] = headOf 0 endType
-rollFor held (x ∷ xs) = partOf held x ++ rollFor held xs
+rollFor held (x ∷ xs) = rollPart held x ++ rollFor held xs
 
 unfoldable pub sizeFor : List Section → ℕ
 sizeFor [] = recordHeadSize
-sizeFor (x ∷ xs) = partSize x + sizeFor xs
+sizeFor (x ∷ xs) = rollPartSize x + sizeFor xs
 
 -- no more than that, for sections no longer than an image: so no sum of sizes wraps
 abbrev pub sizeBound : ℕ

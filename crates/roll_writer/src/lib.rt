@@ -7,11 +7,12 @@ ghost use mathlib.Core.Path.{_≡_};
 ghost use Prim.Native.Nat.{_+_, _≤_};
 ghost use lib.ListN.{length};
 ghost use Rattle.octets.specs.Over.{over};
-ghost use Rattle.eif.specs.Roll.{recordHeadSize, flagsRecordSize, headOf, flagsRecord, inRoll, rollAnswer, rollOutput, rollLength};
-ghost use Rattle.eif_rules.proofs.Table.{All};
+ghost use Rattle.eif.specs.Plan.{writtenFor};
+ghost use Rattle.eif.specs.Roll.{recordHeadSize, flagsRecordSize, headOf, flagsRecord, rollAnswer, rollOutput, rollLength};
+ghost use Rattle.eif_lemmas.proofs.Table.{All};
 ghost use Rattle.staged.specs.Staged.{stagedRollAnswer, stagedRollOutput, stagedRollLength};
 ghost use Rattle.staged.specs.View.{Holds, heldBy};
-ghost use Rattle.roll_writer.specs.Write.{partOf, partSize, rollFor, sizeFor, sizeBound, sectionsRoll, roomAnswer, roomOutput};
+ghost use Rattle.roll_writer.specs.Write.{rollPart, rollPartSize, rollFor, sizeFor, sizeBound, sectionsRoll, roomAnswer, roomOutput};
 use eif::FlagsRecord;
 use eif::PLACES;
 use eif::RecordHead;
@@ -21,22 +22,12 @@ use eif::SectionType;
 use eif::Verdict;
 use eif::Written;
 
-// Whether a roll holds sections of a type.
-fn in_roll(kind: u16) -> bool
-    ensures { λ r. ⌜ r ≡ inRoll kind ⌝ }
-{
-    if kind < SectionType::KERNEL {
-        return false;
-    }
-    kind <= SectionType::RAMDISK
-}
-
 // How long the record of a section is: 0 where a roll leaves it out.
 fn record_size(x: Section) -> usize
-    requires { ⌜ partSize x ≤ sizeBound ⌝ }
-    ensures { λ r. ⌜ r ≡ partSize x ⌝ }
+    requires { ⌜ rollPartSize x ≤ sizeBound ⌝ }
+    ensures { λ r. ⌜ r ≡ rollPartSize x ⌝ }
 {
-    if in_roll(x.kind) {
+    if SectionType::is_boot(x.kind) {
         let count = x.length.0 as usize;
         RecordHead::SIZE + count
     } else {
@@ -84,11 +75,11 @@ fn put_record<'a>(
     replacement: &'a [u8],
     x: Section,
 ) -> usize
-    requires { ⌜ (at + partSize x ≤ length (now out)) × Holds (heldBy (now base) (now replacement)) x ⌝ }
-    ensures { λ r. ⌜ r ≡ at + partSize x ⌝ }
-    ensures { λ _. ⌜ now (out .exit) ≡ over (now (out .entry)) at (partOf (heldBy (now (base .entry)) (now (replacement .entry))) x) ⌝ }
+    requires { ⌜ (at + rollPartSize x ≤ length (now out)) × Holds (heldBy (now base) (now replacement)) x ⌝ }
+    ensures { λ r. ⌜ r ≡ at + rollPartSize x ⌝ }
+    ensures { λ _. ⌜ now (out .exit) ≡ over (now (out .entry)) at (rollPart (heldBy (now (base .entry)) (now (replacement .entry))) x) ⌝ }
 {
-    if in_roll(x.kind) {
+    if SectionType::is_boot(x.kind) {
         let count = x.length.0 as usize;
         put_head(out, at, x.length.0, x.kind);
         octets::copy(
@@ -114,8 +105,7 @@ fn put_roll<'a>(out: &mut [u8], base: &'a [u8], replacement: &'a [u8], sections:
         at = put_record(out, at, base, replacement, sections[i]);
         i += 1;
     }
-    // the end record
-    put_head(out, at, 0, 0);
+    put_head(out, at, 0, RecordHead::END_TYPE);
 }
 
 // The roll of flags and sections: 14 where it is longer than `out`, or its length.
@@ -146,6 +136,18 @@ fn write_sections<'a>(
     }
 }
 
+// How long that roll is.
+fn length_of(sections: [Section; PLACES]) -> Written
+    requires { ⌜ sizeFor sections ≤ sizeBound ⌝ }
+    ensures { λ r. ⌜ r ≡ writtenFor Verdict.Accepted (flagsRecordSize + sizeFor sections) ⌝ }
+{
+    let whole = FlagsRecord::SIZE + roll_size(sections);
+    Written {
+        verdict: Verdict::Accepted,
+        length: whole as u64,
+    }
+}
+
 // ---- the roll of an image
 
 // The answer is the image's refusal, or 14 where the roll is longer than `out`, or the roll's length.
@@ -172,11 +174,7 @@ pub fn length(image: &[u8]) -> Written
     let Verdict::Accepted = verdict else {
         return Written { verdict, length: 0 };
     };
-    let whole = FlagsRecord::SIZE + roll_size(sections);
-    Written {
-        verdict,
-        length: whole as u64,
-    }
+    length_of(sections)
 }
 
 // ---- the roll of the image written afresh with a replacement for one section, from where the data lies
@@ -210,9 +208,5 @@ pub fn length_staged(base: &[u8], replacement: &[u8], replaced: u64) -> Written
     let Verdict::Accepted = verdict else {
         return Written { verdict, length: 0 };
     };
-    let whole = FlagsRecord::SIZE + roll_size(sections);
-    Written {
-        verdict,
-        length: whole as u64,
-    }
+    length_of(sections)
 }

@@ -14,7 +14,7 @@ use Rattle.eif.specs.Numbers.{messageTooLong}
 use Rattle.eif.specs.Answers.{refuse}
 use Rattle.eif.specs.declared.Verdict.{Verdict}
 use Rattle.eif.specs.declared.Verdict.the-variants.{Accepted}
-use Rattle.sha384.specs.State.{takeBytes, fillingOf, fed, totalLimit, updated}
+use Rattle.sha384.specs.State.{takeBytes, fillingOf, absorbed, totalLimit, updated}
 use Rattle.sha384.specs.declared.Filling.{Filling}
 use Rattle.sha384.specs.declared.State.{State}
 use Rattle.sha384.specs.declared.Updated.{Updated}
@@ -37,5 +37,5 @@ module _ (st : State) (s : List ℕ) where
 
   pub piece-taken : ltb totalLimit (st .total + length s) ≡ false → {m : Filling} → m ≡ takeBytes (fillingOf st) s
       → with Accepted (record { words = m .words; block = m .block; total = st .total + length s }) ≡ updated st s
-  unfolding updated fed
+  unfolding updated absorbed
   piece-taken h e = simp h (ap (λ (x : Filling). with Accepted (record { words = x .words; block = x .block; total = st .total + length s })) e)

@@ -6,7 +6,7 @@ use mathlib.Core.List.{List, [], _∷_, _++_}
 use lib.Dec.{ltb, eqb}
 use lib.ListN.{length, drop, set, replicate}
 use Rattle.eif.specs.Numbers.{messageTooLong}
-use Rattle.eif.specs.Logic.{choose}
+use Rattle.octets.specs.Logic.{choose}
 use Rattle.eif.specs.Answers.{refuse}
 use Rattle.eif.specs.declared.Verdict.the-variants.{Accepted}
 use Rattle.sha384_block.specs.Fips.{compress, padding, initialHash, hashBlocks, digestOf}
@@ -37,15 +37,15 @@ takeBytes m (b ∷ bs) = takeBytes (takeByte m b) bs
 
 -- ---- states
 
-unfoldable pub fresh : State
-fresh = record { words = initialHash; block = noBytes; total = 0 }
+unfoldable pub initialState : State
+initialState = record { words = initialHash; block = noBytes; total = 0 }
 
 abbrev pub fillingOf : State → Filling
 fillingOf st = record { words = st .words; block = st .block; used = st .total % 128 }
 
 -- the state after bytes
-unfoldable pub fed : State → List ℕ → State
-fed st s =
+unfoldable pub absorbed : State → List ℕ → State
+absorbed st s =
     let m = takeBytes (fillingOf st) s in
     record { words = m .words; block = m .block; total = st .total + length s }
 
@@ -58,16 +58,16 @@ unfoldable pub updated : State → List ℕ → Updated
 updated st s =
     choose (ltb totalLimit (st .total + length s))
     (record { verdict = refuse messageTooLong 0; state = st })
-    (record { verdict = Accepted; state = fed st s })
+    (record { verdict = Accepted; state = absorbed st s })
 
 -- the digest that a state stands for: the padding is taken as bytes like any others, and ends a block
-unfoldable pub finished : State → List ℕ
-finished st = digestOf (takeBytes (fillingOf st) (padding (st .total)) .words)
+unfoldable pub digestFrom : State → List ℕ
+digestFrom st = digestOf (takeBytes (fillingOf st) (padding (st .total)) .words)
 
 -- ---- what the state has to be after given bytes, from the standard: whole blocks are in the hash value, and the rest waits
 
-unfoldable pub stateOf : List ℕ → State
-stateOf s =
+unfoldable pub stateAfter : List ℕ → State
+stateAfter s =
     let n = length s in
     record {
       words = hashBlocks (n / 128) initialHash s;

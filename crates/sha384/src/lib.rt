@@ -8,7 +8,7 @@ ghost use Prim.Native.Nat.{_+_, _<_, _≤_, min};
 ghost use lib.Dec.{ltb};
 ghost use lib.ListN.{length, take};
 ghost use Rattle.sha384_block.specs.Fips.{roundConstants, digestOf, padding, zerosFor};
-ghost use Rattle.sha384.specs.State.{noBytes, takeBytes, fresh, totalLimit, updated, finished};
+ghost use Rattle.sha384.specs.State.{noBytes, takeBytes, initialState, totalLimit, updated, digestFrom};
 use eif::Refusal;
 use eif::Verdict;
 
@@ -110,7 +110,7 @@ fn take_bytes(from: Filling, s: &[u8]) -> Filling
 
 // The state before the first byte.
 pub fn new() -> State
-    ensures { λ r. ⌜ r ≡ fresh ⌝ }
+    ensures { λ r. ⌜ r ≡ initialState ⌝ }
 {
     let words = sha384_block::initial();
     let block = no_bytes();
@@ -201,7 +201,7 @@ fn padding_of(total: u64, zeros: usize) -> [u8; 144]
 
 // The digest of all bytes that were taken in.
 pub fn finish(state: State) -> [u8; 48]
-    ensures { λ r. ⌜ r ≡ finished state ⌝ }
+    ensures { λ r. ⌜ r ≡ digestFrom state ⌝ }
 {
     let total = state.total;
     let words = state.words;

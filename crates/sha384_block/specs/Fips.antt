@@ -151,14 +151,14 @@ varsOf x =
     }
 
 -- the next hash value: the variables added to the one before
-abbrev pub added : List ℕ → Vars → List ℕ
-added x v =
+abbrev pub nextHash : List ℕ → Vars → List ℕ
+nextHash x v =
     (v .a + getD x 0 0) % 2 ^ 64 ∷ (v .b + getD x 1 0) % 2 ^ 64 ∷ (v .c + getD x 2 0) % 2 ^ 64 ∷ (v .d + getD x 3 0) % 2 ^ 64
     ∷ (v .e + getD x 4 0) % 2 ^ 64 ∷ (v .f + getD x 5 0) % 2 ^ 64 ∷ (v .g + getD x 6 0) % 2 ^ 64 ∷ (v .h + getD x 7 0) % 2 ^ 64 ∷ []
 
 -- the hash value after a block of 128 bytes, by given round constants, and by the standard's
 unfoldable pub compressBy : List ℕ → List ℕ → List ℕ → List ℕ
-compressBy ks x block = added x (rounds 80 0 ks (schedule block) (varsOf x))
+compressBy ks x block = nextHash x (rounds 80 0 ks (schedule block) (varsOf x))
 
 abbrev pub compress : List ℕ → List ℕ → List ℕ
 compress x block = compressBy roundConstants x block
@@ -171,13 +171,13 @@ hashBlocks zero x s = x
 hashBlocks (suc n) x s = hashBlocks n (compress x (take 128 s)) (drop 128 s)
 
 -- words as bytes
-unfoldable pub bytesOf : List ℕ → List ℕ
-bytesOf [] = []
-bytesOf (w ∷ ws) = beBytes 8 w ++ bytesOf ws
+unfoldable pub wordBytes : List ℕ → List ℕ
+wordBytes [] = []
+wordBytes (w ∷ ws) = beBytes 8 w ++ wordBytes ws
 
 -- the first 384 bits of a hash value
 unfoldable pub digestOf : List ℕ → List ℕ
-digestOf x = take 48 (bytesOf x)
+digestOf x = take 48 (wordBytes x)
 
 unfoldable pub sha384 : List ℕ → List ℕ
 sha384 s =

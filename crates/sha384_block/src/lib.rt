@@ -3,7 +3,7 @@ ghost use mathlib.Core.Path.{_≡_};
 ghost use Prim.Native.Nat.{_+_, _*_, _%_, _^_, _≤_};
 ghost use lib.ListN.{take};
 ghost use Rattle.octets.specs.Bytes.{field};
-ghost use Rattle.sha384_block.specs.Fips.{ch, maj, bigSigma0, bigSigma1, smallSigma0, smallSigma1, roundConstants, initialHash, wordsFrom, extend, round, rounds, varsOf, added, compressBy};
+ghost use Rattle.sha384_block.specs.Fips.{ch, maj, bigSigma0, bigSigma1, smallSigma0, smallSigma1, roundConstants, initialHash, wordsFrom, extend, round, rounds, varsOf, nextHash, compressBy};
 use std::num::wrapping_add_u64;
 
 // The hash value before the first block (FIPS 180-4, section 5.3.4).
@@ -217,43 +217,6 @@ fn next_word(two: u64, seven: u64, fifteen: u64, sixteen: u64) -> u64
     sum4(small_sigma1(two), seven, small_sigma0(fifteen), sixteen)
 }
 
-fn wide(b: u8) -> u64
-    ensures { λ r. ⌜ r ≡ b ⌝ }
-{
-    b as u64
-}
-
-// Eight bytes as a word, with no loop, so that it is one load.
-fn word_of(a: u8, b: u8, c: u8, d: u8, e: u8, f: u8, g: u8, h: u8) -> u64
-    ensures { λ r. ⌜ r ≡ ((((((a * 256 + b) * 256 + c) * 256 + d) * 256 + e) * 256 + f) * 256 + g) * 256 + h ⌝ }
-{
-    ((((((wide(a) * 256 + wide(b)) * 256 + wide(c)) * 256 + wide(d)) * 256 + wide(e)) * 256
-        + wide(f))
-        * 256
-        + wide(g))
-        * 256
-        + wide(h)
-}
-
-fn word_at(s: &[u8], at: usize) -> u64
-    requires { ⌜ at ≤ 120 ⌝ }
-    ensures { λ r. ⌜ r ≡ field 8 at (now (s .entry)) ⌝ }
-{
-    if s.len() < at + 8 {
-        return octets::be64(s, at);
-    }
-    word_of(
-        s[at],
-        s[at + 1],
-        s[at + 2],
-        s[at + 3],
-        s[at + 4],
-        s[at + 5],
-        s[at + 6],
-        s[at + 7],
-    )
-}
-
 // The sixteen words of a block, in an array with room for the rest of the schedule.
 fn own_words(block: &[u8]) -> [u64; 80]
     ensures { λ r. ⌜ take 16 r ≡ wordsFrom 16 0 (now (block .entry)) ⌝ }
@@ -261,7 +224,7 @@ fn own_words(block: &[u8]) -> [u64; 80]
     let mut w = [0u64; 80];
     let mut t: usize = 0;
     while t < 16 {
-        w[t] = word_at(block, 8 * t);
+        w[t] = octets::be64(block, 8 * t);
         t += 1;
     }
     w
@@ -307,7 +270,7 @@ fn vars_of(words: [u64; 8]) -> Vars
 }
 
 fn plus(v: Vars, words: [u64; 8]) -> [u64; 8]
-    ensures { λ r. ⌜ r ≡ added words v ⌝ }
+    ensures { λ r. ⌜ r ≡ nextHash words v ⌝ }
 {
     [
         wrapping_add_u64(v.a, words[0]),

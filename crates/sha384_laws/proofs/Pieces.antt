@@ -15,10 +15,10 @@ use Rattle.eif.specs.Numbers.{messageTooLong}
 use Rattle.eif.specs.Answers.{refuse, numberOf}
 use Rattle.eif.specs.declared.Verdict.the-variants.{Accepted}
 use Rattle.sha384_block.specs.Fips.{sha384}
-use Rattle.sha384.specs.State.{fresh, fed, finished, stateOf, updated, totalLimit}
+use Rattle.sha384.specs.State.{initialState, absorbed, digestFrom, stateAfter, updated, totalLimit}
 use Rattle.sha384.specs.declared.State.{State}
 use Rattle.sha384.specs.declared.Updated.{Updated}
-use Rattle.sha384_laws.specs.Pieces.{afterAll, joined, taken}
+use Rattle.sha384_laws.specs.Pieces.{afterAll, piecesJoined, taken}
 use Rattle.sha384_laws.proofs.Fed.{total-fed, total-stateOf, fed-append, fed-nothing, fresh-fed, fresh-finished}
 
 -- ---- one piece
@@ -28,7 +28,7 @@ module _ (st : State) (s : List ℕ) where
   unfolding updated
   past-limit h = simp (lt-ltb _ _ h)
 
-  pub within-limit : st .total + length s ≤ totalLimit → updated st s ≡ record { verdict = Accepted; state = fed st s }
+  pub within-limit : st .total + length s ≤ totalLimit → updated st s ≡ record { verdict = Accepted; state = absorbed st s }
   unfolding updated
   within-limit h = simp (le-ltb _ _ h)
 
@@ -46,39 +46,39 @@ module _ (st : State) (s : List ℕ) where
 
 -- ---- all pieces
 
-pub after-is : (st : State) (ps : List (List ℕ)) → afterAll st ps ≡ fed st (taken (st .total) ps)
+pub after-is : (st : State) (ps : List (List ℕ)) → afterAll st ps ≡ absorbed st (taken (st .total) ps)
 unfolding afterAll taken
 after-is st [] = sym (fed-nothing st)
 after-is st (p ∷ ps) =
     ⊎-elim
     (λ h.
-    ap (λ (u : Updated). afterAll (u .state) ps) (within-limit st p h) ∙ after-is (fed st p) ps ∙ ap (λ (k : ℕ). fed (fed st p) (taken k ps)) (total-fed st p)
+    ap (λ (u : Updated). afterAll (u .state) ps) (within-limit st p h) ∙ after-is (absorbed st p) ps ∙ ap (λ (k : ℕ). absorbed (absorbed st p) (taken k ps)) (total-fed st p)
     ∙ fed-append st p (taken (st .total + length p) ps) ∙ sym (simp (le-ltb _ _ h)))
     (λ h.
     ap (λ (u : Updated). afterAll (u .state) ps) (past-limit st p h) ∙ after-is st ps ∙ sym (simp (lt-ltb _ _ h)))
     (le-or-lt (st .total + length p) totalLimit)
 
 -- from the fresh state, after any pieces: the state and the digest of the bytes that were taken
-pub pieces-state : (ps : List (List ℕ)) → afterAll fresh ps ≡ stateOf (taken 0 ps)
-unfolding fresh
-pieces-state ps = after-is fresh ps ∙ fresh-fed (taken 0 ps)
+pub pieces-state : (ps : List (List ℕ)) → afterAll initialState ps ≡ stateAfter (taken 0 ps)
+unfolding initialState
+pieces-state ps = after-is initialState ps ∙ fresh-fed (taken 0 ps)
 
-pub pieces-digest : (ps : List (List ℕ)) → finished (afterAll fresh ps) ≡ sha384 (taken 0 ps)
-pieces-digest ps = ap finished (pieces-state ps) ∙ fresh-finished (taken 0 ps)
+pub pieces-digest : (ps : List (List ℕ)) → digestFrom (afterAll initialState ps) ≡ sha384 (taken 0 ps)
+pieces-digest ps = ap digestFrom (pieces-state ps) ∙ fresh-finished (taken 0 ps)
 
 -- and where all of them are within the limit, that is all of them
-pub all-taken : (total : ℕ) (ps : List (List ℕ)) → total + length (joined ps) ≤ totalLimit → taken total ps ≡ joined ps
-unfolding taken joined
+pub all-taken : (total : ℕ) (ps : List (List ℕ)) → total + length (piecesJoined ps) ≤ totalLimit → taken total ps ≡ piecesJoined ps
+unfolding taken piecesJoined
 all-taken total [] h = refl
 all-taken total (p ∷ ps) h =
-    let n = length-append p (joined ps) in
+    let n = length-append p (piecesJoined ps) in
     let g : total + length p ≤ totalLimit = omega arith in
     simp (le-ltb _ _ g) (ap (λ (l : List ℕ). p ++ l) (all-taken (total + length p) ps (omega arith)))
 
-pub joined-state : (ps : List (List ℕ)) → length (joined ps) ≤ totalLimit → afterAll fresh ps ≡ stateOf (joined ps)
-joined-state ps h = pieces-state ps ∙ ap stateOf (all-taken 0 ps (omega arith))
+pub joined-state : (ps : List (List ℕ)) → length (piecesJoined ps) ≤ totalLimit → afterAll initialState ps ≡ stateAfter (piecesJoined ps)
+joined-state ps h = pieces-state ps ∙ ap stateAfter (all-taken 0 ps (omega arith))
 
-pub joined-digest : (ps : List (List ℕ)) → length (joined ps) ≤ totalLimit → finished (afterAll fresh ps) ≡ sha384 (joined ps)
+pub joined-digest : (ps : List (List ℕ)) → length (piecesJoined ps) ≤ totalLimit → digestFrom (afterAll initialState ps) ≡ sha384 (piecesJoined ps)
 joined-digest ps h = pieces-digest ps ∙ ap sha384 (all-taken 0 ps (omega arith))
 
 -- ---- one piece more, after any pieces from the fresh state
@@ -94,32 +94,32 @@ taken-short total (p ∷ ps) h =
     (λ (g : totalLimit < total + length p). simp (lt-ltb _ _ g) (taken-short total ps h))
     (le-or-lt (total + length p) totalLimit)
 
-total-after : (ps : List (List ℕ)) → afterAll fresh ps .total ≡ length (taken 0 ps)
+total-after : (ps : List (List ℕ)) → afterAll initialState ps .total ≡ length (taken 0 ps)
 total-after ps = ap (λ (st : State). st .total) (pieces-state ps) ∙ total-stateOf (taken 0 ps)
 
 module _ (ps : List (List ℕ)) (p : List ℕ) where
   -- within the limit it is taken, and the state is the one for the bytes before it and its own
   pub next-taken : length (taken 0 ps) + length p ≤ totalLimit
-      → updated (afterAll fresh ps) p ≡ record { verdict = Accepted; state = stateOf (taken 0 ps ++ p) }
+      → updated (afterAll initialState ps) p ≡ record { verdict = Accepted; state = stateAfter (taken 0 ps ++ p) }
   next-taken h =
       let t = total-after ps in
-      within-limit (afterAll fresh ps) p (omega arith)
-      ∙ ap (λ (st : State). with st) (ap (λ (st : State). fed st p) (pieces-state ps ∙ sym (fresh-fed (taken 0 ps))) ∙ fed-append fresh (taken 0 ps) p ∙ fresh-fed (taken 0 ps ++ p))
+      within-limit (afterAll initialState ps) p (omega arith)
+      ∙ ap (λ (st : State). with st) (ap (λ (st : State). absorbed st p) (pieces-state ps ∙ sym (fresh-fed (taken 0 ps))) ∙ fed-append initialState (taken 0 ps) p ∙ fresh-fed (taken 0 ps ++ p))
     where
       with : State → Updated
       with st = record { verdict = Accepted; state = st }
 
   -- past it, it is refused, and the state is as it was
   pub next-refused : totalLimit < length (taken 0 ps) + length p
-      → updated (afterAll fresh ps) p ≡ record { verdict = refuse messageTooLong 0; state = afterAll fresh ps }
-  next-refused h = let t = total-after ps in past-limit (afterAll fresh ps) p (omega arith)
+      → updated (afterAll initialState ps) p ≡ record { verdict = refuse messageTooLong 0; state = afterAll initialState ps }
+  next-refused h = let t = total-after ps in past-limit (afterAll initialState ps) p (omega arith)
 
 -- a piece of no bytes is never refused, and changes nothing
-pub empty-taken : (ps : List (List ℕ)) → updated (afterAll fresh ps) [] ≡ record { verdict = Accepted; state = afterAll fresh ps }
+pub empty-taken : (ps : List (List ℕ)) → updated (afterAll initialState ps) [] ≡ record { verdict = Accepted; state = afterAll initialState ps }
 empty-taken ps =
     let t = total-after ps in
     let h = taken-short 0 ps (omega arith) in
-    within-limit (afterAll fresh ps) [] (omega arith) ∙ ap (λ (st : State). with st) (fed-nothing (afterAll fresh ps))
+    within-limit (afterAll initialState ps) [] (omega arith) ∙ ap (λ (st : State). with st) (fed-nothing (afterAll initialState ps))
   where
     with : State → Updated
     with st = record { verdict = Accepted; state = st }

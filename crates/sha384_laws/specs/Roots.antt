@@ -4,7 +4,7 @@ use Prim.Native.Nat.{ℕ, zero, suc, _+_, _*_, _%_, _^_}
 use mathlib.Core.Bool.{Bool, true, false}
 use mathlib.Core.List.{List, [], _∷_}
 use lib.Dec.{ltb, leb, eqb}
-use Rattle.eif.specs.Logic.{both, either, choose}
+use Rattle.octets.specs.Logic.{both, either, choose}
 
 -- whether n has a divisor from 2 up to d + 1
 unfoldable pub dividedUpTo : ℕ → ℕ → Bool

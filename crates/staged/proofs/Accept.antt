@@ -7,7 +7,7 @@ use mathlib.Core.List.{List}
 use native.Mathlib.Omega.{arith}
 use borrow.Author.Tests.{leb-false, ltb-false, lt-leb, le-ltb}
 use Rattle.eif.specs.Numbers.{sizeLimit}
-use Rattle.eif.specs.Logic.{choose}
+use Rattle.octets.specs.Logic.{choose}
 use Rattle.eif.specs.Layout.{countOf}
 use Rattle.eif.specs.Reading.{verdictOf, readImage}
 use Rattle.eif.specs.Plan.{plainSize}
@@ -16,9 +16,9 @@ use Rattle.eif.specs.declared.Reading.{Reading}
 use Rattle.eif.specs.declared.Refusal.{Refusal}
 use Rattle.eif.specs.declared.Verdict.{Verdict}
 use Rattle.eif.specs.declared.Verdict.the-variants.{Accepted, Refused}
-use Rattle.eif_rules.proofs.Logic.{either-false}
-use Rattle.eif_rules.proofs.Reading.{reading-accepted}
-use Rattle.eif_rules.proofs.Verdicts.{never, then-accepted}
+use Rattle.eif_lemmas.proofs.Logic.{either-false}
+use Rattle.eif_lemmas.proofs.Reading.{reading-accepted}
+use Rattle.eif_lemmas.proofs.Verdicts.{never, then-accepted}
 
 unless-refused : (r : Refusal) (v : Verdict) (b : Bool) → choose b (Refused r) v ≡ Accepted → (b ≡ false) × (v ≡ Accepted)
 unless-refused r v true e = never r e

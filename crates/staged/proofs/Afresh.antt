@@ -10,7 +10,7 @@ use lib.Dec.{eqb}
 use lib.ListN.{length, take, drop, getD, set, length-map}
 use lib.Seq.{getD-set-same, getD-set-other}
 use Rattle.eif.specs.Numbers.{sizeLimit, placeCount}
-use Rattle.eif.specs.Logic.{choose}
+use Rattle.octets.specs.Logic.{choose}
 use Rattle.eif.specs.Rules.{allowedIn, orderFault}
 use Rattle.eif.specs.Layout.{versionOf, countOf, kindAt, sizeAt, sectionHeaderSize}
 use Rattle.eif.specs.Reading.{verdictOf, blankSection, sectionAt, sectionsOf, dataOf}
@@ -21,10 +21,10 @@ use Rattle.eif.specs.declared.Plan.{Plan}
 use Rattle.eif.specs.declared.Section.{Section}
 use Rattle.eif.specs.declared.Reading.{Reading}
 use Rattle.eif.specs.declared.Verdict.the-variants.{Accepted}
-use Rattle.eif_rules.proofs.Logic.{equal-or-not}
-use Rattle.eif_rules.proofs.Reading.{reading-accepted}
-use Rattle.eif_rules.proofs.Table.{length-filled, filled-at}
-use Rattle.eif_rules.proofs.Types.{order-same, missing-same}
+use Rattle.eif_lemmas.proofs.Logic.{equal-or-not}
+use Rattle.eif_lemmas.proofs.Reading.{reading-accepted}
+use Rattle.eif_lemmas.proofs.Table.{length-filled, filled-at}
+use Rattle.eif_lemmas.proofs.Types.{order-same, missing-same}
 use Rattle.plain_laws.proofs.PlanRules.{Planned}
 use Rattle.plain_laws.proofs.Joined.{join-same, piece-is, length-joined}
 use Rattle.plain_laws.proofs.Written.{read-kind, read-count, read-offset, read-size, read-data}

@@ -13,7 +13,7 @@ use lib.ListN.{length, getD, set, take, drop, drop-of-length-le}
 use lib.Seq.{take-length, drop-nil}
 use Rattle.octets.proofs.Over.{le-or-lt}
 use Rattle.eif.specs.Numbers.{placeCount, sizeLimit}
-use Rattle.eif.specs.Logic.{choose}
+use Rattle.octets.specs.Logic.{choose}
 use Rattle.eif.specs.Table.{filled}
 use Rattle.eif.specs.Layout.{headerFlagsOf, countOf, kindAt}
 use Rattle.eif.specs.Reading.{verdictOf, blankSection, sectionAt, sectionsOf, readImage, dataOf}
@@ -24,10 +24,10 @@ use Rattle.eif.specs.declared.Reading.{Reading}
 use Rattle.eif.specs.declared.Section.{Section}
 use Rattle.eif.specs.declared.Stream.{Stream}
 use Rattle.eif.specs.declared.Verdict.the-variants.{Accepted}
-use Rattle.eif_rules.proofs.Logic.{equal-or-not}
-use Rattle.eif_rules.proofs.Reading.{reading-accepted}
-use Rattle.eif_rules.proofs.Table.{All, all-filled, filled-at, length-filled}
-use Rattle.eif_rules.proofs.Accept.{length-data}
+use Rattle.eif_lemmas.proofs.Logic.{equal-or-not}
+use Rattle.eif_lemmas.proofs.Reading.{reading-accepted}
+use Rattle.eif_lemmas.proofs.Table.{All, all-filled, filled-at, length-filled}
+use Rattle.eif_lemmas.proofs.Accept.{length-data}
 use Rattle.plain_laws.proofs.Written.{size-small, read-flags}
 use Rattle.plain_laws.proofs.WriteBack.{piece, head, entry}
 use Rattle.staged.specs.Staged.{stagedPlan, afresh}
@@ -129,8 +129,8 @@ module _ (s r : List ℕ) (k j : ℕ) (a : Stages s (length r) k j) where
   abbrev image : List ℕ
   image = plainImage (changedPlan s r k ok (length r)) (parts s r k ok)
 
-  abbrev pub listed : List Section
-  listed = stagedSections (readImage s .sections) k (length s) (length r)
+  abbrev pub stagedList : List Section
+  stagedList = stagedSections (readImage s .sections) k (length s) (length r)
 
   same-kinds : (i : ℕ) → i < countOf s → stagedAt s r k i .kind ≡ sectionAt image i .kind
   same-kinds i h = kind-is s r k ok i ∙ sym (fresh-kind s r k ok (a .replaced) within i h)
@@ -141,7 +141,7 @@ module _ (s r : List ℕ) (k j : ℕ) (a : Stages s (length r) k j) where
   fresh-sections : filled (sectionAt image) blankSection placeCount (countOf s) ≡ sectionsOf image
   fresh-sections = ap (filled (sectionAt image) blankSection placeCount) (sym (fresh-count s r k ok (a .replaced) within))
 
-  pub records-are : recordsBy (heldBy s r) listed ≡ recordsOf (afresh s r k)
+  pub records-are : recordsBy (heldBy s r) stagedList ≡ recordsOf (afresh s r k)
   records-are =
       ap (recordsBy (heldBy s r)) (sections-are s r k ok (a .replaced))
       ∙ same-records (heldBy s r) (dataOf image) placeCount (countOf s) (stagedAt s r k) (sectionAt image) same-kinds same-bytes
@@ -149,7 +149,7 @@ module _ (s r : List ℕ) (k j : ℕ) (a : Stages s (length r) k j) where
       ∙ records-in image (sectionsOf image)
       ∙ ap recordsOf (sym (afresh-is s r k ok))
 
-  pub stream-is : (stream : Stream) → joinedBy (heldBy s r) (streamSections stream listed) ≡ streamOf (afresh s r k) stream
+  pub stream-is : (stream : Stream) → joinedBy (heldBy s r) (streamSections stream stagedList) ≡ streamOf (afresh s r k) stream
   unfolding streamOf
   stream-is stream =
       ap (λ (l : List Section). joinedBy (heldBy s r) (streamSections stream l)) (sections-are s r k ok (a .replaced))
@@ -179,17 +179,17 @@ module _ (s r : List ℕ) (k j : ℕ) (a : Stages s (length r) k j) where
   blank-holds : Holds (heldBy s r) blankSection
   blank-holds = ap length (held-inside s r blankSection (omega arith))
 
-  pub holds-all : All (Holds (heldBy s r)) listed
+  pub holds-all : All (Holds (heldBy s r)) stagedList
   holds-all =
       rw (sections-are s r k ok (a .replaced))
       (all-filled (Holds (heldBy s r)) (stagedAt s r k) blankSection placeCount (countOf s) blank-holds holds-at)
 
-  pub small-all : All (λ (x : Section). x .length .0 ≤ sizeLimit) listed
+  pub small-all : All (λ (x : Section). x .length .0 ≤ sizeLimit) stagedList
   small-all =
       rw (sections-are s r k ok (a .replaced))
       (all-filled (λ (x : Section). x .length .0 ≤ sizeLimit) (stagedAt s r k) blankSection placeCount (countOf s) (omega arith) small-at)
 
-  pub listed-long : length listed ≡ placeCount
+  pub listed-long : length stagedList ≡ placeCount
   listed-long = ap length (sections-are s r k ok (a .replaced)) ∙ length-filled (stagedAt s r k) blankSection placeCount (countOf s)
 
   -- the flags of the image written afresh are the base's, which fit in two bytes
@@ -201,6 +201,6 @@ module _ (s r : List ℕ) (k j : ℕ) (a : Stages s (length r) k j) where
       ∙ read-flags (changedPlan s r k ok (length r)) (parts s r k ok) (changed-planned s r k ok (a .replaced) within) g ∙ sym e
 
   -- the roll of the image written afresh
-  pub roll-is : readImage s .flags < 2 ^ 16 → flagsRecord (readImage s .flags) ++ rollOf (recordsBy (heldBy s r) listed) ≡ rollBytes (afresh s r k)
+  pub roll-is : readImage s .flags < 2 ^ 16 → flagsRecord (readImage s .flags) ++ rollOf (recordsBy (heldBy s r) stagedList) ≡ rollBytes (afresh s r k)
   unfolding rollBytes
   roll-is h = ap₂ (λ (f : ℕ) (l : List Record). flagsRecord f ++ rollOf l) (sym (flags-are h)) records-are

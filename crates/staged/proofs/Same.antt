@@ -8,15 +8,16 @@ use mathlib.Core.List.{List, [], _∷_, _++_}
 use native.Mathlib.Omega.{arith}
 use lib.Dec.{eqb, eqb·zero-suc, eqb·suc-zero, eqb·suc-suc}
 use lib.ListN.{replicate, set}
-use Rattle.eif.specs.Logic.{choose}
+use Rattle.octets.specs.Logic.{choose}
 use Rattle.eif.specs.Table.{filled}
 use Rattle.eif.specs.Reading.{ramdiskIn, blankSection, dataOf}
-use Rattle.eif.specs.Roll.{Record, inRoll, recordFor, recordsIn}
-use Rattle.eif.specs.Stream.{keeps, kept, sectionKind, streamSections, joined}
+use Rattle.eif.specs.Rules.{bootType}
+use Rattle.eif.specs.Roll.{Record, recordFor, recordsIn}
+use Rattle.eif.specs.Stream.{keeps, kept, sectionKind, streamSections, sectionsData}
 use Rattle.eif.specs.declared.Section.{Section}
 use Rattle.eif.specs.declared.Stream.{Stream}
 use Rattle.eif.specs.declared.Stream.the-variants.{Whole, Boot, App}
-use Rattle.eif_rules.proofs.Table.{filled-same}
+use Rattle.eif_lemmas.proofs.Table.{filled-same}
 
 -- ---- records
 
@@ -24,13 +25,13 @@ unfoldable pub recordsBy : (Section → List ℕ) → List Section → List Reco
 recordsBy held [] = []
 recordsBy held (x ∷ xs) =
     let rest = recordsBy held xs in
-    choose (inRoll (x .kind)) (record { kind = x .kind; bytes = held x } ∷ rest) rest
+    choose (bootType (x .kind)) (record { kind = x .kind; bytes = held x } ∷ rest) rest
 
 -- of an image
 pub records-in : (s : List ℕ) (l : List Section) → recordsBy (dataOf s) l ≡ recordsIn s l
 unfolding recordsBy recordsIn
 records-in s [] = refl
-records-in s (x ∷ xs) = let rest = records-in s xs in λ y. choose (inRoll (x .kind)) (recordFor s x ∷ rest y) (rest y)
+records-in s (x ∷ xs) = let rest = records-in s xs in λ y. choose (bootType (x .kind)) (recordFor s x ∷ rest y) (rest y)
 
 no-records : (held : Section → List ℕ) (m : ℕ) → recordsBy held (replicate m blankSection) ≡ []
 unfolding recordsBy
@@ -47,7 +48,7 @@ same-records held other (suc m) (suc n) f g hk hd =
     let k = hk 0 (omega arith) in
     let d = hd 0 (omega arith) in
     let rest = same-records held other m n (λ j. f (suc j)) (λ j. g (suc j)) (λ j h. hk (suc j) (omega arith)) (λ j h. hd (suc j) (omega arith)) in
-    λ x. choose (inRoll (k x)) (record { kind = k x; bytes = d x } ∷ rest x) (rest x)
+    λ x. choose (bootType (k x)) (record { kind = k x; bytes = d x } ∷ rest x) (rest x)
 
 -- ---- streams
 
@@ -57,8 +58,8 @@ joinedBy held [] = []
 joinedBy held (x ∷ xs) = held x ++ joinedBy held xs
 
 -- of an image
-pub joined-in : (s : List ℕ) (l : List Section) → joinedBy (dataOf s) l ≡ joined s l
-unfolding joinedBy joined
+pub joined-in : (s : List ℕ) (l : List Section) → joinedBy (dataOf s) l ≡ sectionsData s l
+unfolding joinedBy sectionsData
 joined-in s [] = refl
 joined-in s (x ∷ xs) = ap (λ (t : List ℕ). dataOf s x ++ t) (joined-in s xs)
 

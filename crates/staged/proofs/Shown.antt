@@ -1,6 +1,6 @@
 -- What is shown of a section, case by case: the replacement, the base's own part, or nothing.
 -- Assumes nothing.
-use Prim.Native.Nat.{ℕ, _<_}
+use Prim.Native.Nat.{ℕ, _+_, _<_, min}
 use mathlib.Core.Path.{_≡_, refl, sym, ap, _∙_}
 use mathlib.Core.Bool.{Bool, true, false}
 use mathlib.Core.List.{List, []}
@@ -10,7 +10,7 @@ use lib.Dec.{eqb}
 use lib.ListN.{length, getD, take, drop}
 use lib.Seq.{getD-set-other, take-length}
 use Rattle.eif.specs.Numbers.{placeCount}
-use Rattle.eif.specs.Logic.{choose}
+use Rattle.octets.specs.Logic.{choose}
 use Rattle.eif.specs.Answers.{beside}
 use Rattle.eif.specs.Reading.{blankSection, sectionAt, dataOf, readImage}
 use Rattle.eif.specs.declared.Refusal.{Refusal}
@@ -19,7 +19,7 @@ use Rattle.eif.specs.declared.Verdict.{Verdict}
 use Rattle.eif.specs.declared.Verdict.the-variants.{Accepted, Refused}
 use Rattle.plain_laws.proofs.WriteBack.{head}
 use Rattle.staged.specs.Staged.{stagedPart, stagedVerdict, shownPart}
-use Rattle.staged.specs.View.{moved, stagedSections, placeFor, stagedPlace}
+use Rattle.staged.specs.View.{moved, stagedSections, shownStart, placeFor, stagedPlace}
 use Rattle.staged.proofs.Accept.{staged→}
 use Rattle.staged.proofs.Afresh.{part-is, part-kept}
 
@@ -53,6 +53,27 @@ module _ (s r : List ℕ) (k j : ℕ) where
     listed-kept n =
         let l = readImage s .sections in
         ap (dataOf s) (getD-set-other l k j (moved (getD l k blankSection) (length s) (length r)) blankSection n)
+        ∙ sym (simp (e, ne-eqb j k n))
+
+-- ---- where it stands in memory
+
+module _ (s : List ℕ) (size k j : ℕ) (base given : ℕ × ℕ) where
+  pub start-refused : (x : Refusal) → stagedVerdict s size k j ≡ Refused x → base ≡ shownStart s size k j base given
+  unfolding shownStart
+  start-refused x e = simp e
+
+  module _ (e : stagedVerdict s size k j ≡ Accepted) where
+    pub start-replaced : j ≡ k → given ≡ shownStart s size k j base given
+    unfolding shownStart
+    start-replaced q = simp (e, eq-eqb j k q)
+
+    pub start-kept : (j ≡ k → ⊥) → (x : Section) → x ≡ getD (stagedSections (readImage s .sections) k (length s) size) j blankSection
+        → (base .0, base .1 + min (x .position .0) (length s)) ≡ shownStart s size k j base given
+    unfolding shownStart stagedSections
+    start-kept n x q =
+        let l = readImage s .sections in
+        ap (λ (y : Section). (base .0, base .1 + min (y .position .0) (length s)))
+        (q ∙ getD-set-other l k j (moved (getD l k blankSection) (length s) size) blankSection n)
         ∙ sym (simp (e, ne-eqb j k n))
 
 -- ---- where it lies: the same, by its place

@@ -6,7 +6,7 @@ use mathlib.Core.List.{List, []}
 use lib.Dec.{ltb, leb, eqb}
 use lib.ListN.{length, getD, set}
 use Rattle.eif.specs.Numbers.{sizeLimit, imageTooLong, outputTooShort, noSuchSection}
-use Rattle.eif.specs.Logic.{either, choose}
+use Rattle.octets.specs.Logic.{either, choose}
 use Rattle.eif.specs.Answers.{refuse, andThen, beside}
 use Rattle.eif.specs.Reading.{verdictOf, blankSection, dataOf, readImage}
 use Rattle.eif.specs.Output.{outputFor}
@@ -30,8 +30,8 @@ withPlace p k size =
     record {
       version = p .version;
       flags = p .flags;
-      memory = p .memory;
-      cpus = p .cpus;
+      «default_mem» = p .«default_mem»;
+      «default_cpus» = p .«default_cpus»;
       count = p .count;
       places = set (p .places) k (withLength (placeAt (p .places) k) size);
     }

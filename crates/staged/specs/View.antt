@@ -1,17 +1,19 @@
 -- The staged view as the code has it: a section list in which the replaced section stands as if the replacement followed the base, and
 -- the data of a section of such a list.
 -- Assumes nothing.
-use Prim.Native.Nat.{ℕ, _-_}
+use Prim.Native.Nat.{ℕ, _+_, _-_, min}
+use mathlib.Core.Bool.{Bool, true, false}
 use mathlib.Core.List.{List}
 use mathlib.Core.Path.{_≡_}
 use lib.Dec.{ltb, eqb}
 use lib.ListN.{length, getD, set, replicate}
 use Rattle.eif.specs.Numbers.{placeCount}
-use Rattle.eif.specs.Logic.{choose}
+use Rattle.octets.specs.Logic.{choose}
 use Rattle.eif.specs.Answers.{beside}
 use Rattle.eif.specs.Reading.{blankSection, dataOf, readImage}
 use Rattle.eif.specs.declared.Section.{Section}
 use Rattle.eif.specs.declared.Verdict.{Verdict}
+use Rattle.eif.specs.declared.Verdict.the-variants.{Accepted, Refused}
 use Rattle.staged.specs.Staged.{stagedVerdict}
 use Rattle.staged.specs.declared.Staged.{Staged}
 use Rattle.staged.specs.declared.StagedPart.{StagedPart}
@@ -43,6 +45,18 @@ heldBy s r x =
 -- the data is as long as the section says
 abbrev pub Holds : (Section → List ℕ) → Section → Type 0
 Holds held x = length (held x) ≡ x .length .0
+
+-- ---- where what is shown stands in memory, by where the base and the replacement start there, a block and a place in it: at the replacement's
+-- start, in the base, or where it is refused at the base's start
+
+abbrev pub shownAt : Verdict → Bool → ℕ × ℕ → ℕ × ℕ → ℕ → ℕ × ℕ
+shownAt (Refused x) replaced base replacement at = base
+shownAt Accepted true base replacement at = replacement
+shownAt Accepted false base replacement at = (base .0, base .1 + at)
+
+unfoldable pub shownStart : List ℕ → ℕ → ℕ → ℕ → ℕ × ℕ → ℕ × ℕ → ℕ × ℕ
+shownStart s size k j base replacement =
+    shownAt (stagedVerdict s size k j) (eqb j k) base replacement (min (getD (readImage s .sections) j blankSection .position .0) (length s))
 
 -- ---- where the data of section j lies, of a view with section k replaced by so many bytes
 

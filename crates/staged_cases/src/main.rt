@@ -89,7 +89,7 @@ fn put_base(image: &mut [u8]) {
     case_images::put_section(image, 1, 564, SectionType::COMMAND_LINE, 0, b"a=1");
     case_images::put_section(image, 2, 579, SectionType::RAMDISK, 0, b"first");
     case_images::put_section(image, 3, 596, SectionType::RAMDISK, 7, b"second");
-    case_images::seal(image);
+    case_images::put_checksum(image);
 }
 
 fn views() {
@@ -158,8 +158,8 @@ fn mended_plan() -> Plan {
     Plan {
         version: 2,
         flags: 1,
-        memory: 0,
-        cpus: 0,
+        default_mem: 0,
+        default_cpus: 0,
         count: 4,
         places,
     }

@@ -1,4 +1,4 @@
--- Ticket 13's promises on the registers (PROMISES.md): those over a staged view are those of the image written afresh; and a section replaced by
+-- One section replaced (PROMISES.md), the registers: those over a staged view are those of the image written afresh; and a section replaced by
 -- its own data gives the base's. Of base and replacement it is assumed only that they are bytes.
 use Prim.Native.Nat.{ℕ, _<_}
 use mathlib.Core.Path.{_≡_, ap}

@@ -39,7 +39,7 @@ fn put_base(image: &mut [u8]) {
     case_images::put_section(image, 1, 564, SectionType::COMMAND_LINE, 0, b"a=1");
     case_images::put_section(image, 2, 579, SectionType::RAMDISK, 0, b"first");
     case_images::put_section(image, 3, 596, SectionType::RAMDISK, 7, b"second");
-    case_images::seal(image);
+    case_images::put_checksum(image);
 }
 
 fn main() {

@@ -8,7 +8,7 @@ use borrow.Author.Tests.{le-leb, lt-leb}
 use lib.Dec.{ltb, leb}
 use lib.ListN.{length, getD, set}
 use Rattle.eif.specs.Numbers.{sizeLimit, imageTooLong, noSuchSection}
-use Rattle.eif.specs.Logic.{choose, either}
+use Rattle.octets.specs.Logic.{choose, either}
 use Rattle.eif.specs.Answers.{refuse}
 use Rattle.eif.specs.Reading.{verdictOf, blankSection, readImage}
 use Rattle.eif.specs.Plan.{plainSize, planOf}
@@ -17,7 +17,7 @@ use Rattle.eif.specs.declared.Reading.{Reading}
 use Rattle.eif.specs.declared.Refusal.{Refusal}
 use Rattle.eif.specs.declared.Verdict.{Verdict}
 use Rattle.eif.specs.declared.Verdict.the-variants.{Accepted, Refused}
-use Rattle.eif_rules.proofs.Reading.{reading-verdict}
+use Rattle.eif_lemmas.proofs.Reading.{reading-verdict}
 use Rattle.staged.specs.declared.Staged.{Staged}
 use Rattle.staged.specs.View.{moved, stagedSections, blankStaged, stagedFor, stagedView}
 

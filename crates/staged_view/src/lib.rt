@@ -8,7 +8,7 @@ ghost use lib.ListN.{length};
 ghost use Rattle.eif.specs.Numbers.{sizeLimit, placeCount};
 ghost use Rattle.eif.specs.Plan.{plainSize, placeOf, planOf};
 ghost use Rattle.staged.specs.Staged.{withPlace, stagedVerdict, shownPart};
-ghost use Rattle.staged.specs.View.{moved, blankStaged, stagedView, heldBy, stagedPlace};
+ghost use Rattle.staged.specs.View.{moved, blankStaged, stagedView, heldBy, shownStart, stagedPlace};
 use eif::DataLength;
 use eif::FilePosition;
 use eif::PLACES;
@@ -63,12 +63,12 @@ fn too_long(reading: Reading, replaced: usize, given: u64) -> bool
     let plan = Plan {
         version: reading.version,
         flags: reading.flags,
-        memory: reading.memory,
-        cpus: reading.cpus,
+        default_mem: reading.default_mem,
+        default_cpus: reading.default_cpus,
         count: reading.count,
         places,
     };
-    eif_plan::image_size(plan) == 0
+    plan_judge::image_size(plan) == 0
 }
 
 // ---- the view
@@ -148,15 +148,16 @@ pub fn held<'a>(base: &'a [u8], replacement: &'a [u8], x: Section) -> &'a [u8]
 {
     let at = x.position.0 as usize;
     if at < base.len() {
-        return eif_streams::section_data(base, x);
+        return stream_reader::section_data(base, x);
     }
     let after = moved_to(x, (at - base.len()) as u64, x.length.0);
-    eif_streams::section_data(replacement, after)
+    stream_reader::section_data(replacement, after)
 }
 
 // The data of a section, where it lies: the replacement, or a part of the base. Refused: the base's empty start.
 pub fn section<'a>(base: &'a [u8], replacement: &'a [u8], replaced: u64, shown: u64) -> &'a [u8]
     ensures { λ r. ⌜ now r ≡ shownPart (now (base .entry)) (now (replacement .entry)) replaced shown ⌝ }
+    ensures { λ r. ⌜ r .ptr ≡ shownStart (now (base .entry)) (length (now (replacement .entry))) replaced shown (base .entry .ptr) (replacement .entry .ptr) ⌝ }
 {
     let view = judge(base, replacement.len() as u64, replaced, shown);
     let verdict = view.verdict;
@@ -169,7 +170,7 @@ pub fn section<'a>(base: &'a [u8], replacement: &'a [u8], replaced: u64, shown: 
     let sections = view.sections;
     let at = shown as usize;
     let x = sections[at];
-    eif_streams::section_data(base, x)
+    stream_reader::section_data(base, x)
 }
 
 // Where that data lies, for a replacement of so many bytes: in the replacement, or at a position of the base.

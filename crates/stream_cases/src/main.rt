@@ -41,7 +41,7 @@ fn answer(verdict: Verdict) {
 
 // The answer, the number of bytes copied and every byte of the output.
 fn copy(label: &[u8], image: &[u8], stream: Stream, from: u64, out: &mut [u8]) {
-    let copied = eif_streams::copy(image, stream, StreamPosition(from), out);
+    let copied = stream_reader::copy(image, stream, StreamPosition(from), out);
     let verdict = copied.verdict;
     text(label);
     text(b": ");
@@ -60,7 +60,7 @@ fn copy_few(label: &[u8], image: &[u8], stream: Stream, from: u64) {
 }
 
 fn length(label: &[u8], image: &[u8], stream: Stream) {
-    let length = eif_streams::length(image, stream);
+    let length = stream_reader::length(image, stream);
     let verdict = length.verdict;
     text(label);
     text(b": ");
@@ -74,9 +74,9 @@ fn length(label: &[u8], image: &[u8], stream: Stream) {
 fn whole_of(name: &[u8], image: &[u8], stream: Stream) {
     let mut out = [b'.'; 26];
     text(name);
-    number(eif_streams::length(image, stream).length.0);
+    number(stream_reader::length(image, stream).length.0);
     text(b" ");
-    eif_streams::copy(image, stream, StreamPosition(0), &mut out);
+    stream_reader::copy(image, stream, StreamPosition(0), &mut out);
     in_brackets(&out);
 }
 
@@ -149,7 +149,7 @@ fn put_signed(image: &mut [u8]) {
 fn ordinary() {
     let mut image = [0u8; 633];
     put_ordinary(&mut image);
-    case_images::seal(&mut image);
+    case_images::put_checksum(&mut image);
     streams(b"in order", &image);
     within(&image);
     ends(&image);
@@ -160,7 +160,7 @@ fn ordinary() {
 fn command_line_first() {
     let mut image = [0u8; 596];
     put_command_line_first(&mut image);
-    case_images::seal(&mut image);
+    case_images::put_checksum(&mut image);
     streams(b"command line before the kernel", &image);
 }
 
@@ -168,7 +168,7 @@ fn command_line_last() {
     let mut image = [0u8; 611];
     put_command_line_last(&mut image);
     put(&mut image, 3, 596, SectionType::COMMAND_LINE, b"cmd");
-    case_images::seal(&mut image);
+    case_images::put_checksum(&mut image);
     streams(b"command line after the ramdisks", &image);
 }
 
@@ -177,7 +177,7 @@ fn command_line_between() {
     put_command_line_last(&mut image);
     put(&mut image, 2, 581, SectionType::COMMAND_LINE, b"cmd");
     put(&mut image, 3, 596, SectionType::RAMDISK, b"two");
-    case_images::seal(&mut image);
+    case_images::put_checksum(&mut image);
     streams(b"command line between two ramdisks", &image);
 }
 
@@ -186,7 +186,7 @@ fn empty_sections() {
     put_empty_sections(&mut image);
     put(&mut image, 3, 586, SectionType::RAMDISK, b"");
     put(&mut image, 4, 598, SectionType::RAMDISK, b"b");
-    case_images::seal(&mut image);
+    case_images::put_checksum(&mut image);
     streams(b"empty sections in the middle", &image);
 }
 
@@ -195,14 +195,14 @@ fn first_ramdisk_empty() {
     put_small(&mut image, 4);
     put(&mut image, 2, 574, SectionType::RAMDISK, b"");
     put(&mut image, 3, 586, SectionType::RAMDISK, b"b");
-    case_images::seal(&mut image);
+    case_images::put_checksum(&mut image);
     streams(b"first ramdisk empty", &image);
 }
 
 fn no_ramdisk() {
     let mut image = [0u8; 574];
     put_small(&mut image, 2);
-    case_images::seal(&mut image);
+    case_images::put_checksum(&mut image);
     streams(b"no ramdisk", &image);
     copy_few(b"its App from 0", &image, Stream::App, 0);
     copy_few(b"its App from 1", &image, Stream::App, 1);
@@ -212,7 +212,7 @@ fn one_ramdisk() {
     let mut image = [0u8; 587];
     put_small(&mut image, 3);
     put(&mut image, 2, 574, SectionType::RAMDISK, b"r");
-    case_images::seal(&mut image);
+    case_images::put_checksum(&mut image);
     streams(b"one ramdisk", &image);
 }
 
@@ -220,7 +220,7 @@ fn signed() {
     let mut image = [0u8; 602];
     put_signed(&mut image);
     put(&mut image, 3, 589, SectionType::RAMDISK, b"r");
-    case_images::seal(&mut image);
+    case_images::put_checksum(&mut image);
     streams(b"a signature between", &image);
 }
 
@@ -286,7 +286,7 @@ fn pieces(image: &[u8]) {
 // Where the next piece starts is handed back.
 fn piece(image: &[u8], from: u64) -> u64 {
     let mut out = [b'.'; 7];
-    let copied = eif_streams::copy(image, Stream::Whole, StreamPosition(from), &mut out);
+    let copied = stream_reader::copy(image, Stream::Whole, StreamPosition(from), &mut out);
     in_brackets(&out);
     std::num::wrapping_add_u64(from, copied.count)
 }
@@ -298,8 +298,8 @@ fn from_listed(label: &[u8], image: &[u8], size: usize, from: u64) {
     }
     let mut out = [b'.'; 8];
     let sections = eif_reader::read(image).sections;
-    let list = eif_streams::sections(sections, Stream::Whole);
-    let copied = eif_streams::copy_listed(&image[..size], list, StreamPosition(from), &mut out);
+    let list = stream_reader::sections(sections, Stream::Whole);
+    let copied = stream_reader::copy_listed(&image[..size], list, StreamPosition(from), &mut out);
     let verdict = copied.verdict;
     text(label);
     answer(verdict);
@@ -325,7 +325,7 @@ fn listed(image: &[u8]) {
 fn not_sealed() {
     let mut image = [0u8; 633];
     put_ordinary(&mut image);
-    case_images::seal(&mut image);
+    case_images::put_checksum(&mut image);
     octets::put_be16(&mut image, Header::FLAGS_AT, 1);
     copy_few(b"its checksum wrong, from 0", &image, Stream::Whole, 0);
     copy_few(
@@ -341,7 +341,7 @@ fn before_kernel() {
     let mut image = [0u8; 596];
     put_command_line_first(&mut image);
     octets::put_be16(&mut image, 563, SectionType::RAMDISK);
-    case_images::seal(&mut image);
+    case_images::put_checksum(&mut image);
     copy_few(b"a ramdisk before the kernel", &image, Stream::Boot, 0);
 }
 
@@ -366,7 +366,7 @@ fn at_a_section() {
 fn one_more() {
     let mut image = [0u8; 634];
     put_ordinary(&mut image);
-    case_images::seal(&mut image);
+    case_images::put_checksum(&mut image);
     length(
         b"one byte after the last section, length",
         &image,

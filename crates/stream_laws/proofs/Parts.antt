@@ -10,7 +10,7 @@ use Rattle.eif.specs.declared.Section.{Section}
 use Rattle.eif.specs.declared.Stream.{Stream}
 use Rattle.eif.specs.declared.Stream.the-variants.{Whole, Boot, App}
 use Rattle.eif.specs.declared.Verdict.the-variants.{Accepted}
-use Rattle.eif_rules.proofs.Accept.{Inside, sections-inside}
+use Rattle.eif_lemmas.proofs.Accept.{Inside, sections-inside}
 use Rattle.stream_laws.specs.Sums.{measuredIn, sumOf, lengthOf}
 use Rattle.stream_laws.proofs.Sections.{all-stream, length-of-joined, length-joined, sums-add, whole-kept}
 

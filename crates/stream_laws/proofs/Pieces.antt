@@ -14,7 +14,7 @@ use Rattle.eif.specs.Stream.{streamOf, streamPart, copyVerdict, copyAnswer, cop
 use Rattle.eif.specs.declared.Stream.{Stream}
 use Rattle.eif.specs.declared.Verdict.the-variants.{Accepted}
 use Rattle.octets.proofs.Over.{le-or-lt}
-use Rattle.eif_rules.proofs.Table.{All}
+use Rattle.eif_lemmas.proofs.Table.{All}
 use Rattle.stream_laws.specs.Pieces.{copied, verdicts, room}
 
 -- ---- two parts of a list

@@ -7,24 +7,24 @@ use mathlib.Core.List.{List, [], _∷_, _++_}
 use native.Mathlib.Omega.{arith}
 use native.Mathlib.Nat.{add-zero, add-assoc}
 use borrow.Author.Tests.{eqb-true, le-leb}
-use lib.Dec.{eqb, leb, ltb}
+use lib.Dec.{eqb, ltb}
 use lib.ListN.{length, length-append}
 use Rattle.eif.specs.Numbers.{kernel, ramdisk}
-use Rattle.eif.specs.Logic.{both, choose}
+use Rattle.octets.specs.Logic.{both, choose}
 use Rattle.eif.specs.Reading.{ramdiskIn, dataOf}
-use Rattle.eif.specs.Roll.{inRoll}
-use Rattle.eif.specs.Stream.{laterRamdisk, keeps, kept, sectionKind, streamSections, joined}
+use Rattle.eif.specs.Rules.{bootType}
+use Rattle.eif.specs.Stream.{laterRamdisk, keeps, kept, sectionKind, streamSections, sectionsData}
 use Rattle.eif.specs.declared.Section.{Section}
 use Rattle.eif.specs.declared.Stream.{Stream}
 use Rattle.eif.specs.declared.Stream.the-variants.{Whole, Boot, App}
-use Rattle.eif_rules.proofs.Table.{All}
-use Rattle.eif_rules.proofs.Accept.{Inside, length-data}
+use Rattle.eif_lemmas.proofs.Table.{All}
+use Rattle.eif_lemmas.proofs.Accept.{Inside, length-data}
 use Rattle.stream_laws.specs.Sums.{measuredIn, sumOf, lengthOf}
 
 -- ---- types
 
 -- the type of a ramdisk is one of those that a roll holds
-ramdisk-in : (kind : ℕ) (b : Bool) → eqb kind ramdisk ≡ b → both b (not (inRoll kind)) ≡ false
+ramdisk-in : (kind : ℕ) (b : Bool) → eqb kind ramdisk ≡ b → both b (not (bootType kind)) ≡ false
 ramdisk-in kind true e =
     let k : kind ≡ ramdisk = eqb-true kind ramdisk e in
     simp (le-leb kernel kind (omega arith), le-leb kind ramdisk (omega arith))
@@ -85,15 +85,15 @@ all-stream P stream l a = all-kept stream sectionKind P 0 l a
 -- ---- the length of data
 
 module _ (s : List ℕ) where
-  pub length-of-joined : (l : List Section) → length (joined s l) ≡ sumOf (λ x. length (dataOf s x)) l
-  unfolding joined sumOf
+  pub length-of-joined : (l : List Section) → length (sectionsData s l) ≡ sumOf (λ x. length (dataOf s x)) l
+  unfolding sectionsData sumOf
   length-of-joined [] = refl
-  length-of-joined (x ∷ xs) = length-append (dataOf s x) (joined s xs) ∙ ap (λ (n : ℕ). length (dataOf s x) + n) (length-of-joined xs)
+  length-of-joined (x ∷ xs) = length-append (dataOf s x) (sectionsData s xs) ∙ ap (λ (n : ℕ). length (dataOf s x) + n) (length-of-joined xs)
 
-  pub length-joined : (l : List Section) → All (Inside s) l → length (joined s l) ≡ sumOf lengthOf l
-  unfolding All joined sumOf
+  pub length-joined : (l : List Section) → All (Inside s) l → length (sectionsData s l) ≡ sumOf lengthOf l
+  unfolding All sectionsData sumOf
   length-joined [] a = refl
-  length-joined (x ∷ xs) a = length-append (dataOf s x) (joined s xs) ∙ ap₂ (λ (m n : ℕ). m + n) (length-data s x (a .0)) (length-joined xs (a .1))
+  length-joined (x ∷ xs) a = length-append (dataOf s x) (sectionsData s xs) ∙ ap₂ (λ (m n : ℕ). m + n) (length-data s x (a .0)) (length-joined xs (a .1))
 
 -- ---- numbers added up
 
@@ -110,10 +110,10 @@ module _ (f : Section → ℕ) where
   one-of false true n e = let z : _≡_ {A = ℕ} 0 1 = ap (λ (b : Bool). choose b 1 0) (sym e) in absurd (omega arith)
   one-of false false n e = omega arith
 
-  later-in : (kind before : ℕ) (b : Bool) → eqb kind ramdisk ≡ b → both (both b (ltb 0 before)) (not (inRoll kind)) ≡ false
+  later-in : (kind before : ℕ) (b : Bool) → eqb kind ramdisk ≡ b → both (both b (ltb 0 before)) (not (bootType kind)) ≡ false
   later-in kind before true e = by-room (ltb 0 before) (ramdisk-in kind true e)
     where
-      by-room : (c : Bool) → both true (not (inRoll kind)) ≡ false → both c (not (inRoll kind)) ≡ false
+      by-room : (c : Bool) → both true (not (bootType kind)) ≡ false → both c (not (bootType kind)) ≡ false
       by-room true h = h
       by-room false h = refl
   later-in kind before false e = refl
@@ -124,13 +124,13 @@ module _ (f : Section → ℕ) where
   sums-add before (x ∷ xs) =
       let next : ℕ = before + ramdiskIn (x .kind) in
       let later : Bool = laterRamdisk (x .kind) before in
-      let a = sum-by x (kept Boot sectionKind next xs) (both (inRoll (x .kind)) (not later)) in
+      let a = sum-by x (kept Boot sectionKind next xs) (both (bootType (x .kind)) (not later)) in
       let b = sum-by x (kept App sectionKind next xs) later in
-      let d = sum-by x (kept Whole sectionKind next xs) (inRoll (x .kind)) in
-      omega (arith, one-of (inRoll (x .kind)) later (f x) (later-in (x .kind) before (eqb (x .kind) ramdisk) refl), sums-add next xs)
+      let d = sum-by x (kept Whole sectionKind next xs) (bootType (x .kind)) in
+      omega (arith, one-of (bootType (x .kind)) later (f x) (later-in (x .kind) before (eqb (x .kind) ramdisk) refl), sums-add next xs)
 
 -- Whole keeps the sections of the measured types
 pub whole-kept : (before : ℕ) (l : List Section) → kept Whole sectionKind before l ≡ measuredIn l
 unfolding kept keeps measuredIn
 whole-kept before [] = refl
-whole-kept before (x ∷ xs) = ap (λ (r : List Section). choose (inRoll (x .kind)) (x ∷ r) r) (whole-kept (before + ramdiskIn (x .kind)) xs)
+whole-kept before (x ∷ xs) = ap (λ (r : List Section). choose (bootType (x .kind)) (x ∷ r) r) (whole-kept (before + ramdiskIn (x .kind)) xs)

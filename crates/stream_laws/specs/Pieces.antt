@@ -9,19 +9,19 @@ use Rattle.eif.specs.declared.Stream.{Stream}
 use Rattle.eif.specs.declared.Verdict.{Verdict}
 
 -- what a call from a position answers, for a buffer
-abbrev answer : List ℕ → Stream → ℕ → List ℕ → Copied
-answer s stream from d = copyAnswer s stream from (length d)
+abbrev copyOf : List ℕ → Stream → ℕ → List ℕ → Copied
+copyOf s stream from d = copyAnswer s stream from (length d)
 
 -- as many of each buffer's first bytes as the call reported, joined
 unfoldable pub copied : List ℕ → Stream → ℕ → List (List ℕ) → List ℕ
 copied s stream from [] = []
 copied s stream from (d ∷ ds) =
-    take (answer s stream from d .count) (copyOutput s stream from d) ++ copied s stream (from + answer s stream from d .count) ds
+    take (copyOf s stream from d .count) (copyOutput s stream from d) ++ copied s stream (from + copyOf s stream from d .count) ds
 
 -- the verdict of each call
 unfoldable pub verdicts : List ℕ → Stream → ℕ → List (List ℕ) → List Verdict
 verdicts s stream from [] = []
-verdicts s stream from (d ∷ ds) = answer s stream from d .verdict ∷ verdicts s stream (from + answer s stream from d .count) ds
+verdicts s stream from (d ∷ ds) = copyOf s stream from d .verdict ∷ verdicts s stream (from + copyOf s stream from d .count) ds
 
 -- the room that the buffers have together
 unfoldable pub room : List (List ℕ) → ℕ

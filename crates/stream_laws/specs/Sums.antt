@@ -2,8 +2,8 @@
 -- Assumes nothing.
 use Prim.Native.Nat.{ℕ, _+_}
 use mathlib.Core.List.{List, [], _∷_}
-use Rattle.eif.specs.Logic.{choose}
-use Rattle.eif.specs.Roll.{inRoll}
+use Rattle.octets.specs.Logic.{choose}
+use Rattle.eif.specs.Rules.{bootType}
 use Rattle.eif.specs.declared.Section.{Section}
 
 -- the sections of type kernel, command line or ramdisk, in file order
@@ -11,7 +11,7 @@ unfoldable pub measuredIn : List Section → List Section
 measuredIn [] = []
 measuredIn (x ∷ xs) =
     let rest = measuredIn xs in
-    choose (inRoll (x .kind)) (x ∷ rest) rest
+    choose (bootType (x .kind)) (x ∷ rest) rest
 
 -- a number of each section, added up
 unfoldable pub sumOf : (Section → ℕ) → List Section → ℕ

@@ -42,7 +42,7 @@ fn fields(reading: Reading) {
 
 fn answer(label: &[u8], image: &[u8]) {
     let ordinary = eif_reader::read(image);
-    let strict = eif_strict::read_strict(image);
+    let strict = strict_reader::read_strict(image);
     let first = ordinary.verdict;
     let second = strict.verdict;
     text(label);
@@ -54,7 +54,7 @@ fn answer(label: &[u8], image: &[u8]) {
 }
 
 fn sealed(label: &[u8], image: &mut [u8]) {
-    case_images::seal(image);
+    case_images::put_checksum(image);
     answer(label, image);
 }
 

@@ -4,7 +4,7 @@
 use Prim.Native.Nat.{ℕ, zero, suc, _+_, _<_, _≤_}
 use mathlib.Core.Path.{_≡_, refl, sym, ap, ap₂, _∙_, subst}
 use mathlib.Core.Bool.{Bool, true, false, not, false≢true}
-use mathlib.Core.List.{List, [], _∷_, _++_}
+use mathlib.Core.List.{List, [], _∷_}
 use mathlib.Core.Logic.{_⊎_, inl, inr, ⊎-elim}
 use native.Mathlib.Omega.{arith}
 use native.Mathlib.Nat.{eq-or-lt-of-le}
@@ -15,22 +15,24 @@ use Rattle.json.specs.declared.JsonVerdict.{JsonVerdict}
 use Rattle.json.specs.declared.JsonVerdict.the-variants.{Text, Fault}
 use Rattle.json_machine.specs.Machine.{jsonVerdict}
 use Rattle.json_laws.proofs.Laws.{accepted-exactly-when}
-use Rattle.eif.specs.Numbers.{metadata, metadataNotJson}
-use Rattle.eif.specs.Logic.{both, choose}
+use Rattle.eif.specs.Numbers.{metadata}
+use Rattle.octets.specs.Logic.{both, choose}
 use Rattle.eif.specs.Answers.{andThen}
-use Rattle.eif.specs.Layout.{viewOf, countOf, kindAt}
+use Rattle.eif.specs.Layout.{viewOf, countOf}
 use Rattle.eif.specs.Reading.{verdictOf, sectionAt, dataOf, readingOf, readView, readImage}
 use Rattle.eif.specs.Acceptance.{MeetsRules}
-use Rattle.eif.specs.Order.{Rule, rule, firstThatApplies, rulesFrom, imageRules}
+use Rattle.eif.specs.Order.{firstThatApplies, rulesFrom, imageRules}
 use Rattle.eif.specs.declared.Refusal.{Refusal}
 use Rattle.eif.specs.declared.Section.{Section}
 use Rattle.eif.specs.declared.Verdict.{Verdict}
 use Rattle.eif.specs.declared.Verdict.the-variants.{Accepted, Refused}
-use Rattle.eif_rules.proofs.Logic.{both-true}
-use Rattle.eif_rules.proofs.Verdicts.{never, then-accepted}
+use Rattle.eif_lemmas.proofs.Logic.{both-true}
+use Rattle.eif_lemmas.proofs.Reading.{verdict-kept}
+use Rattle.eif_lemmas.proofs.Verdicts.{never, then-accepted}
 use Rattle.eif_laws.proofs.Acceptance as acceptance
 use Rattle.eif_laws.proofs.FirstApplies.{first-append, read-first}
-use Rattle.eif_strict.specs.Strict.{MetadataIsJson, isText, notJson, refuseMetadata, metadataVerdict, strictVerdict, readStrict, metadataRules, strictRules}
+use Rattle.strict_reader.specs.Strict.{MetadataIsJson, isText, notJson, refuseMetadata, metadataVerdict, strictVerdict, readStrict, metadataRules, strictRules}
+use Rattle.strict_laws.specs.Refused.{Refused21}
 
 -- ---- one section: the test says what the grammar says
 
@@ -141,30 +143,21 @@ module _ (s : List ℕ) where
   strict-meets =
       (λ e. (acceptance.accepted-exactly-when s .0 (strict→ e .0), strict→ e .1), λ p. →strict (acceptance.accepted-exactly-when s .1 (p .0)) (p .1))
 
-  -- 21 at the section i
-  pub record Refused21 : Type 0 where
-    pub ordinary : verdictOf s ≡ Accepted
-    pub index : ℕ
-    pub is-section : index < countOf s
-    pub is-metadata : kindAt s index ≡ metadata
-    pub no-text : IsText (dataOf s (sectionAt s index)) → ⊥
-    pub strict : strictVerdict s ≡ refuseMetadata (sectionAt s index) index
-
-  refused-21 : verdictOf s ≡ Accepted → Fails s (sectionAt s) (countOf s) 0 → Refused21
+  refused-21 : verdictOf s ≡ Accepted → Fails s (sectionAt s) (countOf s) 0 → Refused21 s
   unfolding strictVerdict
   refused-21 a f =
       let t = f .to in
       let k = failed→ s (sectionAt s (f .index)) (f .fails) in
       record { ordinary = a; index = f .index; is-section = omega arith; is-metadata = k .0; no-text = k .1; strict = rw a (f .verdict) }
 
-  same-or : (v : Verdict) → verdictOf s ≡ v → (strictVerdict s ≡ verdictOf s) ⊎ Refused21
+  same-or : (v : Verdict) → verdictOf s ≡ v → (strictVerdict s ≡ verdictOf s) ⊎ Refused21 s
   unfolding strictVerdict
   same-or (Refused r) e = inl (rw e refl)
   same-or Accepted e =
       ⊎-elim (λ p. inl (rw e p)) (λ f. inr (refused-21 e f)) (pass-or-fail s (sectionAt s) (countOf s) 0)
 
   -- the verdict is the ordinary one, or 21 at a metadata section whose data is no text
-  pub same-or-21 : (strictVerdict s ≡ verdictOf s) ⊎ Refused21
+  pub same-or-21 : (strictVerdict s ≡ verdictOf s) ⊎ Refused21 s
   same-or-21 = same-or (verdictOf s) refl
 
 -- where the verdict is the ordinary one, so is the whole reading
@@ -184,14 +177,10 @@ unfolding strictVerdict strictRules
 strict-first s =
     ap₂ andThen (read-first s) (metadata-first s (countOf s) 0) ∙ sym (first-append (imageRules s) (rulesFrom (metadataRules s) (countOf s) 0))
 
-verdict-kept : (s : List ℕ) (v : Verdict) → readingOf (viewOf s) v .verdict ≡ v
-verdict-kept s Accepted = refl
-verdict-kept s (Refused r) = refl
-
 -- the reading carries that verdict
 pub strict-verdict : (s : List ℕ) → readStrict s .verdict ≡ strictVerdict s
 unfolding readStrict
-strict-verdict s = verdict-kept s (strictVerdict s)
+strict-verdict s = verdict-kept (viewOf s) (strictVerdict s)
 
 pub read-strict-first : (s : List ℕ) → readStrict s .verdict ≡ firstThatApplies (strictRules s)
 read-strict-first s = strict-verdict s ∙ strict-first s

@@ -49,8 +49,8 @@ fn plan(version: u16, count: u16, a: Place, b: Place, c: Place) -> Plan {
     Plan {
         version,
         flags: 0,
-        memory: 0,
-        cpus: 0,
+        default_mem: 0,
+        default_cpus: 0,
         count,
         places,
     }
@@ -136,7 +136,7 @@ fn expected(image: &mut [u8]) {
 fn exact_buffer() {
     let mut image = [0u8; 586];
     expected(&mut image);
-    case_images::seal(&mut image);
+    case_images::put_checksum(&mut image);
     let mut out = [0xeeu8; 586];
     attempt(b"the worked example", worked(), b"Ka", &mut out);
     tell(

@@ -48,37 +48,43 @@ impl Sample {
         let mut roll = vec![0; length];
         let roll_length = twin::write_roll(&image, &mut roll).expect("an accepted image");
         roll.truncate(roll_length);
-        let place = |(&kind, &length): (&u16, &usize)| {
-            Place::new(SectionType(kind), DataLength(length as u64))
-        };
-        let plan = eif::Plan {
-            version,
-            places: types.iter().zip(&lengths).map(place).collect(),
-            ..eif::Plan::default()
-        };
-        let mut twin_places = [twin::Place::default(); 32];
-        for (place, (&kind, &length)) in twin_places.iter_mut().zip(types.iter().zip(&lengths)) {
-            *place = twin::Place {
-                kind,
-                flags: 0,
-                length: length as u64,
-            };
-        }
-        let twin_plan = twin::Plan {
-            version,
-            flags: 0,
-            default_mem: 0,
-            default_cpus: 0,
-            count: types.len() as u16,
-            places: twin_places,
-        };
         Sample {
             data,
             image,
             roll,
-            plan,
-            twin_plan,
+            plan: plan(version, types, &lengths),
+            twin_plan: twin_plan(version, types, &lengths),
         }
+    }
+}
+
+fn plan(version: u16, types: &[u16], lengths: &[usize]) -> eif::Plan {
+    let places = types.iter().zip(lengths);
+    let places =
+        places.map(|(&kind, &length)| Place::new(SectionType(kind), DataLength(length as u64)));
+    eif::Plan {
+        version,
+        places: places.collect(),
+        ..eif::Plan::default()
+    }
+}
+
+fn twin_plan(version: u16, types: &[u16], lengths: &[usize]) -> twin::Plan {
+    let mut places = [twin::Place::default(); 32];
+    for (place, (&kind, &length)) in places.iter_mut().zip(types.iter().zip(lengths)) {
+        *place = twin::Place {
+            kind,
+            flags: 0,
+            length: length as u64,
+        };
+    }
+    twin::Plan {
+        version,
+        flags: 0,
+        default_mem: 0,
+        default_cpus: 0,
+        count: types.len() as u16,
+        places,
     }
 }
 

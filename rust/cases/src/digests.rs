@@ -1,6 +1,7 @@
 //! Messages with their SHA-384 digests, and images with their registers, in hexadecimal.
 
-use crate::images::{stream_cases, two_sections, worked_image};
+use crate::images::{two_sections, worked_image};
+use crate::streams::stream_cases;
 
 /// A message and its digest.
 pub struct DigestCase {

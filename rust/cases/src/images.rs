@@ -49,75 +49,6 @@ pub fn two_sections() -> Vec<u8> {
     Layout::new(2, vec![Section::new(1, &[0x4b]), Section::new(2, &[])]).image()
 }
 
-/// An image and its streams.
-pub struct StreamCase {
-    /// Where the command line stands.
-    pub name: &'static str,
-    /// The image's bytes.
-    pub image: Vec<u8>,
-    /// Whole, Boot and App.
-    pub streams: [&'static [u8]; 3],
-}
-
-/// An image with sections of these types: `aa` is the first one's data, `bb` the second one's, and so
-/// on.
-fn lettered(version: u16, types: &[u16]) -> Vec<u8> {
-    let sections = types.iter().zip(b'a'..);
-    let sections = sections.map(|(&kind, byte)| Section::new(kind, &[byte, byte]));
-    Layout::new(version, sections.collect()).image()
-}
-
-/// The command line before the kernel, and metadata among three ramdisks.
-pub fn command_line_first() -> Vec<u8> {
-    lettered(4, &[2, 1, 3, 5, 3, 3])
-}
-
-/// Streams are in file order, wherever the command line stands.
-pub fn stream_cases() -> Vec<StreamCase> {
-    let case = |name, image, streams| StreamCase {
-        name,
-        image,
-        streams,
-    };
-    vec![
-        case(
-            "after the kernel",
-            lettered(2, &[1, 2, 3, 3]),
-            [b"aabbccdd", b"aabbcc", b"dd"],
-        ),
-        case(
-            "before the kernel",
-            command_line_first(),
-            [b"aabbcceeff", b"aabbcc", b"eeff"],
-        ),
-        case(
-            "between two ramdisks",
-            lettered(2, &[1, 3, 2, 3]),
-            [b"aabbccdd", b"aabbcc", b"dd"],
-        ),
-        case(
-            "after two ramdisks",
-            lettered(2, &[1, 3, 3, 2]),
-            [b"aabbccdd", b"aabbdd", b"cc"],
-        ),
-        case(
-            "between the second and the third ramdisk",
-            lettered(3, &[1, 3, 4, 3, 2, 3]),
-            [b"aabbddeeff", b"aabbee", b"ddff"],
-        ),
-        case(
-            "after the kernel, no ramdisk",
-            lettered(2, &[1, 2]),
-            [b"aabb", b"aabb", b""],
-        ),
-        case(
-            "before the kernel, no ramdisk",
-            lettered(2, &[2, 1]),
-            [b"aabb", b"aabb", b""],
-        ),
-    ]
-}
-
 /// An image of exactly `length` bytes that meets every rule but perhaps the first.
 ///
 /// # Panics
@@ -148,7 +79,7 @@ pub fn zero_image(length: usize) -> Vec<u8> {
 /// As [`image_of_length`].
 pub fn zero_image_start(length: usize) -> Vec<u8> {
     let layout = Layout::new(2, vec![Section::new(2, &[]), Section::new(1, &[])]);
-    let mut start = layout.unsealed();
+    let mut start = layout.without_checksum();
     let zeros = length - start.len();
     put_number(&mut start, SIZES_AT + 8, zeros as u64);
     let own_size = start.len() - 8;
@@ -159,11 +90,11 @@ pub fn zero_image_start(length: usize) -> Vec<u8> {
     start
 }
 
-/// The worked image with an edit, then sealed again.
+/// The worked image with an edit, its checksum put again.
 fn edited(edit: impl FnOnce(&mut Vec<u8>)) -> Vec<u8> {
     let mut image = worked_layout().image();
     edit(&mut image);
-    seal(&mut image);
+    put_checksum(&mut image);
     image
 }
 
@@ -185,9 +116,16 @@ pub fn image_cases() -> Vec<ImageCase> {
 }
 
 fn boundary_cases() -> Vec<ImageCase> {
+    let mut cases = table_cases();
+    cases.extend(type_cases());
+    cases.extend(checksum_cases());
+    cases
+}
+
+/// The header's count, and the offsets and sizes of the table.
+fn table_cases() -> Vec<ImageCase> {
     let mut cases = Vec::new();
     let mut case = |name, image, answer| cases.push(ImageCase::new(name, image, answer));
-
     case("547 bytes", worked_image()[..547].to_vec(), (2, 0, 0));
     for count in [1, 33] {
         let image = edited(|image| put(image, COUNT_AT, &[0, count]));
@@ -210,6 +148,12 @@ fn boundary_cases() -> Vec<ImageCase> {
         put_number(image, 578, 1);
     });
     case("its size one more", image, (7, 2, 44));
+    cases
+}
+
+fn type_cases() -> Vec<ImageCase> {
+    let mut cases = Vec::new();
+    let mut case = |name, image, answer| cases.push(ImageCase::new(name, image, answer));
     for kind in [6, 0] {
         let image = edited(|image| put(image, 574, &[0, kind]));
         case("type 6 or 0", image, (9, 2, 574));
@@ -218,17 +162,18 @@ fn boundary_cases() -> Vec<ImageCase> {
     case("version 3 with metadata", image, (9, 2, 574));
     let image = of_types(4, &[1, 2, 3]);
     case("version 4 without metadata", image, (12, 0, 26));
-    for difference in [1, u32::MAX] {
+    cases
+}
+
+fn checksum_cases() -> Vec<ImageCase> {
+    let one_off = |difference| {
         let mut image = worked_image();
         let checksum = crc32(&[&image[..CHECKSUM_AT], &image[HEADER..]]);
-        put(
-            &mut image,
-            CHECKSUM_AT,
-            &checksum.wrapping_add(difference).to_be_bytes(),
-        );
-        case("checksum one off", image, (13, 0, 544));
-    }
-    cases
+        let checksum = checksum.wrapping_add(difference);
+        put(&mut image, CHECKSUM_AT, &checksum.to_be_bytes());
+        ImageCase::new("checksum one off", image, (13, 0, 544))
+    };
+    Vec::from([1, u32::MAX].map(one_off))
 }
 
 fn mistaken_cases() -> Vec<ImageCase> {
@@ -237,7 +182,7 @@ fn mistaken_cases() -> Vec<ImageCase> {
     // Offset 574 + 12 + size is 2 to the 64, which wraps to 0.
     let image = edited(|image| put_number(image, SIZES_AT + 16, 0u64.wrapping_sub(586)));
     case("end that wraps to 0", image, (7, 2, 44));
-    let mut image = worked_layout().unsealed();
+    let mut image = worked_layout().without_checksum();
     let checksum = crc32(&[&image]);
     put(&mut image, CHECKSUM_AT, &checksum.to_be_bytes());
     case("checksum over the field as zeros", image, (13, 0, 544));
@@ -287,7 +232,7 @@ fn packing_cases() -> Vec<ImageCase> {
     case("the file twice", image, (20, 0, 586));
     let mut image = of_types(2, &[1, 3]);
     image.push(0);
-    seal(&mut image);
+    put_checksum(&mut image);
     case("no command line and a tail", image, (12, 0, 26));
     let image = edited(|image| image.truncate(585));
     case("a section cut at the file's end", image, (7, 2, 44));
@@ -316,7 +261,7 @@ fn offset_cases() -> Vec<ImageCase> {
     }
     let mut image = with_gap(1);
     put_number(&mut image, OFFSETS_AT + 16, 574);
-    seal(&mut image);
+    put_checksum(&mut image);
     case("a gap, and 6 at a later section", image, (20, 1, 36));
     let image = edited(|image| {
         put_number(image, OFFSETS_AT + 8, 560);

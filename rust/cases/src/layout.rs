@@ -6,14 +6,20 @@ pub const MAX_SECTIONS: usize = 32;
 pub const HEADER: usize = 548;
 /// Length of a section's header.
 pub const SECTION_HEADER: usize = 12;
+/// Position of the size in a section's header.
+pub const OWN_SIZE_AT: usize = 4;
 /// Position of the version.
 pub const VERSION_AT: usize = 4;
+/// Position of the first reserved field, of 2 bytes.
+pub const RESERVED_AT: usize = 24;
 /// Position of num_sections.
 pub const COUNT_AT: usize = 26;
 /// Position of the section offsets.
 pub const OFFSETS_AT: usize = 28;
 /// Position of the section sizes.
 pub const SIZES_AT: usize = 284;
+/// Position of the second reserved field, of 4 bytes.
+pub const RESERVED_AFTER_AT: usize = 540;
 /// Position of the checksum.
 pub const CHECKSUM_AT: usize = 544;
 
@@ -61,7 +67,7 @@ pub fn put_number(image: &mut [u8], at: usize, value: u64) {
 }
 
 /// Puts the right checksum into an image of at least 548 bytes.
-pub fn seal(image: &mut [u8]) {
+pub fn put_checksum(image: &mut [u8]) {
     let checksum = crc32(&[&image[..CHECKSUM_AT], &image[HEADER..]]);
     put(image, CHECKSUM_AT, &checksum.to_be_bytes());
 }
@@ -137,8 +143,8 @@ impl Layout {
     ///
     /// Where there are more than 32 sections.
     pub fn image(&self) -> Vec<u8> {
-        let mut image = self.unsealed();
-        seal(&mut image);
+        let mut image = self.without_checksum();
+        put_checksum(&mut image);
         image
     }
 
@@ -147,7 +153,7 @@ impl Layout {
     /// # Panics
     ///
     /// Where there are more than 32 sections.
-    pub fn unsealed(&self) -> Vec<u8> {
+    pub fn without_checksum(&self) -> Vec<u8> {
         assert!(self.sections.len() <= MAX_SECTIONS);
         let mut image = vec![0; HEADER];
         put(&mut image, 0, b".eif");

@@ -20,17 +20,19 @@ mod layout;
 mod positions;
 mod rolls;
 mod sign1;
+mod streams;
 mod strict;
 mod texts;
 
 pub use digests::{digest_cases, hex, register_cases, DigestCase};
 pub use images::{
-    command_line_first, image_cases, image_of_length, stream_cases, two_sections, worked_image,
-    zero_image, zero_image_start, Answer, ImageCase, StreamCase, ACCEPTED,
+    image_cases, image_of_length, two_sections, worked_image, zero_image, zero_image_start, Answer,
+    ImageCase, ACCEPTED,
 };
 pub use layout::{
-    crc32, crc32_then_zeros, put, put_number, seal, section_end, Layout, Section, CHECKSUM_AT,
-    COUNT_AT, HEADER, MAX_SECTIONS, OFFSETS_AT, SECTION_HEADER, SIZES_AT, VERSION_AT,
+    crc32, crc32_then_zeros, put, put_checksum, put_number, section_end, Layout, Section,
+    CHECKSUM_AT, COUNT_AT, HEADER, MAX_SECTIONS, OFFSETS_AT, OWN_SIZE_AT, RESERVED_AFTER_AT,
+    RESERVED_AT, SECTION_HEADER, SIZES_AT, VERSION_AT,
 };
 pub use positions::{located_images, located_plans, located_rolls, PlanCase};
 pub use rolls::{
@@ -38,5 +40,6 @@ pub use rolls::{
     WORKED_ROLL,
 };
 pub use sign1::{sign1_cases, sign1_example, Sign1Case, Sign1Parts, SIGN1_ALGORITHMS};
+pub use streams::{command_line_first, copy_cases, stream_cases, CopyCase, StreamCase};
 pub use strict::strict_cases;
 pub use texts::{nested, text_cases, TextCase};

@@ -26,11 +26,11 @@ fn with_type(index: usize, kind: u16) -> Vec<u16> {
     types
 }
 
-/// The image of 32 sections, changed and sealed again.
+/// The image of 32 sections, changed, with the checksum put again.
 fn changed(change: impl FnOnce(&mut Vec<u8>)) -> Vec<u8> {
     let mut image = image_of(4, &types());
     change(&mut image);
-    seal(&mut image);
+    put_checksum(&mut image);
     image
 }
 
@@ -59,7 +59,7 @@ fn located_sections() -> Vec<ImageCase> {
         case("a gap", gap.image(), (20, place, entry));
         let late = changed(|image| put_number(image, SIZES_AT + 8 * index, u64::MAX));
         case("ends late", late, (7, place, entry));
-        let sizes = changed(|image| put_number(image, own + 4, 2));
+        let sizes = changed(|image| put_number(image, own + OWN_SIZE_AT, 2));
         case("sizes differ", sizes, (8, place, header));
         let kind = image_of(4, &with_type(index, 6));
         case("type not allowed", kind, (9, place, header));

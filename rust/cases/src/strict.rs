@@ -1,7 +1,7 @@
 //! Images for the stricter reading: metadata that is JSON and metadata that is not.
 
 use crate::images::{Answer, ImageCase, ACCEPTED};
-use crate::layout::{seal, Layout, Section, CHECKSUM_AT};
+use crate::layout::{put_checksum, Layout, Section, CHECKSUM_AT};
 use crate::texts::nested;
 
 /// A version 4 image with its metadata in the place `index`, of four.
@@ -62,12 +62,12 @@ fn judged_before() -> Vec<ImageCase> {
     case("metadata cut off, and 13", image, (13, 0, 544));
     let mut image = with_metadata(2, b"{");
     image.push(0);
-    seal(&mut image);
+    put_checksum(&mut image);
     let after = image.len() as u64 - 1;
     case("metadata cut off, and 20", image, (20, 0, after));
     let mut image = with_metadata(2, b"{");
     image.truncate(image.len() - 1);
-    seal(&mut image);
+    put_checksum(&mut image);
     case("metadata cut off, and 7", image, (7, 3, 28 + 8 * 3));
     cases
 }

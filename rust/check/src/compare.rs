@@ -43,9 +43,10 @@ pub(crate) fn same<T: PartialEq + Debug>(input: &Input, what: &str, library: T, 
 }
 
 /// A refusal's number, index and position.
-pub(crate) type Parts = (u8, u64, u64);
+pub type Parts = (u8, u64, u64);
 
-pub(crate) fn parts(refusal: Refusal) -> Parts {
+/// The parts of the library's refusal.
+pub fn parts(refusal: Refusal) -> Parts {
     (refusal.number(), refusal.index(), refusal.position())
 }
 
@@ -273,6 +274,13 @@ pub fn compare_image(rng: &mut Rng, ordinal: u64, image: &[u8], tally: &mut Tall
         }
     }
 
+    compare_roll_of(rng, input, tally);
+    compare_registers(input, tally);
+}
+
+/// Measures and writes the roll of an image.
+fn compare_roll_of(rng: &mut Rng, input: &Input, tally: &mut Tally) {
+    let image = input.bytes;
     let roll_length = twin::roll_length(image);
     let number = compare_length(
         input,
@@ -294,7 +302,6 @@ pub fn compare_image(rng: &mut Rng, ordinal: u64, image: &[u8], tally: &mut Tall
         |out| twin::write_roll(image, out),
     );
     tally.add(Call::RollWrite, number);
-    compare_registers(input, tally);
 }
 
 fn compare_registers(input: &Input, tally: &mut Tally) {

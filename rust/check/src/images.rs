@@ -93,20 +93,20 @@ fn damage_layout(rng: &mut Rng, layout: &mut Layout) {
 /// The image of a layout with the right checksum, and with any bytes in its gaps and, as often as not, in
 /// what the reader ignores: reserved fields and unused table entries.
 pub fn any_image_of(rng: &mut Rng, layout: &Layout) -> Vec<u8> {
-    let mut image = layout.unsealed();
+    let mut image = layout.without_checksum();
     if rng.once_in(4) {
-        put(&mut image, 24, &rng.bytes(2));
-        put(&mut image, 540, &rng.bytes(4));
+        put(&mut image, RESERVED_AT, &rng.bytes(2));
+        put(&mut image, RESERVED_AFTER_AT, &rng.bytes(4));
     }
     if rng.once_in(4) {
         let unused = 8 * (MAX_SECTIONS - layout.sections.len());
         put(&mut image, SIZES_AT - unused, &rng.bytes(unused));
-        put(&mut image, 540 - unused, &rng.bytes(unused));
+        put(&mut image, RESERVED_AFTER_AT - unused, &rng.bytes(unused));
     }
     for (section, offset) in layout.sections.iter().zip(layout.offsets()) {
         put(&mut image, offset - section.gap, &rng.bytes(section.gap));
     }
-    seal(&mut image);
+    put_checksum(&mut image);
     image
 }
 
@@ -117,54 +117,76 @@ fn put_if_inside(image: &mut [u8], at: usize, bytes: &[u8]) {
     }
 }
 
+/// The section that damage is about.
+struct Target {
+    index: usize,
+    /// Where the section before it ends, and where its own header starts.
+    before: usize,
+    offset: usize,
+    /// The length of its data.
+    length: usize,
+}
+
+impl Target {
+    fn any(rng: &mut Rng, layout: &Layout) -> Self {
+        let index = rng.below(layout.sections.len().max(1));
+        let offset = *layout.offsets().get(index).unwrap_or(&HEADER);
+        let section = layout.sections.get(index).cloned().unwrap_or_default();
+        Target {
+            index,
+            before: offset - section.gap,
+            offset,
+            length: section.data.len(),
+        }
+    }
+}
+
 /// Changes bytes of an image that was laid out by `layout`.
 fn damage_bytes(rng: &mut Rng, image: &mut Vec<u8>, layout: &Layout) {
-    let count = layout.sections.len();
-    let chosen = rng.below(count.max(1));
-    let offset = *layout.offsets().get(chosen).unwrap_or(&HEADER);
-    let section = layout.sections.get(chosen).cloned().unwrap_or_default();
-    let before = offset - section.gap;
-    let length = section.data.len();
-    let size_at = SIZES_AT + 8 * chosen;
+    let target = &Target::any(rng, layout);
     match rng.below(14) {
         0 => put_if_inside(image, rng.below(4), &[rng.next() as u8]),
-        1 => {
-            let count = count as u16;
-            let wrong = [0, 1, 2, 31, 32, 33, 255, 256, 0x0300, 0xffff];
-            let counts = [count.wrapping_sub(1), count + 1, rng.pick(&wrong)];
-            put_if_inside(image, COUNT_AT, &rng.pick(&counts).to_be_bytes());
-        }
-        2 | 3 => {
-            let near = rng.pick(&[before, offset, image.len(), HEADER]);
-            let wrong = rng.hostile(near as u64);
-            put_if_inside(image, OFFSETS_AT + 8 * chosen, &wrong.to_be_bytes());
-        }
-        4..=6 => {
-            let rest = image.len().wrapping_sub(offset + SECTION_HEADER) as u64;
-            let wraps = (offset as u64 + 12).wrapping_neg();
-            let near = rng.pick(&[length as u64, rest, wraps]);
-            let wrong = rng.hostile(near).to_be_bytes();
-            put_if_inside(image, size_at, &wrong);
-            if rng.once_in(2) {
-                put_if_inside(image, offset + 4, &wrong);
-            }
-        }
+        1 => damage_count(rng, image, layout.sections.len() as u16),
+        2 | 3 => damage_offset(rng, image, target),
+        4..=6 => damage_size(rng, image, target),
         7 => {
-            let wrong = rng.hostile(length as u64);
-            put_if_inside(image, offset + 4, &wrong.to_be_bytes());
+            let wrong = rng.hostile(target.length as u64);
+            put_if_inside(image, target.offset + OWN_SIZE_AT, &wrong.to_be_bytes());
         }
-        8 => put_if_inside(image, offset, &any_type(rng).to_be_bytes()),
+        8 => put_if_inside(image, target.offset, &any_type(rng).to_be_bytes()),
         9 => image.truncate(rng.below(image.len() + 1)),
         10 => image.truncate(image.len().saturating_sub(1 + rng.below(14))),
         11 => {
             let tail = 1 + rng.below(20);
             image.extend(rng.bytes(tail));
         }
-        _ if !image.is_empty() => {
-            let at = rng.below(image.len());
-            image[at] ^= 1 << rng.below(8);
-        }
-        _ => {}
+        _ => rng.flip_bit(image),
+    }
+}
+
+/// Another count of sections, close to the right one or to a limit.
+fn damage_count(rng: &mut Rng, image: &mut [u8], count: u16) {
+    let wrong = [0, 1, 2, 31, 32, 33, 255, 256, 0x0300, 0xffff];
+    let counts = [count.wrapping_sub(1), count + 1, rng.pick(&wrong)];
+    put_if_inside(image, COUNT_AT, &rng.pick(&counts).to_be_bytes());
+}
+
+/// Another offset in the table.
+fn damage_offset(rng: &mut Rng, image: &mut [u8], target: &Target) {
+    let near = rng.pick(&[target.before, target.offset, image.len(), HEADER]);
+    let wrong = rng.hostile(near as u64);
+    put_if_inside(image, OFFSETS_AT + 8 * target.index, &wrong.to_be_bytes());
+}
+
+/// Another size in the table and, now and then, in the section's own header too.
+fn damage_size(rng: &mut Rng, image: &mut [u8], target: &Target) {
+    let rest = image.len().wrapping_sub(target.offset + SECTION_HEADER) as u64;
+    let wraps = ((target.offset + SECTION_HEADER) as u64).wrapping_neg();
+    let near = rng.pick(&[target.length as u64, rest, wraps]);
+    let wrong = rng.hostile(near).to_be_bytes();
+    put_if_inside(image, SIZES_AT + 8 * target.index, &wrong);
+    if rng.once_in(2) {
+        put_if_inside(image, target.offset + OWN_SIZE_AT, &wrong);
     }
 }
 
@@ -213,7 +235,7 @@ pub fn any_image(rng: &mut Rng) -> Vec<u8> {
             0 => spoil_checksum(rng, &mut image),
             // Some damage stays under a checksum that no longer fits.
             1..=3 => {}
-            _ => seal(&mut image),
+            _ => put_checksum(&mut image),
         }
     }
     image

@@ -25,7 +25,9 @@ mod texts;
 
 pub use arriving::{compare_arriving, compare_arriving_state, state_of, LENGTHS};
 pub use assembler::{compare_transfer, compare_transfer_call, TransferBuffers};
-pub use compare::{compare_image, compare_message, compare_plan, compare_reading, compare_roll};
+pub use compare::{
+    compare_image, compare_message, compare_plan, compare_reading, compare_roll, parts, Parts,
+};
 pub use images::{accepted_layout, any_image, any_image_of};
 pub use messages::{any_message, Message};
 pub use output::Output;

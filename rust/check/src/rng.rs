@@ -42,6 +42,14 @@ impl Rng {
         (0..length).map(|_| self.next() as u8).collect()
     }
 
+    /// Changes a bit of the bytes, where there are any.
+    pub fn flip_bit(&mut self, bytes: &mut [u8]) {
+        if !bytes.is_empty() {
+            let at = self.below(bytes.len());
+            bytes[at] ^= 1 << self.below(8);
+        }
+    }
+
     /// A number made to overflow or to just miss a bound: close to `near`, to 0, to a power of two, to
     /// what wraps round to `near`, or any at all.
     pub fn hostile(&mut self, near: u64) -> u64 {

@@ -30,6 +30,13 @@ fn accepted_records(rng: &mut Rng) -> Vec<Record> {
     records
 }
 
+/// How many bytes stand from the start of a record's data to the end of the roll.
+fn rest_from(records: &[Record], chosen: usize) -> usize {
+    let sizes = records[chosen..].iter();
+    let sizes = sizes.map(|record| RECORD_HEADER + record.2.len());
+    sizes.sum::<usize>() - RECORD_HEADER
+}
+
 fn damage_records(rng: &mut Rng, records: &mut Vec<Record>) {
     if records.is_empty() {
         return;
@@ -37,16 +44,11 @@ fn damage_records(rng: &mut Rng, records: &mut Vec<Record>) {
     // Seldom the flags record, or few rolls would be read past it.
     let first = usize::from(records.len() > 1 && !rng.once_in(8));
     let chosen = first + rng.below(records.len() - first);
-    // Bytes from the start of the chosen record's data to the end of the roll.
-    let rest = records[chosen..]
-        .iter()
-        .map(|record| RECORD_HEADER + record.2.len())
-        .sum::<usize>()
-        - RECORD_HEADER;
     match rng.below(9) {
         0 | 1 => records[chosen].0 = rng.pick(&[0, 1, 2, 3, 4, 5, 0x0100, 0x0100, 0x0200, 0xffff]),
         2 => {
-            let near = rng.pick(&[rest as u64, records[chosen].1]);
+            let rest = rest_from(records, chosen) as u64;
+            let near = rng.pick(&[rest, records[chosen].1]);
             records[chosen].1 = rng.hostile(near);
         }
         3 => {
@@ -84,11 +86,7 @@ fn damage_bytes(rng: &mut Rng, roll: &mut Vec<u8>) {
             roll.extend(rng.bytes(more));
         }
         3 => roll.extend_from_within(..),
-        _ if !roll.is_empty() => {
-            let at = rng.below(roll.len());
-            roll[at] ^= 1 << rng.below(8);
-        }
-        _ => {}
+        _ => rng.flip_bit(roll),
     }
 }
 

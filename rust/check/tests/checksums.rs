@@ -24,16 +24,12 @@ fn twin(bytes: &[u8]) -> u32 {
     Crc32::new().update(bytes).finish()
 }
 
-/// Lengths at and beside those from which the code goes another way: words, what is carried, the window,
-/// its blocks, and two halves.
+/// Lengths at and beside those from which the code goes another way: words, what is carried, the window
+/// and its blocks, the ring and its turns, and two parts.
 fn lengths() -> impl Iterator<Item = usize> {
-    let window = [
-        2_400, 2_440, 2_448, 6_144, 8_192, 10_632, 10_640, 18_824, 65_536,
-    ];
-    let beside = window
-        .into_iter()
-        .flat_map(|length| length - 9..length + 10);
-    (0..1_300)
+    let turns = [2_392, 6_144, 65_536, 262_144, 264_568];
+    let beside = turns.into_iter().flat_map(|length| length - 9..length + 10);
+    (0..1_400)
         .chain(beside)
         .chain([1 << 20, (1 << 24) - 1, 1 << 24, (1 << 24) + 5])
 }
@@ -51,11 +47,21 @@ fn every_length() {
 fn any_pieces() {
     for ordinal in 0..2_000 {
         let mut rng = Rng::of_input(11, 1 + ordinal);
-        let mut bytes = vec![rng.next() as u8; rng.below(40_000)];
+        // One that is long enough for the ring, which is then entered after other bytes.
+        let length = if ordinal == 0 {
+            600_000
+        } else {
+            rng.below(40_000)
+        };
+        let mut bytes = vec![rng.next() as u8; length];
         if rng.once_in(2) {
             bytes = rng.bytes(bytes.len());
         }
-        let most = rng.pick(&[8, 50, 3_000, 12_000]);
+        let most = if ordinal == 0 {
+            550_000
+        } else {
+            rng.pick(&[8, 50, 3_000, 12_000])
+        };
         let mut pieces = Vec::new();
         let mut rest = &bytes[..];
         while !rest.is_empty() {

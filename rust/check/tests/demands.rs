@@ -3,7 +3,10 @@
 use eif::{
     Arriving, Image, Reading, Refusal, Roll, RollRecord, SectionType, Stream, StreamPosition,
 };
-use eif_cases::{flags_record, record, seal, Layout, Section, RECORD_HEADER};
+use eif_cases::{
+    flags_record, put_checksum, record, Layout, Section, CHECKSUM_AT, COUNT_AT, RECORD_HEADER,
+    RESERVED_AFTER_AT, RESERVED_AT,
+};
 use eif_check::{accepted_layout, accepted_plan, any_image, any_image_of, any_roll, Rng};
 use std::io::Read;
 
@@ -65,7 +68,9 @@ fn a_plan_is_read_back() {
 fn is_plain(bytes: &[u8], count: usize) -> bool {
     let unused = 8 * count..8 * 32;
     let tables = [28, 284].map(|table| table + unused.start..table + unused.end);
-    let ignored = tables.into_iter().chain([24..26, 540..544]);
+    let ignored = tables
+        .into_iter()
+        .chain([RESERVED_AT..COUNT_AT, RESERVED_AFTER_AT..CHECKSUM_AT]);
     ignored
         .flat_map(|range| &bytes[range])
         .all(|&byte| byte == 0)
@@ -131,7 +136,7 @@ fn a_byte_outside_the_sections_is_refused() {
             }
         };
         if rng.once_in(2) {
-            seal(&mut image);
+            put_checksum(&mut image);
         }
         let refusal = eif::read(&image).unwrap_err();
         assert_eq!((refusal.number(), refusal.index()), (20, place as u64));

@@ -220,5 +220,5 @@ fn library_and_twin_agree() {
     for &reason in eif::Reason::ALL {
         assert!(total.of_number(reason as u8) > 0, "{reason} never occurred");
     }
-    assert!(total.inputs() >= 900_000);
+    assert!(total.inputs() > 1_250_000);
 }

@@ -3,14 +3,11 @@
 use eif::raw;
 use eif::{Architecture, DataLength, Place, Plan, Refusal, SectionType, Stream, StreamPosition};
 use eif_cases::{
-    command_line_first, flags_record, image_cases, roll_cases, stream_cases, two_sections,
-    worked_image, Answer, Layout, Section, ACCEPTED, WORKED_ROLL,
+    command_line_first, copy_cases, flags_record, image_cases, roll_cases, stream_cases,
+    two_sections, worked_image, Layout, Section, ACCEPTED, WORKED_ROLL,
 };
+use eif_check::parts;
 use std::io::Read;
-
-fn parts(refusal: Refusal) -> Answer {
-    (refusal.number(), refusal.index(), refusal.position())
-}
 
 fn worked_plan() -> Plan {
     Plan {
@@ -155,16 +152,11 @@ fn stream_positions() {
 
 /// Tries a copier of `bytes` from every position into buffers of several lengths.
 fn check_copies(bytes: &[u8], copy: impl Fn(StreamPosition, &mut [u8]) -> Result<usize, Refusal>) {
-    for from in 0..=bytes.len() {
-        for room in 0..16 {
-            let copied = room.min(bytes.len() - from);
-            let mut expected = [0xaa; 16];
-            expected[..copied].copy_from_slice(&bytes[from..from + copied]);
-            let mut out = [0xaa; 16];
-            let from = StreamPosition(from as u64);
-            assert_eq!(copy(from, &mut out[..room]), Ok(copied));
-            assert_eq!(out, expected);
-        }
+    for case in copy_cases(bytes) {
+        let mut out = [0xaa; 16];
+        let from = StreamPosition(case.from as u64);
+        assert_eq!(copy(from, &mut out[..case.room]), Ok(case.copied));
+        assert_eq!(out, case.after);
     }
     let past = StreamPosition(bytes.len() as u64 + 1);
     let answer = copy(past, &mut [0; 16]);

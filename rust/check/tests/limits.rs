@@ -3,17 +3,16 @@
 //! The images are of zeros that take no memory until they are written to, so that only the writer's output
 //! takes as much as it says.
 
-use eif::{Arriving, DataLength, Place, Plan, Refusal, SectionType, MAX_IMAGE_LENGTH};
-use eif_cases::{flags_record, put, record, zero_image, zero_image_start, Answer, RECORD_HEADER};
-use eif_check::{compare_image, Rng, Tally};
+use eif::{Arriving, DataLength, Place, Plan, SectionType, MAX_IMAGE_LENGTH};
+use eif_cases::{
+    flags_record, put, record, zero_image, zero_image_start, Answer, HEADER, RECORD_HEADER,
+    SECTION_HEADER,
+};
+use eif_check::{compare_image, parts, Rng, Tally};
 use eif_twin as twin;
 
 /// What a plan and an image of an empty command line and a kernel have beside the kernel's data.
-const BESIDE: usize = 548 + 2 * 12;
-
-fn parts(refusal: Refusal) -> Answer {
-    (refusal.number(), refusal.index(), refusal.position())
-}
+const BESIDE: usize = HEADER + 2 * SECTION_HEADER;
 
 const TOO_LONG: Answer = (1, 0, 0);
 

@@ -4,10 +4,7 @@
 use eif::raw;
 use eif::{Arriving, DataLength, Place, Plan, Refusal, SectionType, Stream, StreamPosition};
 use eif_cases::{located_images, located_plans, located_rolls, worked_image, Answer};
-
-fn parts(refusal: Refusal) -> Answer {
-    (refusal.number(), refusal.index(), refusal.position())
-}
+use eif_check::parts;
 
 /// Every number in the answers, once.
 fn numbers(answers: impl Iterator<Item = Answer>) -> Vec<u8> {

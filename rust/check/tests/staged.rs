@@ -1,17 +1,13 @@
 //! One section replaced: the demands on it, its examples, and the longest image.
 
 use eif::raw::staged::{staged_part, staged_registers, staged_roll_write, StagedPart};
-use eif::{staged, DataLength, Image, Plan, Refusal, MAX_IMAGE_LENGTH};
-use eif_cases::{seal, worked_image, zero_image, Answer, Layout, Section, VERSION_AT};
-use eif_check::{accepted_layout, any_image, any_image_of, Rng};
+use eif::{staged, DataLength, Image, Plan, MAX_IMAGE_LENGTH};
+use eif_cases::{put_checksum, worked_image, zero_image, Answer, Layout, Section, VERSION_AT};
+use eif_check::{accepted_layout, any_image, any_image_of, parts, Rng};
 
 const TIMES: u64 = 1_000;
 const TOO_LONG: Answer = (1, 0, 0);
 const NO_SECTION: Answer = (27, 0, 0);
-
-fn parts(refusal: Refusal) -> Answer {
-    (refusal.number(), refusal.index(), refusal.position())
-}
 
 /// The plan of an image with the length of one place changed, and the data joined, the replacement in its
 /// place.
@@ -200,7 +196,7 @@ fn the_example() {
     assert_eq!(staged_part(&base, 2, 0, 3).number, 27);
     let mut damaged = base.clone();
     damaged[VERSION_AT + 1] = 5;
-    seal(&mut damaged);
+    put_checksum(&mut damaged);
     let part = staged_part(&damaged, 2, 3, 3);
     assert_eq!((part.number, part.index, part.position), (4, 0, 4));
 }

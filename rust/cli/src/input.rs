@@ -1,7 +1,8 @@
 //! Reading inputs: files, and standard input by the name `-`.
 
 use crate::progress::Progress;
-use crate::status::{Status, Trouble};
+use crate::status::{complain, Status, Trouble};
+use crate::words;
 use eif::{Arriving, Reading, Reason, Refusal};
 use std::ffi::{OsStr, OsString};
 use std::fs::File;
@@ -11,6 +12,14 @@ use std::io::{self, Read};
 pub struct Input {
     pub name: OsString,
     pub bytes: Vec<u8>,
+}
+
+impl Input {
+    /// Says on standard error that the library refuses this input as an image.
+    pub fn refused(&self, refusal: &Refusal) -> Status {
+        complain(&words::refusal(&self.name, refusal));
+        Status::Refused
+    }
 }
 
 /// What the library's reader said of an input, while it arrived or when it had.

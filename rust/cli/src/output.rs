@@ -1,6 +1,6 @@
 //! Writing outputs: standard output, and files that are written whole or not at all.
 
-use crate::args::Args;
+use crate::args::{Args, Options};
 use crate::status::Trouble;
 use std::ffi::{OsStr, OsString};
 use std::fs::{self, File, OpenOptions};
@@ -11,6 +11,12 @@ use std::process;
 /// The options of a subcommand that writes an output.
 pub const VALUE: &str = "--output";
 pub const FLAG: &str = "--force";
+
+/// A subcommand that has these two options alone.
+pub const OPTIONS: Options = Options {
+    flags: &[FLAG],
+    values: &[VALUE],
+};
 
 /// Writes to standard output.
 pub fn print(bytes: &[u8]) -> Result<(), Trouble> {

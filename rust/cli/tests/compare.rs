@@ -3,7 +3,7 @@
 mod common;
 
 use common::{repository, Folder};
-use eif_cases::{seal, Layout, Section, OFFSETS_AT, SIZES_AT};
+use eif_cases::{put_checksum, Layout, Section, OFFSETS_AT, SIZES_AT};
 
 /// Puts two images there and compares them.
 fn compared(a: &Layout, b: &Layout) -> (i32, String) {
@@ -221,7 +221,7 @@ fn any_other_difference_is_told() {
     for at in [24, 543, OFFSETS_AT + 8 * 3, SIZES_AT + 8 * 31] {
         let mut image = a.image();
         image[at] = 1;
-        seal(&mut image);
+        put_checksum(&mut image);
         images.push(image);
     }
     let folder = Folder::new();

@@ -3,8 +3,9 @@
 mod common;
 
 use common::{repository, repository_text, Folder};
+use std::ffi::OsStr;
 use std::os::unix::fs::symlink;
-use std::path::Path;
+use std::path::{Path, PathBuf};
 use std::process::Command;
 
 /// The commands that a text shows after `$`, each with the lines shown under it.
@@ -71,50 +72,63 @@ fn the_readme_shows_what_is_printed() {
     assert_eq!(run_shown("README.md"), 1);
 }
 
-/// `FORMAT.md, Title` names a section that is there.
+/// The headings of a document's sections.
+fn titles(document: &str) -> Vec<&str> {
+    let headings = document.lines().filter(|line| line.starts_with("##"));
+    headings
+        .map(|line| line.trim_start_matches(['#', ' ']))
+        .collect()
+}
+
+/// The files below a folder whose names have one of these endings.
+fn files_below(folder: &Path, endings: &[&str]) -> Vec<PathBuf> {
+    let Ok(entries) = std::fs::read_dir(folder) else {
+        return Vec::new();
+    };
+    let mut files = Vec::new();
+    for path in entries.map(|entry| entry.unwrap().path()) {
+        let ending = path.extension().and_then(OsStr::to_str).unwrap_or_default();
+        if path.is_dir() && path.file_name() != Some(OsStr::new("target")) {
+            files.extend(files_below(&path, endings));
+        } else if endings.contains(&ending) {
+            files.push(path);
+        }
+    }
+    files
+}
+
+/// What stands behind each `FORMAT.md, ` of a text, where that is the start of a heading. A comment or a
+/// paragraph may break the line there.
+fn citations(text: &str) -> Vec<String> {
+    let joined = ["///", "//!", "//", "--", " *"]
+        .iter()
+        .fold(text.to_string(), |text, start| {
+            text.replace(&format!("\n{start}"), "")
+        })
+        .replace('\n', " ");
+    let parts = joined.split("FORMAT.md, ").skip(1);
+    parts
+        .map(|part| part.trim_start_matches('"').chars().take(40).collect())
+        .filter(|part: &String| part.starts_with(char::is_uppercase))
+        .collect()
+}
+
+/// A heading that is cited behind the name of FORMAT.md is there, in documents, header, Rust code and crates.
 #[test]
 fn citations_of_the_format_name_its_sections() {
-    let path = repository("docs/FORMAT.md");
-    let Ok(format) = std::fs::read_to_string(path) else {
+    let Ok(format) = std::fs::read_to_string(repository("docs/FORMAT.md")) else {
         eprintln!("skipped: no docs/FORMAT.md");
         return;
     };
-    let titles: Vec<&str> = format
-        .lines()
-        .filter_map(|line| line.strip_prefix("## "))
-        .collect();
-    let files = [
-        "include/eif.h",
-        "docs/MANUAL.md",
-        "rust/eif/src/arriving.rs",
-        "rust/eif/src/assembler.rs",
-        "rust/eif/src/image.rs",
-        "rust/eif/src/json.rs",
-        "rust/eif/src/numbers.rs",
-        "rust/eif/src/place.rs",
-        "rust/eif/src/plan.rs",
-        "rust/eif/src/refusal.rs",
-        "rust/eif/src/registers.rs",
-        "rust/eif/src/roll.rs",
-        "rust/eif/src/sha384.rs",
-        "rust/eif/src/sign1.rs",
-        "rust/eif/src/staged.rs",
-        "rust/eif/src/stream.rs",
-        "rust/cases/src/images.rs",
-    ];
-    for name in files {
-        let text = repository_text(name)
-            .replace("\n///", "")
-            .replace("\n//!", "")
-            .replace("\n *", "");
-        for citation in text.split("FORMAT.md, ").skip(1) {
-            let citation = citation.trim_start_matches('"');
-            if !citation.starts_with(char::is_uppercase) {
-                continue;
-            }
+    let titles = titles(&format);
+    let endings = ["md", "h", "c", "rs", "rt", "antt"];
+    let mut found = 0;
+    for file in files_below(&repository(""), &endings) {
+        for citation in citations(&std::fs::read_to_string(&file).unwrap()) {
             let known = titles.iter().any(|title| citation.starts_with(title));
-            let start: String = citation.chars().take(40).collect();
-            assert!(known, "{name}: FORMAT.md has no section {start}");
+            assert!(known, "{file:?}: FORMAT.md has no section {citation}");
+            found += 1;
         }
     }
+    assert!(found > 50, "{found} citations");
 }

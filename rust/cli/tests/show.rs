@@ -6,8 +6,8 @@ use common::json::{parse, Value};
 use common::{Ended, Folder};
 use eif::{Reason, MAX_IMAGE_LENGTH};
 use eif_cases::{
-    image_cases, image_of_length, located_images, located_rolls, put_number, roll_cases, seal,
-    worked_image, zero_image_start, Answer, Layout, Section, ACCEPTED, OFFSETS_AT,
+    image_cases, image_of_length, located_images, located_rolls, put_checksum, put_number,
+    roll_cases, worked_image, zero_image_start, Answer, Layout, Section, ACCEPTED, OFFSETS_AT,
 };
 use std::process::Command;
 
@@ -102,7 +102,7 @@ fn a_padded_image_is_refused() {
                 put_number(&mut padded, place, offset + (1 << 20));
             }
         }
-        seal(&mut padded);
+        put_checksum(&mut padded);
         folder.put("padded.eif", padded);
         let meaning = "section not packed, or bytes after the last section";
         let line = format!("padded.eif: refused 20 at {index} byte {byte}: {meaning}\n");

@@ -6,7 +6,7 @@ use common::json::{parse, Value};
 use common::signing::{certificate, has_openssl, is_genuine, sign};
 use common::{repository, Folder};
 use eif_cases::cbor::{encode, numbers, Item};
-use eif_cases::{sign1_example, worked_image, Layout, Section, Sign1Parts, SIGN1_ALGORITHMS};
+use eif_cases::{hex, sign1_example, worked_image, Layout, Section, Sign1Parts, SIGN1_ALGORITHMS};
 
 /// A kernel, a command line, two ramdisks and the signature section.
 fn image(section: &[u8]) -> Vec<u8> {
@@ -27,10 +27,6 @@ const DATA_AT: usize = 548 + 5 * 12 + 10 + 5 + 9 + 9;
 /// The registers of such an image.
 fn registers() -> [[u8; 48]; 3] {
     eif::registers(&image(&[])).unwrap().0.map(|r| r.0)
-}
-
-fn hex(bytes: &[u8]) -> String {
-    eif_cases::hex(bytes)
 }
 
 /// One map of a signature section.

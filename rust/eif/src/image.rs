@@ -1,23 +1,10 @@
 //! Reading an image.
 
 use crate::{
-    raw, Architecture, DataLength, FilePosition, Place, Plan, Refusal, Registers, SectionType,
-    SECTION_HEADER_LENGTH,
+    raw, Architecture, DataLength, FilePosition, Place, Plan, Refusal, Registers, Section,
+    SectionType, SECTION_HEADER_LENGTH,
 };
 use std::ops::Deref;
-
-/// A section of an accepted image.
-#[derive(Clone, Copy, Debug, Default, PartialEq, Eq)]
-pub struct Section {
-    /// Its type.
-    pub section_type: SectionType,
-    /// Its flags, carried and not judged.
-    pub flags: u16,
-    /// Where its data begin in the file; its header stands in the 12 bytes before.
-    pub position: FilePosition,
-    /// How many bytes of data it has.
-    pub length: DataLength,
-}
 
 impl Section {
     /// Where its header begins in the file, which is what the image's table says of it.
@@ -30,8 +17,6 @@ impl Section {
 #[derive(Clone, Debug, PartialEq, Eq)]
 pub struct Reading {
     answer: raw::Reading,
-    /// Those of the answer that are used.
-    sections: Vec<Section>,
 }
 
 /// An accepted image: its bytes, borrowed, and its [`Reading`], whose methods are the image's too.
@@ -106,12 +91,7 @@ impl Reading {
     /// The reading that a reader answered, or its refusal.
     pub(crate) fn accepted(answer: raw::Reading) -> Result<Reading, Refusal> {
         Refusal::check(answer.number, answer.index, answer.position)?;
-        let used = answer.sections.into_iter();
-        let used = used.take(usize::from(answer.count));
-        Ok(Reading {
-            answer,
-            sections: used.map(Section::from).collect(),
-        })
+        Ok(Reading { answer })
     }
 
     /// What the reader answered.
@@ -147,7 +127,7 @@ impl Reading {
 
     /// The sections in file order, 2 to 32 of them.
     pub fn sections(&self) -> &[Section] {
-        &self.sections
+        &self.answer.sections[..usize::from(self.answer.count)]
     }
 
     /// The ramdisk mark: bit i is one exactly when section i is a ramdisk.

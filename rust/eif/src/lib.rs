@@ -104,11 +104,12 @@ mod stream;
 
 pub use arriving::Arriving;
 pub use assembler::Assembler;
-pub use image::{read, read_strict, Image, Reading, Section};
+pub use image::{read, read_strict, Image, Reading};
 pub use numbers::{
     Architecture, DataLength, FilePosition, RollPosition, SectionType, StreamPosition, UnknownName,
 };
 pub use plan::{plan_length, write, write_to_vec, Place, Plan};
+pub use raw::Section;
 pub use refusal::{Reason, Refusal};
 pub use registers::{registers, Registers};
 pub use roll::{read_roll, roll_length, roll_to_vec, write_roll, Roll, RollRecord};

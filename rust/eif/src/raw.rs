@@ -24,11 +24,11 @@ pub const NO_RAMDISK: u32 = 32;
 pub struct Section {
     /// Its type.
     pub section_type: SectionType,
-    /// Its flags.
+    /// Its flags, carried and not judged.
     pub flags: u16,
     /// Always 0.
     pub reserved: u32,
-    /// Where its data begin in the file.
+    /// Where its data begin in the file; its header stands in the 12 bytes before.
     pub position: FilePosition,
     /// How many bytes of data it has.
     pub length: DataLength,
@@ -284,17 +284,6 @@ const _: () = {
     assert!(size_of::<Plan>() == 544 && offset_of!(Plan, places) == 32);
 };
 
-impl From<Section> for crate::Section {
-    fn from(section: Section) -> Self {
-        crate::Section {
-            section_type: section.section_type,
-            flags: section.flags,
-            position: section.position,
-            length: section.length,
-        }
-    }
-}
-
 impl From<RollRecord> for crate::RollRecord {
     fn from(record: RollRecord) -> Self {
         crate::RollRecord {
@@ -382,22 +371,34 @@ mod c {
     }
 }
 
+/// A call that takes one slice.
+fn of_slice<T>(call: unsafe extern "C" fn(*const u8, usize) -> T, bytes: &[u8]) -> T {
+    // SAFETY: pointer and length are those of a slice, here and below.
+    unsafe { call(bytes.as_ptr(), bytes.len()) }
+}
+
+type CopyCall = unsafe extern "C" fn(*const u8, usize, StreamPosition, *mut u8, usize) -> Answer;
+
+/// A call that copies from a stream.
+fn copied(call: CopyCall, image: &[u8], from: StreamPosition, out: &mut [u8]) -> Answer {
+    let (room, to) = (out.len(), out.as_mut_ptr());
+    // SAFETY: as for `write`.
+    unsafe { call(image.as_ptr(), image.len(), from, to, room) }
+}
+
 /// `eif_read`.
 pub fn read(image: &[u8]) -> Reading {
-    // SAFETY: pointer and length are those of a slice, here and below.
-    unsafe { c::eif_read(image.as_ptr(), image.len()) }
+    of_slice(c::eif_read, image)
 }
 
 /// `eif_read_strict`.
 pub fn read_strict(image: &[u8]) -> Reading {
-    // SAFETY: as for `read`.
-    unsafe { c::eif_read_strict(image.as_ptr(), image.len()) }
+    of_slice(c::eif_read_strict, image)
 }
 
 /// `eif_json_check`.
 pub fn json_check(text: &[u8]) -> JsonAnswer {
-    // SAFETY: as for `read`.
-    unsafe { c::eif_json_check(text.as_ptr(), text.len()) }
+    of_slice(c::eif_json_check, text)
 }
 
 /// `eif_arriving_begin`.
@@ -408,7 +409,7 @@ pub fn arriving_begin() -> Arriving {
 
 /// `eif_arriving_feed`.
 pub fn arriving_feed(state: Arriving, piece: &[u8], allowance: u64) -> ArrivingFed {
-    // SAFETY: as for `read`.
+    // SAFETY: as for `of_slice`.
     unsafe { c::eif_arriving_feed(state, piece.as_ptr(), piece.len(), allowance) }
 }
 
@@ -426,68 +427,38 @@ pub fn plan_length(plan: Plan) -> Answer {
 
 /// `eif_write`.
 pub fn write(plan: Plan, data: &[u8], out: &mut [u8]) -> Answer {
-    // SAFETY: as for `read`; `out` is borrowed for this call alone, so it overlaps no input.
+    // SAFETY: as for `of_slice`; `out` is borrowed for this call alone, so it overlaps no input.
     unsafe { c::eif_write(plan, data.as_ptr(), data.len(), out.as_mut_ptr(), out.len()) }
 }
 
 /// `eif_whole_length`.
 pub fn whole_length(image: &[u8]) -> Answer {
-    // SAFETY: as for `read`.
-    unsafe { c::eif_whole_length(image.as_ptr(), image.len()) }
+    of_slice(c::eif_whole_length, image)
 }
 
 /// `eif_boot_length`.
 pub fn boot_length(image: &[u8]) -> Answer {
-    // SAFETY: as for `read`.
-    unsafe { c::eif_boot_length(image.as_ptr(), image.len()) }
+    of_slice(c::eif_boot_length, image)
 }
 
 /// `eif_app_length`.
 pub fn app_length(image: &[u8]) -> Answer {
-    // SAFETY: as for `read`.
-    unsafe { c::eif_app_length(image.as_ptr(), image.len()) }
+    of_slice(c::eif_app_length, image)
 }
 
 /// `eif_copy_whole`.
 pub fn copy_whole(image: &[u8], from: StreamPosition, out: &mut [u8]) -> Answer {
-    // SAFETY: as for `write`.
-    unsafe {
-        c::eif_copy_whole(
-            image.as_ptr(),
-            image.len(),
-            from,
-            out.as_mut_ptr(),
-            out.len(),
-        )
-    }
+    copied(c::eif_copy_whole, image, from, out)
 }
 
 /// `eif_copy_boot`.
 pub fn copy_boot(image: &[u8], from: StreamPosition, out: &mut [u8]) -> Answer {
-    // SAFETY: as for `write`.
-    unsafe {
-        c::eif_copy_boot(
-            image.as_ptr(),
-            image.len(),
-            from,
-            out.as_mut_ptr(),
-            out.len(),
-        )
-    }
+    copied(c::eif_copy_boot, image, from, out)
 }
 
 /// `eif_copy_app`.
 pub fn copy_app(image: &[u8], from: StreamPosition, out: &mut [u8]) -> Answer {
-    // SAFETY: as for `write`.
-    unsafe {
-        c::eif_copy_app(
-            image.as_ptr(),
-            image.len(),
-            from,
-            out.as_mut_ptr(),
-            out.len(),
-        )
-    }
+    copied(c::eif_copy_app, image, from, out)
 }
 
 /// `eif_whole_sections`.
@@ -530,8 +501,7 @@ pub fn copy_sections(
 
 /// `eif_roll_length`.
 pub fn roll_length(image: &[u8]) -> Answer {
-    // SAFETY: as for `read`.
-    unsafe { c::eif_roll_length(image.as_ptr(), image.len()) }
+    of_slice(c::eif_roll_length, image)
 }
 
 /// `eif_roll_write`.
@@ -542,14 +512,12 @@ pub fn roll_write(image: &[u8], out: &mut [u8]) -> Answer {
 
 /// `eif_roll_read`.
 pub fn roll_read(roll: &[u8]) -> RollReading {
-    // SAFETY: as for `read`.
-    unsafe { c::eif_roll_read(roll.as_ptr(), roll.len()) }
+    of_slice(c::eif_roll_read, roll)
 }
 
 /// `eif_registers`.
 pub fn registers(image: &[u8]) -> RegistersAnswer {
-    // SAFETY: as for `read`.
-    unsafe { c::eif_registers(image.as_ptr(), image.len()) }
+    of_slice(c::eif_registers, image)
 }
 
 /// `eif_sha384_begin`.
@@ -560,7 +528,7 @@ pub fn sha384_begin() -> Sha384 {
 
 /// `eif_sha384_update`.
 pub fn sha384_update(state: Sha384, piece: &[u8]) -> Sha384Fed {
-    // SAFETY: as for `read`.
+    // SAFETY: as for `of_slice`.
     unsafe { c::eif_sha384_update(state, piece.as_ptr(), piece.len()) }
 }
 
@@ -583,17 +551,17 @@ impl Answer {
     }
 }
 
+/// The bytes of an answer.
+#[cfg(test)]
+fn bytes_of<T: Copy>(answer: &T) -> &[u8] {
+    // SAFETY: used for the answers alone, which have no padding, as asserted beside each.
+    unsafe { std::slice::from_raw_parts((answer as *const T).cast(), size_of::<T>()) }
+}
+
 #[cfg(test)]
 mod tests {
     use super::*;
     use std::ptr::{null, null_mut};
-    use std::slice;
-
-    /// The bytes of an answer.
-    fn bytes_of<T: Copy>(answer: &T) -> &[u8] {
-        // SAFETY: used below for the answers alone, which have no padding, as asserted above.
-        unsafe { slice::from_raw_parts((answer as *const T).cast(), size_of::<T>()) }
-    }
 
     /// A kernel and a command line of no bytes.
     fn smallest() -> Plan {

@@ -1,8 +1,8 @@
 //! The examples of docs/FORMAT.md through the twin.
 
 use eif_cases::{
-    image_cases, located_images, located_plans, located_rolls, roll_cases, stream_cases,
-    two_sections, worked_image, zero_image, Answer, ACCEPTED, WORKED_ROLL,
+    copy_cases, image_cases, located_images, located_plans, located_rolls, roll_cases,
+    stream_cases, two_sections, worked_image, zero_image, Answer, ACCEPTED, WORKED_ROLL,
 };
 use eif_twin::*;
 
@@ -180,15 +180,13 @@ fn stream_positions() {
 
 /// Tries a copier of `bytes` from every position into buffers of several lengths.
 fn check_copies(bytes: &[u8], copy: impl Fn(u64, &mut [u8]) -> Result<usize, Refusal>) {
-    for from in 0..=bytes.len() {
-        for room in 0..16 {
-            let copied = room.min(bytes.len() - from);
-            let mut expected = [0xaa; 16];
-            expected[..copied].copy_from_slice(&bytes[from..from + copied]);
-            let mut out = [0xaa; 16];
-            assert_eq!(copy(from as u64, &mut out[..room]), Ok(copied));
-            assert_eq!(out, expected);
-        }
+    for case in copy_cases(bytes) {
+        let mut out = [0xaa; 16];
+        assert_eq!(
+            copy(case.from as u64, &mut out[..case.room]),
+            Ok(case.copied)
+        );
+        assert_eq!(out, case.after);
     }
     let past = bytes.len() as u64 + 1;
     assert_eq!(copy(past, &mut [0; 16]), Err(refused(19, 0)));

@@ -4,12 +4,12 @@ use mathlib.Core.Path.{refl}
 use Rattle.octets.specs.Bytes.{beValue, field}
 use Rattle.crc32.specs.Crc.{crcFrom}
 use Rattle.eif.specs.Plan.{joinFrom}
-use Rattle.arriving.specs.State.{padded, keptFrom, headsOf, keptOf, stateOf}
+use Rattle.arriving.specs.State.{padded, keptFrom, headersOf, keptOf, stateOf}
 use Rattle.arriving.proofs.begin.Statement.{statement}
 use Rattle.arriving.proofs.begin.Tie as tie
 
 returns : tie.Need-returns
-unfolding stateOf keptOf padded headsOf crcFrom joinFrom keptFrom field beValue
+unfolding stateOf keptOf padded headersOf crcFrom joinFrom keptFrom field beValue
 returns c = refl
 
 pub begin-spec : {M : Type 1} → statement M

@@ -11,7 +11,7 @@ returns c =
     let k = c .before .before in
     let h = k .before .before .before .before .before in
     let a = h .before .before .before .before .args in
-    grown-is (a .state) (now (a .piece)) (h .copy .ensures) (k .keep-heads .ensures) (c .remainder .ensures)
+    grown-is (a .state) (now (a .piece)) (h .copy .ensures) (k .keep-headers .ensures) (c .remainder .ensures)
 
 pub grow-spec : {M : Type 1} → statement M
 grow-spec =

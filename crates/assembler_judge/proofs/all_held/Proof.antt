@@ -4,7 +4,7 @@ use mathlib.Core.Path.{_≡_, refl, _∙_}
 use native.Mathlib.Omega.{arith}
 use denote.Ref.{now}
 use lib.ListN.{length, drop}
-use Rattle.assembler_rules.specs.Rules.{allHeld}
+use Rattle.assembler.specs.Rules.{allHeld}
 use Rattle.assembler_judge.proofs.Tests.{held-step, held-gap, held-end}
 use Rattle.assembler_judge.proofs.all_held.Statement.{statement}
 use Rattle.assembler_judge.proofs.all_held.Tie as tie

@@ -9,12 +9,12 @@ use denote.Ref.{now}
 use lib.ListN.{length, take}
 use lib.Seq.{length-take-le}
 use Rattle.eif.specs.Numbers.{pieceMissing}
-use Rattle.eif.specs.Logic.{choose}
-use Rattle.assembler_rules.specs.Records.{piecesOf}
-use Rattle.assembler_rules.specs.Rules.{allHeld, shortFor}
-use Rattle.assembler_rules.specs.ByKind.{closeFault}
-use Rattle.assembler_rules.specs.declared.State.{State}
-use Rattle.assembler_rules.proofs.Faults.{long-enough, pick-yes, pick-no}
+use Rattle.octets.specs.Logic.{choose}
+use Rattle.assembler.specs.Records.{piecesOf}
+use Rattle.assembler.specs.Rules.{allHeld, shortFor}
+use Rattle.assembler.specs.ByKind.{closeFault}
+use Rattle.assembler.specs.declared.State.{State}
+use Rattle.assembler.proofs.Faults.{long-enough, pick-yes, pick-no}
 use Rattle.assembler_judge.proofs.close_fault.Statement.{statement}
 use Rattle.assembler_judge.proofs.close_fault.Tie as tie
 

@@ -5,8 +5,8 @@ use mathlib.Core.List.{List}
 use borrow.Author.Needs.{needs}
 use borrow.Author.Tests.{ne-eqb}
 use denote.Ref.{now}
-use Rattle.assembler_rules.specs.Records.{openKind, pieceKind, closeKind, sizeFits, formed}
-use Rattle.assembler_rules.proofs.Form.{formed-cut, formed-not, formed-fits}
+use Rattle.assembler.specs.Records.{openKind, pieceKind, closeKind, sizeFits, formed}
+use Rattle.assembler.proofs.Form.{formed-cut, formed-not, formed-fits}
 use Rattle.assembler_judge.proofs.is_formed.Statement.{statement}
 use Rattle.assembler_judge.proofs.is_formed.Tie as tie
 

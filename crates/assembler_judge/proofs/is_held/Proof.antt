@@ -6,7 +6,7 @@ use borrow.Author.Needs.{needs}
 use denote.Ref.{now}
 use lib.Dec.{eqb}
 use lib.ListN.{getD}
-use Rattle.assembler_rules.specs.Records.{pieceSize}
+use Rattle.assembler.specs.Records.{pieceSize}
 use Rattle.assembler_judge.proofs.is_held.Statement.{statement}
 use Rattle.assembler_judge.proofs.is_held.Tie as tie
 

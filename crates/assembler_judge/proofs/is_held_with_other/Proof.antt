@@ -8,8 +8,8 @@ use borrow.Rule.Slice.PartAt.{part-to-end}
 use denote.Ref.{now}
 use lib.ListN.{length}
 use Rattle.eif.specs.Roll.{recordHeadSize}
-use Rattle.assembler_rules.specs.Records.{numberSize}
-use Rattle.assembler_rules.proofs.Piece.{not-held, held-other}
+use Rattle.assembler.specs.Records.{numberSize}
+use Rattle.assembler.proofs.Piece.{not-held, held-other}
 use Rattle.assembler_judge.proofs.is_held_with_other.Statement.{statement}
 use Rattle.assembler_judge.proofs.is_held_with_other.Tie as tie
 

@@ -4,13 +4,13 @@ use mathlib.Core.Path.{_≡_, refl, _∙_}
 use native.Mathlib.Omega.{arith}
 use denote.Ref.{now}
 use lib.ListN.{length, drop}
-use Rattle.assembler_rules.specs.Rules.{same}
+use Rattle.octets.specs.Same.{sameBytes}
 use Rattle.assembler_judge.proofs.Tests.{same-lengths, same-step, same-differs, same-end}
 use Rattle.assembler_judge.proofs.is_same.Statement.{statement}
 use Rattle.assembler_judge.proofs.is_same.Tie as tie
 
 abbrev Inv-loop : tie.InvT-loop
-Inv-loop a b k₀ k = (k ≤ length a) × (same (drop k a) (drop k b) ≡ same a b)
+Inv-loop a b k₀ k = (k ≤ length a) × (sameBytes (drop k a) (drop k b) ≡ sameBytes a b)
 
 abbrev μ-loop : tie.MeasureT-loop
 μ-loop a b k₀ k = length a - k

@@ -2,7 +2,7 @@
 use mathlib.Core.Path.{_∙_}
 use borrow.Author.Needs.{needs}
 use borrow.Author.Tests.{lt-ltb, le-ltb}
-use Rattle.assembler_rules.specs.Rules.{shorterThanAtOpen}
+use Rattle.assembler.specs.Rules.{shorterThanAtOpen}
 use Rattle.assembler_judge.proofs.is_short.Statement.{statement}
 use Rattle.assembler_judge.proofs.is_short.Tie as tie
 

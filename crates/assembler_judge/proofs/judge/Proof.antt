@@ -8,11 +8,11 @@ use borrow.Author.Tests.{eq-eqb, ne-eqb, not-true, not-false}
 use denote.Ref.{now}
 use lib.Dec.{eqb}
 use lib.ListN.{length}
-use Rattle.assembler_rules.specs.Records.{openKind, pieceKind, kindIn, formed}
-use Rattle.assembler_rules.specs.ByKind.{openFault}
-use Rattle.assembler_rules.specs.declared.State.{State}
-use Rattle.assembler_rules.proofs.Form.{formed-piece, formed-kinds}
-use Rattle.assembler_rules.proofs.Faults.{fault-form, fault-open-twice, fault-open, fault-not-open, fault-piece, fault-close}
+use Rattle.assembler.specs.Records.{openKind, pieceKind, kindIn, formed}
+use Rattle.assembler.specs.ByKind.{openFault}
+use Rattle.assembler.specs.declared.State.{State}
+use Rattle.assembler.proofs.Form.{formed-piece, formed-kinds}
+use Rattle.assembler.proofs.Faults.{fault-form, fault-open-twice, fault-open, fault-not-open, fault-piece, fault-close}
 use Rattle.assembler_judge.proofs.judge.Statement.{statement}
 use Rattle.assembler_judge.proofs.judge.Tie as tie
 

@@ -2,7 +2,7 @@
 use Prim.Native.Nat.{_-_}
 use native.Mathlib.Omega.{arith}
 use borrow.Author.Needs.{needs}
-use Rattle.assembler_rules.specs.Records.{pieceSize}
+use Rattle.assembler.specs.Records.{pieceSize}
 use Rattle.assembler_judge.proofs.Tests.{grid-past, grid-off, grid-count}
 use Rattle.assembler_judge.proofs.off_grid.Statement.{statement}
 use Rattle.assembler_judge.proofs.off_grid.Tie as tie

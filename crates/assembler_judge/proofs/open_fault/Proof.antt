@@ -2,7 +2,7 @@
 use mathlib.Core.Path.{sym, _∙_}
 use borrow.Author.Needs.{needs}
 use borrow.Author.Tests.{lt-ltb, le-ltb}
-use Rattle.assembler_rules.specs.ByKind.{openFault}
+use Rattle.assembler.specs.ByKind.{openFault}
 use Rattle.assembler_judge.proofs.open_fault.Statement.{statement}
 use Rattle.assembler_judge.proofs.open_fault.Tie as tie
 

@@ -8,14 +8,14 @@ use borrow.Author.Needs.{needs}
 use denote.Ref.{now}
 use lib.ListN.{length, length-drop}
 use Rattle.eif.specs.Numbers.{bufferTooShort, pieceDiffers}
-use Rattle.eif.specs.Logic.{choose}
+use Rattle.octets.specs.Logic.{choose}
 use Rattle.eif.specs.Roll.{recordHeadSize}
-use Rattle.assembler_rules.specs.Records.{numberSize, numberIn, dataIn, offGrid, placeIn}
-use Rattle.assembler_rules.specs.Rules.{shortFor, heldWithOther}
-use Rattle.assembler_rules.specs.ByKind.{pieceFault}
-use Rattle.assembler_rules.specs.declared.State.{State}
-use Rattle.assembler_rules.proofs.Piece.{place-in, piece-in}
-use Rattle.assembler_rules.proofs.Faults.{grid-in, long-enough, pick-yes, pick-no}
+use Rattle.assembler.specs.Records.{numberSize, numberIn, dataIn, offGrid, placeIn}
+use Rattle.assembler.specs.Rules.{shortFor, heldWithOther}
+use Rattle.assembler.specs.ByKind.{pieceFault}
+use Rattle.assembler.specs.declared.State.{State}
+use Rattle.assembler.proofs.Piece.{place-in, piece-in}
+use Rattle.assembler.proofs.Faults.{grid-in, long-enough, pick-yes, pick-no}
 use Rattle.assembler_judge.proofs.piece_fault.Statement.{statement}
 use Rattle.assembler_judge.proofs.piece_fault.Tie as tie
 

@@ -1,7 +1,7 @@
 -- `assembler_judge::too_small` meets its contract: each return from the tests that led to it. Assumes nothing.
 use borrow.Author.Needs.{needs}
 use borrow.Author.Tests.{lt-ltb, le-ltb}
-use Rattle.assembler_rules.specs.Rules.{tooSmall}
+use Rattle.assembler.specs.Rules.{tooSmall}
 use Rattle.assembler_judge.proofs.too_small.Statement.{statement}
 use Rattle.assembler_judge.proofs.too_small.Tie as tie
 

@@ -3,7 +3,7 @@ use mathlib.Core.Path.{sym, _∙_}
 use native.Mathlib.Omega.{arith}
 use borrow.Author.Needs.{needs}
 use denote.Ref.{now}
-use Rattle.cose_rules.proofs.Numbers.{byte-one, byte-two}
+use Rattle.cose_lemmas.proofs.Numbers.{byte-one, byte-two}
 use Rattle.cose_reader.proofs.byte_at.Statement.{statement}
 use Rattle.cose_reader.proofs.byte_at.Tie as tie
 

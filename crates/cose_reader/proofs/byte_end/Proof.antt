@@ -3,7 +3,7 @@ use mathlib.Core.Path.{sym}
 use native.Mathlib.Omega.{arith}
 use borrow.Author.Needs.{needs}
 use denote.Ref.{now}
-use Rattle.cose_rules.proofs.Numbers.{byte-end-one, byte-end-two}
+use Rattle.cose_lemmas.proofs.Numbers.{byte-end-one, byte-end-two}
 use Rattle.cose_reader.proofs.byte_end.Statement.{statement}
 use Rattle.cose_reader.proofs.byte_end.Tie as tie
 

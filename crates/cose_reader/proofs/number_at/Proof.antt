@@ -3,7 +3,7 @@ use mathlib.Core.Path.{sym, _∙_}
 use native.Mathlib.Omega.{arith}
 use borrow.Author.Needs.{needs}
 use denote.Ref.{now}
-use Rattle.cose_rules.proofs.Numbers.{at-one, at-two, at-three, at-five, at-nine}
+use Rattle.cose_lemmas.proofs.Numbers.{at-one, at-two, at-three, at-five, at-nine}
 use Rattle.cose_reader.proofs.number_at.Statement.{statement}
 use Rattle.cose_reader.proofs.number_at.Tie as tie
 

@@ -3,7 +3,7 @@ use mathlib.Core.Path.{sym}
 use native.Mathlib.Omega.{arith}
 use borrow.Author.Needs.{needs}
 use denote.Ref.{now}
-use Rattle.cose_rules.proofs.Numbers.{end-one, end-two, end-three, end-five, end-nine}
+use Rattle.cose_lemmas.proofs.Numbers.{end-one, end-two, end-three, end-five, end-nine}
 use Rattle.cose_reader.proofs.number_end.Statement.{statement}
 use Rattle.cose_reader.proofs.number_end.Tie as tie
 

@@ -2,7 +2,7 @@
 use native.Mathlib.Omega.{arith}
 use borrow.Author.Needs.{needs}
 use denote.Ref.{now}
-use Rattle.cose_rules.proofs.Same.{claim-is, start-is}
+use Rattle.cose_lemmas.proofs.Same.{claim-is, start-is}
 use Rattle.cose_reader.proofs.parts_of.Statement.{statement}
 use Rattle.cose_reader.proofs.parts_of.Tie as tie
 

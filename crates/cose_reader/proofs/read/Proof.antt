@@ -10,7 +10,7 @@ use lib.ListN.{length}
 use Rattle.cose.specs.Sign1.{signatureSize}
 use Rattle.cose.specs.Read.{algorithmOf, signatureStart, claimOf, acceptedSign1}
 use Rattle.cose.specs.declared.Claim.{Claim}
-use Rattle.cose_rules.proofs.Same.{claim-algorithm, read-sized, read-other, read-same}
+use Rattle.cose_lemmas.proofs.Same.{claim-algorithm, read-sized, read-other, read-same}
 use Rattle.cose_reader.proofs.read.Statement.{statement}
 use Rattle.cose_reader.proofs.read.Tie as tie
 

@@ -8,7 +8,7 @@ use denote.Ref.{now}
 use lib.ListN.{length, take, set, length-set}
 use Rattle.cose.specs.Sign1.{registerSize}
 use Rattle.cose.specs.Read.{bytesFrom, bytesEnd}
-use Rattle.cose_rules.proofs.Numbers.{row-end-step, row-stored, row-end-done, row-done}
+use Rattle.cose_lemmas.proofs.Numbers.{row-end-step, row-stored, row-end-done, row-done}
 use Rattle.cose_reader.proofs.values.Statement.{statement}
 use Rattle.cose_reader.proofs.values.Tie as tie
 

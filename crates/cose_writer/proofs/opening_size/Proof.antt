@@ -2,7 +2,7 @@
 use mathlib.Core.Path.{sym, ap}
 use native.Mathlib.Omega.{arith}
 use lib.ListN.{length}
-use Rattle.cose_rules.proofs.Parts.{opening-first, opening-long}
+use Rattle.cose_lemmas.proofs.Parts.{opening-first, opening-long}
 use Rattle.cose_writer.proofs.opening_size.Statement.{statement}
 use Rattle.cose_writer.proofs.opening_size.Tie as tie
 

@@ -10,7 +10,7 @@ use Rattle.octets.specs.Over.{over}
 use Rattle.octets.proofs.Over.{length-over}
 use Rattle.cose.specs.Cbor.{unsigned, headBytes, numbersBytes}
 use Rattle.cose.specs.Sign1.{registerSize}
-use Rattle.cose_rules.proofs.Head.{numbers-size, size-end, numbers-over, numbers-done}
+use Rattle.cose_lemmas.proofs.Head.{numbers-size, size-end, numbers-over, numbers-done}
 use Rattle.cose_writer.proofs.put_values.Statement.{statement}
 use Rattle.cose_writer.proofs.put_values.Tie as tie
 

@@ -7,7 +7,7 @@ use native.Mathlib.Numerals.{add-one}
 use lib.ListN.{length, drop}
 use Rattle.cose.specs.Cbor.{numbersBytes}
 use Rattle.cose.specs.Sign1.{registerSize}
-use Rattle.cose_rules.proofs.Head.{numbers-size, size-end}
+use Rattle.cose_lemmas.proofs.Head.{numbers-size, size-end}
 use Rattle.cose_writer.proofs.value_size.Statement.{statement}
 use Rattle.cose_writer.proofs.value_size.Tie as tie
 

@@ -11,8 +11,8 @@ use Rattle.eif.specs.declared.Verdict.the-variants.{Accepted}
 use Rattle.eif.specs.Plan.{writtenFor}
 use Rattle.cose.specs.Sign1.{signatureSize, signatureFits, sign1Bytes}
 use Rattle.cose.specs.declared.Claim.{Claim}
-use Rattle.cose_rules.proofs.Parts.{size-bounds, sign-size}
-use Rattle.cose_rules.proofs.Answers.{fitting-yes, fitting-none, fitting-not, unfit, short, fine}
+use Rattle.cose_lemmas.proofs.Parts.{size-bounds, sign-size}
+use Rattle.cose_lemmas.proofs.Answers.{fitting-yes, fitting-none, fitting-not, unfit, short, fine}
 use Rattle.cose_writer.proofs.write.Statement.{statement}
 use Rattle.cose_writer.proofs.write.Tie as tie
 

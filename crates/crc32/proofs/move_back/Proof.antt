@@ -1,4 +1,4 @@
--- `crc32::move_back` meets its contract: the words passed are those n further on, and those to come are as they were.
+-- `crc32::move_back` meets its contract: the bytes passed are those n further on, and those to come are as they were.
 -- Assumes nothing.
 use Prim.Native.Nat.{ℕ, _+_, _-_, _<_, _≤_}
 use mathlib.Core.Path.{_≡_, refl}
@@ -11,7 +11,7 @@ use Rattle.crc32.proofs.move_back.Statement.{statement}
 use Rattle.crc32.proofs.move_back.Tie as tie
 
 abbrev Inv-loop : tie.InvT-loop
-Inv-loop n v₀ j₀ v j = (j ≤ 300) × ((k : ℕ) → k < j → getD v k 0 ≡ getD v₀ (n + k) 0) × ((k : ℕ) → j ≤ k → getD v k 0 ≡ getD v₀ k 0) × Words v
+Inv-loop n v₀ j₀ v j = (j ≤ 300) × ((k : ℕ) → k < j → getD v k 0 ≡ getD v₀ (n + k) 0) × ((k : ℕ) → j ≤ k → getD v k 0 ≡ getD v₀ k 0) × Words 8 1324 v
 
 abbrev μ-loop : tie.MeasureT-loop
 μ-loop n v₀ j₀ v j = 300 - j
@@ -28,7 +28,7 @@ loop-again c =
       omega arith,
       moved (a .v .now) (l .v) (a .n) (l .j) h (l .inv .1) (l .inv .2) m,
       stayed (a .v .now) (l .v) (a .n) (l .j) h (l .inv .1) (l .inv .2) m,
-      words-set (l .v) (l .j) (getD (l .v) (l .j + a .n) 0) (h .1 (l .j + a .n)) h,
+      words-set 8 1324 (l .v) (l .j) (getD (l .v) (l .j + a .n) 0) (h .1 (l .j + a .n)) h,
     )
 
 returns : tie.Need-returns Inv-loop μ-loop
@@ -44,8 +44,6 @@ move-back-spec =
     Inv-loop
     μ-loop
     loop-holds
-    (λ c. search needs)
-    (λ c. search needs)
     (λ c. search needs)
     (λ c. search needs)
     (λ c. search needs)

@@ -1,6 +1,6 @@
--- `crc32::update` meets its contract: so does each way, and two halves taken in one after the other are the whole.
+-- `crc32::update` meets its contract: so does each way, and two parts taken in one after the other are the whole.
 -- Assumes nothing.
-use Prim.Native.Nat.{ℕ, _-_, _/_}
+use Prim.Native.Nat.{ℕ, _-_}
 use mathlib.Core.Path.{sym, ap, _∙_}
 use native.Mathlib.Omega.{arith}
 use lib.ListN.{length, take, drop, length-take, length-drop, take-append-drop}
@@ -17,12 +17,12 @@ slice-aggregate-long c = simp length-take (omega arith)
 long-requires-2 : tie.Need-long-requires-2
 long-requires-2 c κs = simp length-take (omega arith)
 
-returns-3 : tie.Need-returns-3
-returns-3 c =
-    let a = c .before .before .before .before .before .before .before .args in
+returns-4 : tie.Need-returns-4
+returns-4 c =
+    let a = c .before .before .before .before .before .before .before .before .args in
     let s = a .bytes .now in
-    let h = length s / 2 in
-    c .long3 .ensures
+    let h : ℕ = 640 in
+    c .longer2 .ensures
     ∙ ap (λ (x : ℕ). crcFrom x (take (length s - h) (drop h s))) (c .before .before .long2 .ensures)
     ∙ ap (crcFrom (crcFrom (a .state) (take h s))) (take-all (length s - h) (drop h s) (simp length-drop (omega arith)))
     ∙ sym (crcFrom-append (a .state) (take h s) (drop h s))
@@ -36,10 +36,12 @@ update-spec =
     (λ c. search needs)
     (λ c κs. search needs)
     (λ c. search needs)
+    (λ c κs. search needs)
+    (λ c. search needs)
     slice-aggregate-long
     long-requires-2
     (λ c. search needs)
     (λ c. search needs)
     (λ c. search needs)
     (λ c κs. search needs)
-    returns-3)
+    returns-4)

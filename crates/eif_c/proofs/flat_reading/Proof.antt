@@ -5,6 +5,7 @@ use mathlib.Core.Path.{_≡_}
 use mathlib.Core.List.{List, map}
 use borrow.Author.Needs.{needs}
 use lib.Count.{ones, trailingZeros}
+use Rattle.eif.specs.Numbers.{placeCount}
 use Rattle.eif.specs.Answers.{numberOf, indexOf, positionOf}
 use Rattle.eif.specs.declared.Reading.{Reading}
 use Rattle.eif_c.specs.Flat.{flatSection, flatReading}
@@ -23,9 +24,9 @@ with r number index position count first sections =
       count = r .count;
       index = index;
       position = position;
-      memory = r .memory;
-      cpus = r .cpus;
-      ramdisks = r .ramdisks;
+      «default_mem» = r .«default_mem»;
+      «default_cpus» = r .«default_cpus»;
+      «ramdisk_mark» = r .«ramdisk_mark»;
       «ramdisk_count» = count;
       «first_ramdisk» = first;
       architecture = r .architecture;
@@ -34,7 +35,7 @@ with r number index position count first sections =
     }
 
 flat-is : (r : Reading) {number index position count first : ℕ} {sections : List EifSection} → number ≡ numberOf (r .verdict)
-    → index ≡ indexOf (r .verdict) → position ≡ positionOf (r .verdict) → count ≡ ones (r .ramdisks) → first ≡ trailingZeros 32 (r .ramdisks)
+    → index ≡ indexOf (r .verdict) → position ≡ positionOf (r .verdict) → count ≡ ones (r .«ramdisk_mark») → first ≡ trailingZeros placeCount (r .«ramdisk_mark»)
     → sections ≡ map flatSection (r .sections) → with r number index position count first sections ≡ flatReading r
 flat-is r a b p c d e = cc
 

@@ -7,14 +7,15 @@ use borrow.Author.Tests.{ltb-true, ltb-false}
 use denote.Ref.{now}
 use lib.Dec.{ltb}
 use Rattle.eif.specs.Rules.{allowedIn}
-use Rattle.eif.specs.Layout.{sectionHeaderSize, View, viewFrom, version, offset, size, start, end}
-use Rattle.eif_rules.proofs.View.{fault6, fault20, fault7, fault8, fault9, no-fault}
+use Rattle.eif.specs.Layout.{sectionHeaderSize, View, version, offset, size, start, end}
+use Rattle.eif_lemmas.proofs.View.{fault6, fault20, fault7, fault8, fault9, no-fault}
+use Rattle.eif_judge.specs.Kept.{viewFrom}
 use Rattle.eif_judge.proofs.entry_fault.Statement.{statement}
 use Rattle.eif_judge.proofs.entry_fault.Tie as tie
 
 module _ (c : tie.After-size-at) where
   abbrev view : View
-  view = viewFrom (now (c .before .before .before .before .args .header)) (now (c .before .before .before .before .args .heads)) (c .before .before .before .before .args .size)
+  view = viewFrom (now (c .before .before .before .before .args .header)) (now (c .before .before .before .before .args .headers)) (c .before .before .before .before .args .size)
 
   abbrev index : ℕ
   index = c .before .before .before .before .args .i

@@ -3,13 +3,14 @@
 use Prim.Native.Nat.{ℕ, suc, _+_, _*_, _-_, _^_, _<_, _≤_}
 use mathlib.Core.Path.{_≡_, ap, _∙_}
 use native.Mathlib.Omega.{arith}
-use native.Mathlib.Nat.{pow-suc, pow-le-pow-right, le-of-eq, lt-of-lt-of-le}
+use native.Mathlib.Nat.{pow-suc, pow-le-pow-right, lt-of-lt-of-le}
 use borrow.Author.Needs.{needs}
 use lib.Dec.{lit<}
+use lib.Pow.{pow-pos}
 use lib.ListN.{length, drop}
 use Rattle.eif.specs.Numbers.{placeCount}
 use Rattle.eif.specs.Reading.{markOf}
-use Rattle.eif_rules.proofs.Mark.{mark-none, mark-one, mark-other}
+use Rattle.eif_lemmas.proofs.Mark.{mark-one, mark-other}
 use Rattle.eif_judge.proofs.mark.Statement.{statement}
 use Rattle.eif_judge.proofs.mark.Tie as tie
 
@@ -20,10 +21,10 @@ doubled : (k : ℕ) {m : ℕ} → m < 2 ^ k → k < 32 → m * 2 + 1 < 2 ^ 32
 doubled k h g = lt-of-lt-of-le (twice k h) (pow-le-pow-right {n = 2} (lit< tt) {i = suc k} {j = 32} g)
 
 abbrev Inv-loop : tie.InvT-loop
-Inv-loop sections m₀ j₀ m j = (j ≤ placeCount) × (m < 2 ^ (placeCount - j)) × (m ≡ markOf (drop j sections))
+Inv-loop used sections m₀ j₀ m j = (j ≤ placeCount) × (m < 2 ^ (placeCount - j)) × (m ≡ markOf (drop j sections))
 
 abbrev μ-loop : tie.MeasureT-loop
-μ-loop sections m₀ j₀ m j = j
+μ-loop used sections m₀ j₀ m j = j
 
 loop-again : tie.Need-loop-again Inv-loop μ-loop
 loop-again c =
@@ -73,7 +74,7 @@ mark-spec =
     (tie.spec
     Inv-loop
     μ-loop
-    (λ c. (search needs, lit< tt, mark-none (c .args .t1) 32 (le-of-eq (search needs))))
+    (λ c. (c .pre .0, pow-pos (placeCount - c .args .used), c .pre .1))
     (λ c. omega arith)
     (λ c. omega arith)
     (λ c. omega arith)

@@ -10,55 +10,54 @@ use native.Mathlib.Nat.{sub-self, sub-zero}
 use native.Mathlib.Numerals.{add-one}
 use borrow.Author.Needs.{needs}
 use denote.Ref.{now}
-use lib.ListN.{getD, set, replicate}
+use lib.ListN.{getD, set}
 use Rattle.eif.specs.Numbers.{placeCount}
 use Rattle.eif.specs.Answers.{refuse}
 use Rattle.eif.specs.Rules.{orderFault, firstFault}
 use Rattle.eif.specs.Table.{filled}
-use Rattle.eif.specs.Layout.{View, viewFrom, start}
-use Rattle.eif.specs.Reading.{section, blankSection, entryRule, sectionRule}
-use Rattle.eif.specs.declared.Section.{Section}
+use Rattle.eif.specs.Layout.{View, start}
+use Rattle.eif.specs.Reading.{entryFault, sectionFault}
 use Rattle.eif.specs.declared.Verdict.{Verdict}
-use Rattle.eif_rules.proofs.Verdicts.{never, walk-stop, walk-on}
-use Rattle.eif_rules.proofs.Types.{order-none, order-kernel, order-lone, order-twice, order-more, order-more-ramdisk}
-use Rattle.eif_rules.proofs.Table.{filled-more, filled-at}
-use Rattle.eif_rules.proofs.View.{sound, fault-entry, fault-order}
+use Rattle.eif_lemmas.proofs.Verdicts.{never, walk-stop, walk-on}
+use Rattle.eif_lemmas.proofs.Types.{order-none, order-kernel, order-lone, order-twice, order-more, order-more-ramdisk}
+use Rattle.eif_lemmas.proofs.Table.{filled-more, filled-at}
+use Rattle.eif_lemmas.proofs.View.{sound, fault-entry, fault-order}
+use Rattle.eif_judge.specs.Kept.{viewFrom}
 use Rattle.eif_judge.proofs.walk.Statement.{statement}
 use Rattle.eif_judge.proofs.walk.Tie as tie
 
 abbrev Inv-loop : tie.InvT-loop
-Inv-loop header heads size count sections kinds begin i fault section kind j₀ j =
-    (j ≤ i) × (orderFault (viewFrom header heads size .kind) kind j ≡ orderFault (viewFrom header heads size .kind) kind i)
+Inv-loop header headers size count kinds begin i fault kind j₀ j =
+    (j ≤ i) × (orderFault (viewFrom header headers size .kind) kind j ≡ orderFault (viewFrom header headers size .kind) kind i)
 
 abbrev μ-loop : tie.MeasureT-loop
-μ-loop header heads size count sections kinds begin i fault section kind j₀ j = j
+μ-loop header headers size count kinds begin i fault kind j₀ j = j
 
 abbrev Inv-sections : tie.InvT-sections
-Inv-sections header heads size count sections₀ kinds₀ begin₀ i₀ sections kinds begin i =
-    (i ≤ count) × (begin ≡ start (viewFrom header heads size) i) × (sections ≡ filled (section (viewFrom header heads size)) blankSection placeCount i)
-    × (kinds ≡ filled (viewFrom header heads size .kind) 0 placeCount i)
-    × (firstFault (sectionRule (viewFrom header heads size)) (count - i) i ≡ firstFault (sectionRule (viewFrom header heads size)) count 0)
+Inv-sections header headers size count kinds₀ begin₀ i₀ kinds begin i =
+    (i ≤ count) × (begin ≡ start (viewFrom header headers size) i) × (kinds ≡ filled (viewFrom header headers size .kind) 0 placeCount i)
+    × (firstFault (sectionFault (viewFrom header headers size)) (count - i) i ≡ firstFault (sectionFault (viewFrom header headers size)) count 0)
 
 abbrev μ-sections : tie.MeasureT-sections
-μ-sections header heads size count sections₀ kinds₀ begin₀ i₀ sections kinds begin i = count - i
+μ-sections header headers size count kinds₀ begin₀ i₀ kinds begin i = count - i
 
 -- ---- at a section
 
 module _ (c : tie.At-sections Inv-loop μ-loop Inv-sections μ-sections) where
   abbrev view : View
-  view = viewFrom (now (c .before .before .before .before .args .header)) (now (c .before .before .before .before .args .heads)) (c .before .before .before .before .args .size)
+  view = viewFrom (now (c .before .before .before .args .header)) (now (c .before .before .before .args .headers)) (c .before .before .before .args .size)
 
   abbrev count : ℕ
-  count = c .before .before .before .before .args .count
+  count = c .before .before .before .args .count
 
   -- the rules' number at this section is the verdict on all
-  stop : (v : Verdict) (k : ℕ) → v ≡ refuse k (c .sections .i) → c .sections .i < count → (k ≡ 0 → ⊥) → sectionRule view (c .sections .i) ≡ k
-      → v ≡ firstFault (sectionRule view) count 0
-  stop v k r h z e = r ∙ walk-stop (sectionRule view) (c .sections .i) count k h z e ∙ c .sections .inv .4
+  stop : (v : Verdict) (k : ℕ) → v ≡ refuse k (c .sections .i) → c .sections .i < count → (k ≡ 0 → ⊥) → sectionFault view (c .sections .i) ≡ k
+      → v ≡ firstFault (sectionFault view) count 0
+  stop v k r h z e = r ∙ walk-stop (sectionFault view) (c .sections .i) count k h z e ∙ c .sections .inv .3
 
 -- ---- after the section was read
 
-module _ (c : tie.After-section-at Inv-loop μ-loop Inv-sections μ-sections) where
+module _ (c : tie.After-kind-at Inv-loop μ-loop Inv-sections μ-sections) where
   abbrev at : tie.At-sections Inv-loop μ-loop Inv-sections μ-sections
   at = c .before .before .before .before
 
@@ -66,27 +65,22 @@ module _ (c : tie.After-section-at Inv-loop μ-loop Inv-sections μ-sections) wh
   here = at .sections .i
 
   abbrev kind : ℕ
-  kind = c .section-at .result .kind
+  kind = c .kind-at .result
 
-  clean : entryRule (view at) here ≡ 0
+  clean : entryFault (view at) here ≡ 0
   clean = sym (c .before .before .entry-fault .ensures) ∙ c .before .if2 .left
 
   kind-here : kind ≡ view at .kind here
-  kind-here = ap (λ (x : Section). x .kind) (c .section-at .ensures)
+  kind-here = c .kind-at .ensures
 
-  fault-here : sectionRule (view at) here ≡ orderFault (view at .kind) kind here
+  fault-here : sectionFault (view at) here ≡ orderFault (view at .kind) kind here
   fault-here = fault-order (view at) here clean ∙ ap (λ (k : ℕ). orderFault (view at .kind) k here) (sym kind-here)
 
   -- the type in place j of the table
   earlier : (j : ℕ) → j < here → getD (at .sections .kinds) j 0 ≡ view at .kind j
   earlier j h =
-      ap (λ (l : List ℕ). getD l j 0) (at .sections .inv .3)
+      ap (λ (l : List ℕ). getD l j 0) (at .sections .inv .2)
       ∙ filled-at (view at .kind) 0 0 placeCount here j h (omega arith)
-
-section-at-requires : tie.Need-section-at-requires Inv-loop μ-loop Inv-sections μ-sections
-section-at-requires c κs =
-    let q = c .before .before .before in
-    (search needs, sound (view q) (q .sections .i) (sym (c .before .entry-fault .ensures) ∙ c .if2 .left) .ends)
 
 loop-again : tie.Need-loop-again Inv-loop μ-loop Inv-sections μ-sections
 loop-again c =
@@ -104,21 +98,17 @@ loop-again-2 c =
     let step = order-more (view (at q) .kind) (kind q) (l .j - 1) (c .before .if5 .left) (λ z. c .if7 .left (earlier q (l .j - 1) (omega arith) ∙ z)) in
     (omega arith, sym step ∙ ap (orderFault (view (at q) .kind) (kind q)) e ∙ l .inv .1)
 
-add-begin : tie.Need-add-begin Inv-loop μ-loop Inv-sections μ-sections
-add-begin c =
-    let q = c .before .before .before in
-    let e = q .section-at .ensures in
-    let b = sound (view (at q)) (here q) (clean q) .ends in
-    let g = at q .before .before .before .before .fits .size in
-    record { fits = rw e (omega (arith, b, g)) }
+end-at-requires : tie.Need-end-at-requires Inv-loop μ-loop Inv-sections μ-sections
+end-at-requires c κs =
+    let q = c .before .before in
+    (search needs, sound (view (at q)) (here q) (clean q) .ends)
 
 sections-again : tie.Need-sections-again Inv-loop μ-loop Inv-sections μ-sections
 sections-again c =
     let q = c .before .before .before in
     let l = at q .sections in
-    let e = q .section-at .ensures in
     let t = c .before .before .loop in
-    let few = at q .before .before .before .before .pre .1 in
+    let few = at q .before .before .before .pre .1 in
     let ok : orderFault (view (at q) .kind) (kind q) (here q) ≡ 0 =
     sym (t .inv .1)
     ∙ ⊎-elim
@@ -129,10 +119,9 @@ sections-again c =
     sym (ap (orderFault (view (at q) .kind) (kind q)) p) ∙ order-kernel (view (at q) .kind) (kind q) (t .j - 1) (w .1 .taken) (sym (earlier q (t .j - 1) (omega arith)) ∙ w .2 .taken))
     (c .before .if3 .came) in (
       omega arith,
-      ap (λ (x : Section). x .position .0 + x .length .0) e ∙ rw add-one refl,
-      ap₂ (λ (a : List Section) (x : Section). set a (l .i) x) (l .inv .2) e ∙ filled-more (section (view (at q))) blankSection placeCount (l .i) (omega (arith, few)) ∙ rw add-one refl,
-      ap₂ (λ (a : List ℕ) (x : ℕ). set a (l .i) x) (l .inv .3) (kind-here q) ∙ filled-more (view (at q) .kind) 0 placeCount (l .i) (omega (arith, few)) ∙ rw add-one refl,
-      sym (walk-on (sectionRule (view (at q))) (here q) (count (at q)) (omega arith) (fault-here q ∙ ok)) ∙ l .inv .4,
+      c .end-at .ensures ∙ rw add-one refl,
+      ap₂ (λ (a : List ℕ) (x : ℕ). set a (l .i) x) (l .inv .2) (kind-here q) ∙ filled-more (view (at q) .kind) 0 placeCount (l .i) (omega (arith, few)) ∙ rw add-one refl,
+      sym (walk-on (sectionFault (view (at q))) (here q) (count (at q)) (omega arith) (fault-here q ∙ ok)) ∙ l .inv .3,
     )
 
 returns : tie.Need-returns Inv-loop μ-loop Inv-sections μ-sections
@@ -140,7 +129,7 @@ unfolding firstFault
 returns c =
     let l = c .before .sections in
     let e : l .i ≡ count (c .before) = omega arith in
-    (rw (e, sub-self) at (l .inv .4), λ _. (rw e at (l .inv .2), rw e at (l .inv .3), rw e at (l .inv .1)))
+    (rw (e, sub-self) at (l .inv .3), λ _. (rw e at (l .inv .2), rw e at (l .inv .1)))
 
 returns-2 : tie.Need-returns-2 Inv-loop μ-loop Inv-sections μ-sections
 returns-2 c =
@@ -182,11 +171,10 @@ walk-spec =
     μ-loop
     Inv-sections
     μ-sections
+    (λ c. (search needs, refl, refl, rw sub-zero refl))
     (λ c κs. search needs)
-    (λ c. (search needs, refl, ap (replicate placeCount) (c .blank .ensures), refl, rw sub-zero refl))
     (λ c κs. search needs)
     (λ c κs. search needs)
-    section-at-requires
     (λ c. (search needs, refl))
     (λ c κs. search needs)
     (λ c. omega arith)
@@ -199,9 +187,7 @@ walk-spec =
     loop-again-2
     (λ c. omega arith)
     (λ c. omega arith)
-    (λ c. omega arith)
-    (λ c. omega arith)
-    add-begin
+    end-at-requires
     (λ c. omega arith)
     (λ c. omega arith)
     sections-again

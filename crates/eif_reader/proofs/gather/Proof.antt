@@ -11,15 +11,15 @@ use Rattle.octets.proofs.Over.{length-over}
 use Rattle.eif.specs.Numbers.{placeCount}
 use Rattle.eif.specs.Layout.{sectionHeaderSize, offsetAt}
 use Rattle.eif_reader.specs.Gathered.{Gathered}
-use Rattle.eif_reader.proofs.Heads.{gathered-next, gathered-same}
+use Rattle.eif_reader.proofs.Headers.{gathered-next, gathered-same}
 use Rattle.eif_reader.proofs.gather.Statement.{statement}
 use Rattle.eif_reader.proofs.gather.Tie as tie
 
 abbrev Inv-loop : tie.InvT-loop
-Inv-loop image heads₀ last i₀ heads i = (i ≤ placeCount) × (length heads ≡ sectionHeaderSize * placeCount) × Gathered image heads i
+Inv-loop image headers₀ last count i₀ headers i = (i ≤ count) × (length headers ≡ sectionHeaderSize * placeCount) × Gathered image headers i
 
 abbrev μ-loop : tie.MeasureT-loop
-μ-loop image heads₀ last i₀ heads i = placeCount - i
+μ-loop image headers₀ last count i₀ headers i = count - i
 
 returns : tie.Need-returns Inv-loop μ-loop
 returns c = λ i h l. absurd (omega arith)
@@ -27,19 +27,23 @@ returns c = λ i h l. absurd (omega arith)
 loop-again : tie.Need-loop-again Inv-loop μ-loop
 loop-again c =
     let l = c .before .before .before .loop in
-    let s = c .before .before .before .before .before .before .args .image .now in
+    let u = c .before .before .before .before in
+    let s = u .before .before .before .args .image .now in
+    let few : u .used .result ≤ placeCount = rw (u .used .ensures) (omega arith) in
     let offset = c .before .be64 .ensures in
     ⊎-elim
     (λ w.
     let n : c .before .be64 .result + sectionHeaderSize - c .before .be64 .result ≡ sectionHeaderSize = omega arith in
-    let e : c .if2 .heads ≡ over (l .heads) (sectionHeaderSize * l .i) (take sectionHeaderSize (drop (offsetAt s (l .i)) s)) =
-    w .5 ∙ w .3 .ensures ∙ ap₂ (λ (m at : ℕ). over (l .heads) (sectionHeaderSize * l .i) (take m (drop at s))) n offset in
-    (omega arith, ap length e ∙ length-over _ _ _ ∙ l .inv .1, gathered-next s (l .heads) (c .if2 .heads) (l .i) (l .inv .1) (omega arith) (l .inv .2) (omega (arith, w .0)) e))
-    (λ w. (omega arith, ap length (w .1) ∙ l .inv .1, gathered-same s (l .heads) (c .if2 .heads) (l .i) (l .inv .1) (omega arith) (l .inv .2) (omega (arith, w .0)) (w .1)))
+    let e : c .if2 .headers ≡ over (l .headers) (sectionHeaderSize * l .i) (take sectionHeaderSize (drop (offsetAt s (l .i)) s)) =
+    w .5 ∙ w .3 .ensures ∙ ap₂ (λ (m at : ℕ). over (l .headers) (sectionHeaderSize * l .i) (take m (drop at s))) n offset in
+    (omega arith, ap length e ∙ length-over _ _ _ ∙ l .inv .1, gathered-next s (l .headers) (c .if2 .headers) (l .i) (l .inv .1) (omega (arith, few)) (l .inv .2) (omega (arith, w .0)) e))
+    (λ w. (omega arith, ap length (w .1) ∙ l .inv .1, gathered-same s (l .headers) (c .if2 .headers) (l .i) (l .inv .1) (omega (arith, few)) (l .inv .2) (omega (arith, w .0)) (w .1)))
     (c .if2 .came)
 
 returns-2 : tie.Need-returns-2 Inv-loop μ-loop
-returns-2 c = λ i h l. c .before .loop .inv .2 i (omega arith) l
+returns-2 c =
+    let u = c .before .before in
+    λ i h l. c .before .loop .inv .2 i (omega (arith, u .used .ensures)) l
 
 pub gather-spec : {M : Type 1} → statement M
 gather-spec =
@@ -49,18 +53,19 @@ gather-spec =
     μ-loop
     returns
     (λ c. omega arith)
+    (λ c κs. search needs)
     (λ c. (omega arith, refl, λ i h l. absurd (omega arith)))
-    (λ c. omega arith)
-    (λ c. omega arith)
+    (λ c. let e = c .before .before .used .ensures in omega arith)
+    (λ c. let e = c .before .before .used .ensures in omega arith)
     (λ c κs. search needs)
     (λ c. search needs)
-    (λ c. omega arith)
+    (λ c. let e = c .before .before .before .before .before .used .ensures in omega arith)
     (λ c. search needs)
     (λ c. search needs)
     (λ c. search needs)
     (λ c. search needs)
     (λ c κs. search needs)
-    (λ c. omega arith)
+    (λ c. let e = c .before .before .before .before .used .ensures in omega arith)
     (λ c. omega arith)
     loop-again
     returns-2)

@@ -1,18 +1,17 @@
 -- `eif_registers::registers_staged` meets its contract: the refusal of the staged view and zeros, or the step over its sections. Assumes
 -- nothing.
 use Prim.Native.Nat.{ℕ}
-use mathlib.Core.Path.{_≡_, sym, ap, ap₂, _∙_}
+use mathlib.Core.Path.{_≡_, sym, ap, _∙_}
 use mathlib.Core.List.{List, [], _∷_}
 use denote.Ref.{now}
-use lib.ListN.{length, getD}
+use lib.ListN.{length}
 use Rattle.eif.specs.declared.Verdict.{Verdict}
-use Rattle.eif.specs.declared.Verdict.the-variants.{Accepted}
 use Rattle.staged.specs.Staged.{stagedVerdict}
 use Rattle.staged.specs.View.{heldBy}
 use Rattle.staged.proofs.Accept.{staged→}
 use Rattle.staged_view.proofs.View.{view-verdict, view-sections}
-use Rattle.eif_registers.specs.Rule.{imageRegisters, stepRegisters}
-use Rattle.eif_registers.specs.declared.Measurement.{Measurement}
+use Rattle.eif_registers.specs.Rule.{imageRegisters, noRegisters, registersFor, stepRegisters}
+use Rattle.eif_registers.proofs.Answers.{three}
 use Rattle.eif_registers.proofs.Staged.{staged-registers, staged-refused, staged-accepted}
 use borrow.Author.Needs.{needs}
 use Rattle.eif_registers.proofs.registers_staged.Statement.{statement}
@@ -34,25 +33,23 @@ module _ (c : tie.After-judge) where
 
 returns : tie.Need-returns
 returns c =
-    let w = c .before .before in
-    let t = c .enum-told2 .given in
-    rw (t .1) (staged-refused (base w) (given w) (k w) (t .0 .0) (sym (verdict-is w) ∙ t .1))
+    let w = c .before .before .before in
+    let t = c .before .enum-told2 .given in
+    c .refused .ensures ∙ ap (λ (v : Verdict). registersFor v noRegisters) (t .1)
+    ∙ staged-refused (base w) (given w) (k w) (t .0 .0) (sym (verdict-is w) ∙ t .1)
 
 returns-2 : tie.Need-returns-2
 unfolding imageRegisters
 returns-2 c =
-    let w = c .before .before .before .before .before .before .before in
-    let t = c .before .before .before .before .before .enum-told .given .1 in
+    let w = c .before .before .before .before .before in
+    let t = c .before .before .before .enum-told .given .1 in
     let s = base w in
     let r = given w in
     let ok = sym (verdict-is w) ∙ t in
     let listed = view-sections s (length r) (k w) (k w) (w .judge .result) (w .judge .ensures) t in
-    ap₂ (λ (v : Verdict) (l : List (List ℕ)). answer v l) t
-    (c .before .before .before .step-over .ensures ∙ ap (stepRegisters (heldBy s r)) listed ∙ staged-registers s r (k w) (staged→ s (length r) (k w) (k w) ok))
+    c .measured .ensures
+    ∙ ap three (c .before .step-over .ensures ∙ ap (stepRegisters (heldBy s r)) listed ∙ staged-registers s r (k w) (staged→ s (length r) (k w) (k w) ok))
     ∙ staged-accepted s r (k w) ok
-  where
-    answer : Verdict → List (List ℕ) → Measurement
-    answer v l = record { verdict = v; registers = record { 0 = getD l 0 [] } ∷ record { 0 = getD l 1 [] } ∷ record { 0 = getD l 2 [] } ∷ [] }
 
 pub registers-staged-spec : {M : Type 1} → statement M
 registers-staged-spec =
@@ -61,9 +58,8 @@ registers-staged-spec =
     (λ c κs. search needs)
     (λ c. search needs)
     (λ c. search needs)
+    (λ c κs. search needs)
     returns
     (λ c κs. search needs)
-    (λ c. search needs)
-    (λ c. search needs)
-    (λ c. search needs)
+    (λ c κs. search needs)
     returns-2)

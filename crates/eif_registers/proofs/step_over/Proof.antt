@@ -1,6 +1,6 @@
 -- `eif_registers::step_over` meets its contract: each state is that of its stream's sections. Assumes nothing.
 use Prim.Native.Nat.{ℕ, _≤_}
-use mathlib.Core.Path.{_≡_, refl, ap, ap₂, _∙_}
+use mathlib.Core.Path.{_≡_, ap, _∙_}
 use mathlib.Core.List.{List}
 use native.Mathlib.Omega.{arith}
 use borrow.Author.Needs.{needs}
@@ -8,17 +8,17 @@ use denote.Ref.{now}
 use lib.ListN.{length, take}
 use lib.Seq.{slice}
 use Rattle.eif.specs.Numbers.{placeCount}
-use Rattle.eif.specs.Stream.{streamSections, sectionsAnswer}
+use Rattle.eif.specs.Stream.{sectionsAnswer}
 use Rattle.eif.specs.declared.Section.{Section}
 use Rattle.eif.specs.declared.Stream.{Stream}
 use Rattle.eif.specs.declared.Stream.the-variants.{Whole, Boot, App}
 use Rattle.eif.specs.declared.StreamSections.{StreamSections}
-use Rattle.sha384.specs.State.{fresh, finished}
+use Rattle.sha384.specs.State.{initialState, digestFrom}
 use Rattle.sha384.specs.declared.State.{State}
 use Rattle.staged.specs.View.{heldBy}
 use Rattle.eif_registers.specs.Rule.{registerFrom, hashed, stepRegister, stepRegisters}
+use Rattle.eif_registers.proofs.Answers.{one-by-one}
 use Rattle.eif_registers.proofs.Hashed.{listed-are, listed-few}
-use Rattle.eif_registers.proofs.Answers.{three}
 use Rattle.eif_registers.proofs.step_over.Statement.{statement}
 use Rattle.eif_registers.proofs.step_over.Tie as tie
 
@@ -30,11 +30,11 @@ module _ (s : Section → List ℕ) (l : List Section) (size : length l ≡ plac
   few : list .count ≤ placeCount
   few = rw is (listed-few stream l size)
 
-  state : (x : State) → x ≡ hashed s fresh (take (list .count) (list .sections)) → registerFrom (finished x) ≡ stepRegister s l stream
+  state : (x : State) → x ≡ hashed s initialState (take (list .count) (list .sections)) → registerFrom (digestFrom x) ≡ stepRegister s l stream
   unfolding stepRegister
   state x e =
-      ap (λ (y : State). registerFrom (finished y))
-      (e ∙ ap (λ (a : StreamSections). hashed s fresh (take (a .count) (a .sections))) is ∙ ap (hashed s fresh) (listed-are stream l))
+      ap (λ (y : State). registerFrom (digestFrom y))
+      (e ∙ ap (λ (a : StreamSections). hashed s initialState (take (a .count) (a .sections))) is ∙ ap (hashed s initialState) (listed-are stream l))
 
 hash-both-requires : tie.Need-hash-both-requires
 hash-both-requires c κs =
@@ -64,7 +64,7 @@ returns c =
     let boot = c .before .before .before .before .before .before .before .before .before .before .sections2 in
     let app = c .before .before .before .before .before .before .before .before .before .sections3 in
     let a = c .before .before .before .before .before .take-sections .ensures ∙ ap (λ (x : State). hashed s x (slice 0 (app .result .count) (app .result .sections))) (c .before .before .before .before .before .before .new .ensures) in
-    three
+    one-by-one
     (c .before .before .register .ensures ∙ state s l n Whole (whole .result) (whole .ensures) (both .result .whole) (both .ensures .0))
     (c .before .register2 .ensures ∙ state s l n Boot (boot .result) (boot .ensures) (both .result .boot) (both .ensures .1))
     (c .register3 .ensures ∙ state s l n App (app .result) (app .ensures) (c .before .before .before .before .before .take-sections .result) a)

@@ -7,10 +7,9 @@ use native.Mathlib.Omega.{arith}
 use native.Mathlib.Numerals.{add-one}
 use lib.ListN.{set}
 use Rattle.eif.specs.Numbers.{placeCount}
-use Rattle.eif.specs.Plan.{packedAt}
-use Rattle.eif_rules.proofs.Table.{filled-more}
+use Rattle.eif.specs.Plan.{packedAt, offsetsOf}
+use Rattle.eif_lemmas.proofs.Table.{filled-more}
 use Rattle.plain_laws.proofs.Shape.{packed-suc, packed-zero}
-use Rattle.eif_writer.specs.Parts.{offsetsOf}
 use Rattle.eif_writer.proofs.Pieces.{ends-inside}
 use Rattle.eif_writer.proofs.offsets.Statement.{statement}
 use Rattle.eif_writer.proofs.offsets.Tie as tie
@@ -22,7 +21,6 @@ abbrev μ-loop : tie.MeasureT-loop
 μ-loop count places table₀ at₀ i₀ table at i = count - i
 
 loop-holds : tie.Need-loop-holds Inv-loop μ-loop
-unfolding offsetsOf
 loop-holds c = (omega arith, sym (packed-zero (c .args .t1)), refl)
 
 add-at : tie.Need-add-at Inv-loop μ-loop
@@ -36,7 +34,6 @@ add-at-2 c =
     omega arith
 
 loop-again : tie.Need-loop-again Inv-loop μ-loop
-unfolding offsetsOf
 loop-again c =
     let f = packedAt (c .before .before .args .t1) in
     let l = c .before .loop in

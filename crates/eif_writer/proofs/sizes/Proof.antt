@@ -6,9 +6,8 @@ use native.Mathlib.Omega.{arith}
 use native.Mathlib.Numerals.{add-one}
 use lib.ListN.{set}
 use Rattle.eif.specs.Numbers.{placeCount}
-use Rattle.eif.specs.Plan.{plannedSize}
-use Rattle.eif_rules.proofs.Table.{filled-more}
-use Rattle.eif_writer.specs.Parts.{sizesOf}
+use Rattle.eif.specs.Plan.{plannedSize, sizesOf}
+use Rattle.eif_lemmas.proofs.Table.{filled-more}
 use Rattle.eif_writer.proofs.sizes.Statement.{statement}
 use Rattle.eif_writer.proofs.sizes.Tie as tie
 
@@ -19,11 +18,9 @@ abbrev μ-loop : tie.MeasureT-loop
 μ-loop count places table₀ i₀ table i = count - i
 
 loop-holds : tie.Need-loop-holds Inv-loop μ-loop
-unfolding sizesOf
 loop-holds c = (omega arith, refl)
 
 loop-again : tie.Need-loop-again Inv-loop μ-loop
-unfolding sizesOf
 loop-again c =
     let f = plannedSize (c .before .before .args .t1) in
     let l = c .before .loop in

@@ -1,22 +1,34 @@
--- `octets::eight` meets its contract: eight bytes are two halves of four. Assumes nothing.
-use Prim.Native.Nat.{ℕ, _+_}
-use mathlib.Core.Path.{_≡_, sym, ap₂, _∙_}
+-- `octets::eight` meets its contract: the bytes one after the other, in the order in which they count. Assumes nothing.
+use mathlib.Core.Path.{sym, _∙_}
+use mathlib.Core.List.{List}
+use Prim.Native.Nat.{ℕ}
 use native.Mathlib.Omega.{arith}
-use borrow.Author.Needs.{needs}
 use denote.Ref.{now}
-use Rattle.octets.specs.Order.{joinOf}
-use Rattle.octets.proofs.Fields.{field-halves}
+use lib.Dec.{lit<}
+use lib.ListN.{take, drop, length-take, length-drop}
+use Rattle.octets.proofs.Fields.{field-is, none-so-far, all-so-far}
 use Rattle.octets.proofs.eight.Statement.{statement}
 use Rattle.octets.proofs.eight.Tie as tie
 
 returns : tie.Need-returns
 returns c =
-    let a = c .before .before .before .before .args in (
-      c .join .ensures .0 ∙ ap₂ (λ (x y : ℕ). joinOf (a .order) x y 4294967296) (c .before .before .four .ensures .0) (c .before .four2 .ensures .0)
-          ∙ sym (field-halves (a .order) 4 (a .at) (now (a .s)) (omega arith)),
-      c .join .ensures .1,
+    let a = c .before .before .before .before .before .before .before .before .before .args in
+    let s = now (a .s) in
+    let t : List ℕ = take 8 (drop (a .at) s) in (
+      c .next8 .ensures .1 ∙ all-so-far (a .order) t 8 (sym (simp (length-take, length-drop) (omega arith))) ∙ sym (field-is (a .order) 8 (a .at) s),
+      c .next8 .ensures .0,
     )
 
 pub eight-spec : {M : Type 1} → statement M
 eight-spec =
-    tie.close (tie.spec (λ c κs. search needs) (λ c. search needs) (λ c κs. search needs) (λ c κs. search needs) returns)
+    tie.close
+    (tie.spec
+    (λ c κs. (omega arith, omega arith, c .before .pre, lit< tt, none-so-far (c .before .args .order) (take 8 (drop (c .before .args .at) (now (c .before .args .s))))))
+    (λ c κs. (omega arith, omega arith, c .before .before .pre, c .next .ensures .0, c .next .ensures .1))
+    (λ c κs. (omega arith, omega arith, c .before .before .before .pre, c .next2 .ensures .0, c .next2 .ensures .1))
+    (λ c κs. (omega arith, omega arith, c .before .before .before .before .pre, c .next3 .ensures .0, c .next3 .ensures .1))
+    (λ c κs. (omega arith, omega arith, c .before .before .before .before .before .pre, c .next4 .ensures .0, c .next4 .ensures .1))
+    (λ c κs. (omega arith, omega arith, c .before .before .before .before .before .before .pre, c .next5 .ensures .0, c .next5 .ensures .1))
+    (λ c κs. (omega arith, omega arith, c .before .before .before .before .before .before .before .pre, c .next6 .ensures .0, c .next6 .ensures .1))
+    (λ c κs. (omega arith, omega arith, c .before .before .before .before .before .before .before .before .pre, c .next7 .ensures .0, c .next7 .ensures .1))
+    returns)

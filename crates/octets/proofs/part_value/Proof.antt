@@ -8,9 +8,9 @@ use borrow.Author.Needs.{needs}
 use denote.Ref.{now}
 use lib.Dec.{lit<}
 use lib.ListN.{length, getD, take, drop, length-take, length-drop}
-use Rattle.octets.specs.Order.{fieldOf, placeOf}
+use Rattle.octets.specs.Order.{fieldOf, bytePlace, soFar}
 use Rattle.octets.proofs.Value.{digit-lt, digit-fits, pow-le}
-use Rattle.octets.proofs.Fields.{field-is, soFar, none-so-far, all-so-far, one-more, part-byte}
+use Rattle.octets.proofs.Fields.{field-is, none-so-far, all-so-far, one-more, part-byte}
 use Rattle.octets.proofs.part_value.Statement.{statement}
 use Rattle.octets.proofs.part_value.Tie as tie
 
@@ -58,7 +58,7 @@ module _ (c : tie.After-wide Inv-loop μ-loop) where
       let h : k < length bytes = rw counted (omega arith) in
       let e = ap₂ (λ (x y : ℕ). x * 256 + y) (c .before .before .before .before .loop .inv .2)
       (c .wide .ensures ∙ sym (part-byte (a .width) (a .at) (i .result) (now (a .s)) (omega arith))
-      ∙ ap (λ (n : ℕ). getD bytes n 0) (i .ensures .0 ∙ ap (λ (n : ℕ). placeOf (a .order) n k) (sym counted))) in
+      ∙ ap (λ (n : ℕ). getD bytes n 0) (i .ensures .0 ∙ ap (λ (n : ℕ). bytePlace (a .order) n k) (sym counted))) in
       e ∙ sym (one-more (a .order) bytes k h)
 
 add-v : tie.Need-add-v Inv-loop μ-loop

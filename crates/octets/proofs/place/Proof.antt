@@ -2,7 +2,7 @@
 use mathlib.Core.Path.{_≡_, sym, ap, _∙_}
 use native.Mathlib.Omega.{arith}
 use borrow.Author.Needs.{needs}
-use Rattle.octets.specs.Order.{placeOf}
+use Rattle.octets.specs.Order.{bytePlace}
 use Rattle.octets.specs.declared.Order.{Order}
 use Rattle.octets.proofs.place.Statement.{statement}
 use Rattle.octets.proofs.place.Tie as tie
@@ -10,7 +10,7 @@ use Rattle.octets.proofs.place.Tie as tie
 returns-2 : tie.Need-returns-2
 returns-2 c =
     let a = c .before .before .args in
-    (sym (ap (λ (o : Order). placeOf o (a .count) (a .k)) (c .enum-told2 .given .1)), omega arith)
+    (sym (ap (λ (o : Order). bytePlace o (a .count) (a .k)) (c .enum-told2 .given .1)), omega arith)
 
 pub place-spec : {M : Type 1} → statement M
 place-spec =

@@ -8,7 +8,7 @@ use denote.Ref.{now}
 use lib.ListN.{length}
 use Rattle.octets.specs.Bytes.{leField}
 use Rattle.eif.specs.Roll.{recordHeadSize, flagsType}
-use Rattle.eif_rules.proofs.Flags.{zero-flags}
+use Rattle.eif_lemmas.proofs.Flags.{zero-flags}
 use Rattle.roll_reader.proofs.Flags.{flags-head-cut, flags-kind, flags-size, flags-cut}
 use Rattle.roll_reader.proofs.flags_fault.Statement.{statement}
 use Rattle.roll_reader.proofs.flags_fault.Tie as tie

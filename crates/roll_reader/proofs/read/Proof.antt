@@ -8,7 +8,7 @@ use borrow.Author.Needs.{needs}
 use denote.Ref.{now}
 use lib.ListN.{length, length-take, length-drop}
 use Rattle.eif.specs.Roll.{flagsRecordSize, flagsFault, refusedRoll}
-use Rattle.eif_rules.proofs.Flags.{flags-zero}
+use Rattle.eif_lemmas.proofs.Flags.{flags-zero}
 use Rattle.roll_reader.proofs.Flags.{read-flags-refused, read-on}
 use Rattle.roll_reader.proofs.read.Statement.{statement}
 use Rattle.roll_reader.proofs.read.Tie as tie

@@ -5,8 +5,7 @@ use mathlib.Core.Path.{_≡_, sym, _∙_}
 use mathlib.Core.List.{List}
 use native.Mathlib.Omega.{arith}
 use denote.Ref.{now}
-use Rattle.eif.specs.Numbers.{oldestVersion}
-use Rattle.eif.specs.Rules.{missing}
+use Rattle.eif.specs.Rules.{bootMissing}
 use Rattle.eif.specs.Roll.{recordKind}
 use Rattle.roll_reader.proofs.Records.{kept-length, kept-missing}
 use Rattle.roll_reader.proofs.Ending.{image-size, roll-more, roll-missing, roll-long, roll-good}
@@ -16,17 +15,17 @@ use Rattle.roll_reader.proofs.roll_fault.Tie as tie
 
 -- ---- the rule 12, as it was asked
 
-module _ (c : tie.After-lacks) where
+module _ (c : tie.After-lacks-boot) where
   abbrev roll : List ℕ
   roll = now (c .before .before .before .before .before .args .rest)
 
   abbrev n : ℕ
   n = c .before .before .before .before .before .args .n
 
-  missing-is : missing (recordKind roll) oldestVersion n ≡ c .lacks .result
+  missing-is : bootMissing (recordKind roll) n ≡ c .lacks-boot .result
   missing-is =
       let p = c .before .before .before .before .before in
-      sym (c .lacks .ensures ∙ kept-missing roll (now (p .args .kinds)) n (p .pre .0) (p .pre .1 .1 .1) oldestVersion)
+      sym (c .lacks-boot .ensures ∙ kept-missing roll (now (p .args .kinds)) n (p .pre .0) (p .pre .1 .1 .1))
 
 add-if1 : tie.Need-add-if1
 add-if1 c = search needs
@@ -36,13 +35,13 @@ returns c =
     let p = c .before .before .before in
     roll-more (now (p .args .rest)) (p .args .n) (omega arith)
 
-slice-aggregate-lacks : tie.Need-slice-aggregate-lacks
-slice-aggregate-lacks c =
+slice-aggregate-lacks-boot : tie.Need-slice-aggregate-lacks-boot
+slice-aggregate-lacks-boot c =
     let p = c .before .before .before .before in
     kept-length (now (p .args .rest)) (now (p .args .kinds)) (p .args .n) (p .pre .0) (p .pre .1 .1 .1)
 
-lacks-requires : tie.Need-lacks-requires
-lacks-requires c κs = search needs
+lacks-boot-requires : tie.Need-lacks-boot-requires
+lacks-boot-requires c κs = search needs
 
 returns-2 : tie.Need-returns-2
 returns-2 c =
@@ -77,8 +76,8 @@ roll-fault-spec =
     (tie.spec
     add-if1
     returns
-    slice-aggregate-lacks
-    lacks-requires
+    slice-aggregate-lacks-boot
+    lacks-boot-requires
     returns-2
     sub-size
     mul-size

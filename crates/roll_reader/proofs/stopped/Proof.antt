@@ -9,7 +9,7 @@ use borrow.Author.Tests.{eq-eqb, ne-eqb}
 use lib.Dec.{eqb}
 use lib.ListN.{replicate}
 use Rattle.eif.specs.Numbers.{placeCount, wrongCount}
-use Rattle.eif.specs.Logic.{choose}
+use Rattle.octets.specs.Logic.{choose}
 use Rattle.eif.specs.Answers.{refuseAt}
 use Rattle.eif.specs.Roll.{flagsRecordSize}
 use Rattle.eif.specs.declared.RollRecord.{RollRecord}

@@ -12,7 +12,7 @@ use lib.ListN.{length, replicate}
 use Rattle.eif.specs.Numbers.{placeCount, recordCut}
 use Rattle.eif.specs.Table.{filled}
 use Rattle.eif.specs.Roll.{recordHeadSize, endType, recordAt, recordKind, listedAt, blankRecord, headFault, bodyFault, endFrom}
-use Rattle.eif_rules.proofs.Table.{length-filled, filled-next}
+use Rattle.eif_lemmas.proofs.Table.{length-filled, filled-next}
 use Rattle.roll_reader.specs.Walk.{recordFault, stoppedAt}
 use Rattle.roll_reader.proofs.Records.{kind-here, record-next, listed-here, head-cut, head-clean, by-body, body-fits}
 use Rattle.roll_reader.proofs.Ending.{walk-head, walk-end, walk-stop, walk-on}

@@ -1,11 +1,9 @@
 -- `roll_writer::length` meets its contract: the image's refusal, or the size of the roll of its sections. Assumes nothing.
-use Prim.Native.Nat.{ℕ}
-use mathlib.Core.Path.{sym, ap₂, _∙_}
-use mathlib.Core.List.{List}
-use native.Mathlib.Omega.{arith}
+use mathlib.Core.Path.{refl, sym, ap, _∙_}
 use borrow.Author.Needs.{needs}
 use denote.Ref.{now}
-use Rattle.eif.specs.declared.Verdict.{Verdict}
+use Rattle.eif.specs.declared.Verdict.the-variants.{Accepted}
+use Rattle.roll_writer.specs.Write.{sizeFor}
 use Rattle.roll_writer.proofs.Reading.{verdict-is, ok, length-is, bounded}
 use Rattle.roll_writer.proofs.Answers.{written, length-refused, length-accepted}
 use Rattle.roll_writer.proofs.length.Statement.{statement}
@@ -18,24 +16,17 @@ returns c =
     let t = c .enum-told2 .given in
     rw (t .1) (length-refused s (t .0 .0) (sym (verdict-is s (w .read .result) (w .read .ensures)) ∙ t .1))
 
-roll-size-requires : tie.Need-roll-size-requires
-roll-size-requires c κs =
+length-of-requires : tie.Need-length-of-requires
+length-of-requires c κs =
     let w = c .before .before .before in
     bounded (now (w .before .before .args .image)) (w .read .result) (w .read .ensures) (c .enum-told .given .1)
-
-add-whole : tie.Need-add-whole
-add-whole c =
-    let w = c .before .before .before .before in
-    let e = c .roll-size .ensures in
-    let b = bounded (now (w .before .before .args .image)) (w .read .result) (w .read .ensures) (c .before .enum-told .given .1) in
-    omega arith
 
 returns-2 : tie.Need-returns-2
 returns-2 c =
     let w = c .before .before .before .before in
     let s = now (w .before .before .args .image) in
     let t = c .before .enum-told .given .1 in
-    ap₂ (λ (v : Verdict) (m : ℕ). written v m) t (length-is s (w .read .result) (w .read .ensures) t (c .roll-size .result) (c .roll-size .ensures))
+    c .length-of .ensures ∙ ap (written Accepted) (length-is s (w .read .result) (w .read .ensures) t (sizeFor (w .read .result .sections)) refl)
     ∙ length-accepted s (ok s (w .read .result) (w .read .ensures) t)
 
 pub length-spec : {M : Type 1} → statement M
@@ -46,6 +37,5 @@ length-spec =
     (λ c. search needs)
     (λ c. search needs)
     returns
-    roll-size-requires
-    add-whole
+    length-of-requires
     returns-2)

@@ -1,11 +1,11 @@
 -- `roll_writer::length_staged` meets its contract: the view's refusal, or the size of the roll of its sections. Assumes nothing.
 use Prim.Native.Nat.{ℕ, _^_, _<_}
-use mathlib.Core.Path.{_≡_, sym, ap₂, _∙_}
+use mathlib.Core.Path.{refl, sym, ap, _∙_}
 use mathlib.Core.List.{List}
-use native.Mathlib.Omega.{arith}
 use borrow.Author.Needs.{needs}
 use denote.Ref.{now}
-use Rattle.eif.specs.declared.Verdict.{Verdict}
+use Rattle.eif.specs.declared.Verdict.the-variants.{Accepted}
+use Rattle.roll_writer.specs.Write.{sizeFor}
 use Rattle.roll_writer.proofs.Staging.{verdict-is, ok, bounded, length-is}
 use Rattle.roll_writer.proofs.Answers.{written, staged-length-refused, staged-length-accepted}
 use Rattle.roll_writer.proofs.length_staged.Statement.{statement}
@@ -33,24 +33,18 @@ returns c =
     (staged-length-refused (base w) (given w) (k w) (t .0 .0)
     (sym (verdict-is (base w) (given w) (k w) (w .judge .result) (w .judge .ensures)) ∙ t .1))
 
-roll-size-requires : tie.Need-roll-size-requires
-roll-size-requires c κs =
+length-of-requires : tie.Need-length-of-requires
+length-of-requires c κs =
     let w = c .before .before .before in
     bounded (base w) (given w) (k w) (w .judge .result) (w .judge .ensures) (c .enum-told .given .1)
-
-add-whole : tie.Need-add-whole
-add-whole c =
-    let w = c .before .before .before .before in
-    let e = c .roll-size .ensures in
-    let b = bounded (base w) (given w) (k w) (w .judge .result) (w .judge .ensures) (c .before .enum-told .given .1) in
-    omega arith
 
 returns-2 : tie.Need-returns-2
 returns-2 c =
     let w = c .before .before .before .before in
     let t = c .before .enum-told .given .1 in
-    ap₂ (λ (v : Verdict) (m : ℕ). written v m) t
-    (length-is (base w) (given w) (k w) (w .judge .result) (w .judge .ensures) t (flags-fit w) (c .roll-size .result) (c .roll-size .ensures))
+    c .length-of .ensures
+    ∙ ap (written Accepted)
+    (length-is (base w) (given w) (k w) (w .judge .result) (w .judge .ensures) t (flags-fit w) (sizeFor (w .judge .result .sections)) refl)
     ∙ staged-length-accepted (base w) (given w) (k w) (ok (base w) (given w) (k w) (w .judge .result) (w .judge .ensures) t)
 
 pub length-staged-spec : {M : Type 1} → statement M
@@ -61,6 +55,5 @@ length-staged-spec =
     (λ c. search needs)
     (λ c. search needs)
     returns
-    roll-size-requires
-    add-whole
+    length-of-requires
     returns-2)

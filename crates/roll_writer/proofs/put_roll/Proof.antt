@@ -14,7 +14,7 @@ use Rattle.eif.specs.Numbers.{placeCount}
 use Rattle.eif.specs.Reading.{blankSection}
 use Rattle.eif.specs.Roll.{headOf, endType, flagsRecordSize}
 use Rattle.staged.specs.View.{heldBy}
-use Rattle.roll_writer.specs.Write.{partOf, rollFor, sizeFor}
+use Rattle.roll_writer.specs.Write.{rollPart, rollFor, sizeFor}
 use Rattle.roll_writer.proofs.Steps.{size-step, size-end, holds-at, roll-over, roll-end}
 use Rattle.roll_writer.proofs.put_roll.Statement.{statement}
 use Rattle.roll_writer.proofs.put_roll.Tie as tie
@@ -50,7 +50,7 @@ loop-again c =
     let e = size-step t (l .i) (omega arith) in
     rw add-one (
       omega arith,
-      ap length (p .1) ∙ length-over (l .out) (l .at) (partOf s (getD t (l .i) blankSection)) ∙ l .inv .1,
+      ap length (p .1) ∙ length-over (l .out) (l .at) (rollPart s (getD t (l .i) blankSection)) ∙ l .inv .1,
       omega arith,
       ap₂ (λ (d : List ℕ) (n : ℕ). over d n (rollFor s (drop (suc (l .i)) t))) (p .1) (p .0)
           ∙ roll-over t (l .i) (omega arith) s (start .pre .0) (l .out) (l .at) ∙ l .inv .3,

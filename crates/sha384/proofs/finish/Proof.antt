@@ -6,7 +6,7 @@ use mathlib.Core.Path.{_≡_, refl, sym, ap, _∙_}
 use mathlib.Core.List.{List}
 use lib.ListN.{length, take}
 use Rattle.sha384_block.specs.Fips.{digestOf, zerosFor}
-use Rattle.sha384.specs.State.{takeBytes, fillingOf, finished}
+use Rattle.sha384.specs.State.{takeBytes, fillingOf, digestFrom}
 use Rattle.sha384.specs.declared.Filling.{Filling}
 use borrow.Author.Needs.{needs}
 use Rattle.sha384.proofs.finish.Statement.{statement}
@@ -22,7 +22,7 @@ slice-aggregate-take-bytes c =
     sym (length-take-le (z .result + 17) (c .before .padding-of .result) (omega (arith, z .ensures)))
 
 returns : tie.Need-returns
-unfolding finished
+unfolding digestFrom
 returns c =
     let st = c .before .before .before .before .before .before .before .before .args .state in
     let y = c .before .before .take-bytes .ensures ∙ ap (takeBytes (fillingOf st)) (c .before .before .before .before .padding-of .ensures .1) in

@@ -2,14 +2,14 @@
 use Prim.Native.Nat.{ℕ}
 use mathlib.Core.Path.{ap₂}
 use mathlib.Core.List.{List}
-use Rattle.sha384.specs.State.{fresh}
+use Rattle.sha384.specs.State.{initialState}
 use Rattle.sha384.specs.declared.State.{State}
 use borrow.Author.Needs.{needs}
 use Rattle.sha384.proofs.new.Statement.{statement}
 use Rattle.sha384.proofs.new.Tie as tie
 
 returns : tie.Need-returns
-unfolding fresh
+unfolding initialState
 returns c = ap₂ (λ (w b : List ℕ). with w b) (c .before .initial .ensures) (c .no-bytes .ensures)
   where
     with : List ℕ → List ℕ → State

@@ -10,12 +10,12 @@ use Rattle.staged_view.proofs.held.Tie as tie
 returns : tie.Need-returns
 returns c =
     let a = c .before .before .before .before .args in
-    c .section-data .ensures ∙ sym (held-base (now (a .base)) (now (a .replacement)) (a .x) (c .before .if1 .taken))
+    c .section-data .ensures .0 ∙ sym (held-base (now (a .base)) (now (a .replacement)) (a .x) (c .before .if1 .taken))
 
 returns-2 : tie.Need-returns-2
 returns-2 c =
     let a = c .before .before .before .before .before .args in
-    c .section-data2 .ensures ∙ ap (dataOf (now (a .replacement))) (c .before .moved-to .ensures)
+    c .section-data2 .ensures .0 ∙ ap (dataOf (now (a .replacement))) (c .before .moved-to .ensures)
     ∙ sym (held-after (now (a .base)) (now (a .replacement)) (a .x) (c .before .before .if1 .left))
 
 pub held-spec : {M : Type 1} → statement M

@@ -12,8 +12,8 @@ use Rattle.eif.specs.Reading.{verdictOf, readImage}
 use Rattle.eif.specs.declared.Reading.{Reading}
 use Rattle.eif.specs.declared.Section.{Section}
 use Rattle.eif.specs.declared.Verdict.the-variants.{Accepted}
-use Rattle.eif_rules.proofs.Reading.{reading-verdict}
-use Rattle.eif_rules.proofs.Accept.{passes}
+use Rattle.eif_lemmas.proofs.Reading.{reading-verdict}
+use Rattle.eif_lemmas.proofs.Accept.{passes}
 use Rattle.staged.proofs.Accept.{count-is}
 use Rattle.staged.specs.View.{blankStaged}
 use Rattle.staged_view.proofs.View.{base-refused, no-replaced, no-shown, over-limit, fine}

@@ -12,7 +12,7 @@ use Rattle.eif.specs.Reading.{blankSection}
 use Rattle.eif.specs.Plan.{blankPlace, placeOf}
 use Rattle.eif.specs.declared.Place.{Place}
 use Rattle.eif.specs.declared.Section.{Section}
-use Rattle.eif_rules.proofs.Table.{filled-more}
+use Rattle.eif_lemmas.proofs.Table.{filled-more}
 use Rattle.staged_view.proofs.Places.{filled-places}
 use Rattle.staged_view.proofs.places_of.Statement.{statement}
 use Rattle.staged_view.proofs.places_of.Tie as tie

@@ -10,7 +10,7 @@ use Rattle.eif.specs.Reading.{blankSection, dataOf}
 use Rattle.eif.specs.declared.Section.{Section}
 use Rattle.eif.specs.declared.Verdict.the-variants.{Accepted}
 use Rattle.staged.specs.Staged.{stagedVerdict}
-use Rattle.staged.proofs.Shown.{shown-refused, shown-replaced, listed-kept, in-places}
+use Rattle.staged.proofs.Shown.{shown-refused, shown-replaced, listed-kept, in-places, start-refused, start-replaced, start-kept}
 use Rattle.staged_view.proofs.View.{view-verdict, view-sections}
 use Rattle.staged_view.proofs.section.Statement.{statement}
 use Rattle.staged_view.proofs.section.Tie as tie
@@ -36,7 +36,11 @@ returns : tie.Need-returns
 returns c =
     let w = c .before .before .before in
     let t = c .before .enum-told2 .given in
-    sym (shown-refused (base w) (given w) (k w) (j w) (t .0 .0) (sym (verdict-is w) ∙ t .1))
+    let e = sym (verdict-is w) ∙ t .1 in
+    let a = w .before .before .before .args in (
+      sym (shown-refused (base w) (given w) (k w) (j w) (t .0 .0) e),
+      start-refused (base w) (length (given w)) (k w) (j w) (a .base .ptr) (a .replacement .ptr) (t .0 .0) e,
+    )
 
 -- a section that is not the replaced one, of a view that is accepted
 module _ (c : tie.Else1) where
@@ -52,7 +56,11 @@ module _ (c : tie.Else1) where
 returns-2 : tie.Need-returns-2
 returns-2 c =
     let w = c .before .before .before in
-    sym (shown-replaced (base w) (given w) (k w) (j w) (sym (verdict-is w) ∙ c .before .enum-told .given .1) (sym (c .if1 .taken)))
+    let e = sym (verdict-is w) ∙ c .before .enum-told .given .1 in
+    let a = w .before .before .before .args in (
+      sym (shown-replaced (base w) (given w) (k w) (j w) e (sym (c .if1 .taken))),
+      start-replaced (base w) (length (given w)) (k w) (j w) (a .base .ptr) (a .replacement .ptr) e (sym (c .if1 .taken)),
+    )
 
 mul-x : tie.Need-mul-x
 mul-x c =
@@ -67,10 +75,15 @@ returns-3 : tie.Need-returns-3
 returns-3 c =
     let e = c .before .before .before in
     let v = w e in
-    c .section-data .ensures
-    ∙ ap (λ (l : List Section). dataOf (base v) (getD l (j v) blankSection))
-    (view-sections (base v) (length (given v)) (k v) (j v) (v .judge .result) (v .judge .ensures) (told e))
-    ∙ listed-kept (base v) (given v) (k v) (j v) (accepted e) (λ q. e .if1 .left (sym q))
+    let a = v .before .before .before .args in
+    let listed = view-sections (base v) (length (given v)) (k v) (j v) (v .judge .result) (v .judge .ensures) (told e) in (
+      c .section-data .ensures .0
+          ∙ ap (λ (l : List Section). dataOf (base v) (getD l (j v) blankSection)) listed
+          ∙ listed-kept (base v) (given v) (k v) (j v) (accepted e) (λ q. e .if1 .left (sym q)),
+      c .section-data .ensures .1
+          ∙ start-kept (base v) (length (given v)) (k v) (j v) (a .base .ptr) (a .replacement .ptr) (accepted e) (λ q. e .if1 .left (sym q)) _
+          (ap (λ (l : List Section). getD l (j v) blankSection) listed),
+    )
 
 pub section-spec : {M : Type 1} → statement M
 section-spec =

@@ -9,13 +9,13 @@ use Rattle.staged.specs.Staged.{withPlace}
 use Rattle.eif.specs.declared.Place.{Place}
 use Rattle.eif.specs.declared.Plan.{Plan}
 use Rattle.eif.specs.declared.Reading.{Reading}
-use Rattle.eif_plan.specs.Size.{imageSize}
+use Rattle.plan_judge.specs.Size.{imageSize}
 use Rattle.staged_view.proofs.Places.{size-tells}
 use Rattle.staged_view.proofs.too_long.Statement.{statement}
 use Rattle.staged_view.proofs.too_long.Tie as tie
 
 abbrev planWith : Reading → List Place → Plan
-planWith r l = record { version = r .version; flags = r .flags; memory = r .memory; cpus = r .cpus; count = r .count; places = l }
+planWith r l = record { version = r .version; flags = r .flags; «default_mem» = r .«default_mem»; «default_cpus» = r .«default_cpus»; count = r .count; places = l }
 
 returns : tie.Need-returns
 returns c =

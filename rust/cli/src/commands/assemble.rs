@@ -1,7 +1,7 @@
 //! `eif assemble`: an image from the records of a transfer, kept so that a power cut loses nothing.
 
 use super::Command;
-use crate::args::{Args, Options};
+use crate::args::Args;
 use crate::disk::System;
 use crate::progress::Progress;
 use crate::records::Records;
@@ -39,10 +39,7 @@ transfer up, remove FILE.part and FILE.marks. It needs memory for the image.
 Exit status: 0 the image is accepted and stands in FILE, 1 it is refused or the
 transfer is not closed yet, 2 wrong usage, input or output trouble.
 ",
-    options: Options {
-        flags: &[output::FLAG],
-        values: &[output::VALUE],
-    },
+    options: output::OPTIONS,
     run,
 };
 

@@ -1,9 +1,9 @@
 //! `eif extract`: the data of one section.
 
 use super::Command;
-use crate::args::{self, Args, Options};
+use crate::args::{self, Args};
 use crate::output::{self, Output};
-use crate::status::{complain, Status, Trouble};
+use crate::status::{Status, Trouble};
 use crate::{input, words};
 
 pub const COMMAND: Command = Command {
@@ -20,10 +20,7 @@ Writes the data of section INDEX, as eif show numbers the sections, from 0.
 Exit status: 0 written, 1 the image is refused, 2 there is no such section, wrong
 usage, input or output trouble.
 ",
-    options: Options {
-        flags: &[output::FLAG],
-        values: &[output::VALUE],
-    },
+    options: output::OPTIONS,
     run,
 };
 
@@ -34,10 +31,7 @@ fn run(args: Args) -> Result<Status, Trouble> {
     let input = input::read(image)?;
     let image = match eif::read(&input.bytes) {
         Ok(image) => image,
-        Err(refusal) => {
-            complain(&words::refusal(&input.name, &refusal));
-            return Ok(Status::Refused);
-        }
+        Err(refusal) => return Ok(input.refused(&refusal)),
     };
     let Some((_, data)) = image.get(index) else {
         let count = image.sections().len();

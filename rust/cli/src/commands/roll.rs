@@ -1,10 +1,10 @@
 //! `eif roll`: the boot roll of an image.
 
 use super::Command;
-use crate::args::{Args, Options};
+use crate::args::Args;
+use crate::input;
 use crate::output::{self, Output};
-use crate::status::{complain, Status, Trouble};
-use crate::{input, words};
+use crate::status::{Status, Trouble};
 
 pub const COMMAND: Command = Command {
     name: "roll",
@@ -21,10 +21,7 @@ eif show and eif compare read it.
 
 Exit status: 0 written, 1 the image is refused, 2 input or output trouble.
 ",
-    options: Options {
-        flags: &[output::FLAG],
-        values: &[output::VALUE],
-    },
+    options: output::OPTIONS,
     run,
 };
 
@@ -34,9 +31,6 @@ fn run(args: Args) -> Result<Status, Trouble> {
     let image = input::read(image)?;
     match eif::roll_to_vec(&image.bytes) {
         Ok(roll) => output.write(&[&roll]).map(|()| Status::Fine),
-        Err(refusal) => {
-            complain(&words::refusal(&image.name, &refusal));
-            Ok(Status::Refused)
-        }
+        Err(refusal) => Ok(image.refused(&refusal)),
     }
 }

@@ -1,10 +1,10 @@
 //! `eif split`: the records of a transfer of an image.
 
 use super::Command;
-use crate::args::{Args, Options};
+use crate::args::Args;
+use crate::input;
 use crate::output::{self, Output};
-use crate::status::{complain, Status, Trouble};
-use crate::{input, words};
+use crate::status::{Status, Trouble};
 use eif::assembler;
 
 pub const COMMAND: Command = Command {
@@ -25,10 +25,7 @@ puts them together. A piece's record is 18 bytes longer than the piece.
 Exit status: 0 written, 1 the image is refused, 2 wrong usage, input or output
 trouble.
 ",
-    options: Options {
-        flags: &[output::FLAG],
-        values: &[output::VALUE],
-    },
+    options: output::OPTIONS,
     run,
 };
 
@@ -37,8 +34,7 @@ fn run(args: Args) -> Result<Status, Trouble> {
     let output = Output::of(&args)?;
     let image = input::read(image)?;
     if let Err(refusal) = eif::read(&image.bytes) {
-        complain(&words::refusal(&image.name, &refusal));
-        return Ok(Status::Refused);
+        return Ok(image.refused(&refusal));
     }
     let records: Vec<Vec<u8>> = assembler::records(&image.bytes).collect();
     let parts: Vec<&[u8]> = records.iter().map(|record| &record[..]).collect();

@@ -1,9 +1,9 @@
 //! `eif stream`: a measured stream of an image.
 
 use super::Command;
-use crate::args::{Args, Options};
+use crate::args::Args;
 use crate::output::{self, Output};
-use crate::status::{complain, Status, Trouble};
+use crate::status::{Status, Trouble};
 use crate::{input, words};
 use eif::Stream;
 use std::ffi::OsStr;
@@ -25,10 +25,7 @@ Writes the bytes of a measured stream of an image, its sections in file order:
 Exit status: 0 written, 1 the image is refused, 2 wrong usage, input or output
 trouble.
 ",
-    options: Options {
-        flags: &[output::FLAG],
-        values: &[output::VALUE],
-    },
+    options: output::OPTIONS,
     run,
 };
 
@@ -42,10 +39,7 @@ fn run(args: Args) -> Result<Status, Trouble> {
             let sections: Vec<&[u8]> = read.stream_sections(stream).collect();
             output.write(&sections).map(|()| Status::Fine)
         }
-        Err(refusal) => {
-            complain(&words::refusal(&image.name, &refusal));
-            Ok(Status::Refused)
-        }
+        Err(refusal) => Ok(image.refused(&refusal)),
     }
 }
 

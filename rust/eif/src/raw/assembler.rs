@@ -85,14 +85,8 @@ pub fn assembler_step(state: State, sent: &[u8], image: &mut [u8], marks: &mut [
 #[cfg(test)]
 mod tests {
     use super::*;
+    use crate::raw::bytes_of;
     use std::ptr::{null, null_mut};
-    use std::slice;
-
-    /// The bytes of an answer.
-    fn bytes_of(answer: &Stepped) -> &[u8] {
-        // SAFETY: it has no padding, as asserted above.
-        unsafe { slice::from_raw_parts((answer as *const Stepped).cast(), size_of::<Stepped>()) }
-    }
 
     #[test]
     fn a_null_pointer_with_length_0_is_nothing() {

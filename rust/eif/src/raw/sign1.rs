@@ -1,6 +1,6 @@
 //! The C interface to COSE_Sign1.
 
-use super::Answer;
+use super::{of_slice, Answer};
 use crate::sign1::Sign1Position;
 use crate::{DataLength, Digest, DIGEST_LENGTH};
 use std::mem::{align_of, offset_of, size_of};
@@ -62,8 +62,7 @@ mod c {
 
 /// `eif_sign1_read`.
 pub fn sign1_read(bytes: &[u8]) -> Sign1Reading {
-    // SAFETY: pointer and length are those of a slice.
-    unsafe { c::eif_sign1_read(bytes.as_ptr(), bytes.len()) }
+    of_slice(c::eif_sign1_read, bytes)
 }
 
 /// `eif_sign1_write`.
@@ -84,20 +83,14 @@ pub fn sign1_write(claim: Sign1Claim, signature: &[u8], out: &mut [u8]) -> Answe
 #[cfg(test)]
 mod tests {
     use super::*;
+    use crate::raw::bytes_of;
     use std::ptr::{null, null_mut};
-    use std::slice;
 
     const CLAIM: Sign1Claim = Sign1Claim {
         algorithm: 35,
         register_index: u64::MAX,
         register_value: Digest([0xee; 48]),
     };
-
-    /// The bytes of an answer.
-    fn bytes_of<T: Copy>(answer: &T) -> &[u8] {
-        // SAFETY: used below for the answers alone, which have no padding, as asserted above.
-        unsafe { slice::from_raw_parts((answer as *const T).cast(), size_of::<T>()) }
-    }
 
     #[test]
     fn a_null_pointer_with_length_0_is_nothing() {

@@ -98,32 +98,23 @@ pub fn staged_roll_write(base: &[u8], replacement: &[u8], replaced: u64, out: &m
     }
 }
 
+type StagedCall<T> = unsafe extern "C" fn(*const u8, usize, *const u8, usize, u64) -> T;
+
+/// A call that takes a base, a replacement and the number of the replaced section.
+fn of_base<T>(call: StagedCall<T>, base: &[u8], replacement: &[u8], replaced: u64) -> T {
+    let (bytes, length) = (replacement.as_ptr(), replacement.len());
+    // SAFETY: as above.
+    unsafe { call(base.as_ptr(), base.len(), bytes, length, replaced) }
+}
+
 /// `eif_staged_roll_length`.
 pub fn staged_roll_length(base: &[u8], replacement: &[u8], replaced: u64) -> Answer {
-    // SAFETY: as above.
-    unsafe {
-        c::eif_staged_roll_length(
-            base.as_ptr(),
-            base.len(),
-            replacement.as_ptr(),
-            replacement.len(),
-            replaced,
-        )
-    }
+    of_base(c::eif_staged_roll_length, base, replacement, replaced)
 }
 
 /// `eif_staged_registers`.
 pub fn staged_registers(base: &[u8], replacement: &[u8], replaced: u64) -> RegistersAnswer {
-    // SAFETY: as above.
-    unsafe {
-        c::eif_staged_registers(
-            base.as_ptr(),
-            base.len(),
-            replacement.as_ptr(),
-            replacement.len(),
-            replaced,
-        )
-    }
+    of_base(c::eif_staged_registers, base, replacement, replaced)
 }
 
 #[cfg(test)]

@@ -1,6 +1,7 @@
 -- `SectionType::allowed` meets its contract: each return answers as the tests on the way to it make the definition answer.
 -- Assumes nothing.
-use borrow.Author.Tests.{eq-eqb, ne-eqb, le-leb, lt-leb}
+use borrow.Author.Needs.{needs}
+use borrow.Author.Tests.{eq-eqb, ne-eqb}
 use Rattle.eif.specs.Rules.{allowedIn}
 use Rattle.eif.proofs.SectionType.allowed.Statement.{statement}
 use Rattle.eif.proofs.SectionType.allowed.Tie as tie
@@ -15,11 +16,7 @@ returns-2 c = simp (ne-eqb _ _ (c .before .if1 .left), eq-eqb _ _ (c .if2 .taken
 
 returns-3 : tie.Need-returns-3
 unfolding allowedIn
-returns-3 c = simp (ne-eqb _ _ (c .before .before .if1 .left), ne-eqb _ _ (c .before .if2 .left), lt-leb _ _ (c .if3 .taken))
-
-returns-4 : tie.Need-returns-4
-unfolding allowedIn
-returns-4 c = simp (ne-eqb _ _ (c .before .before .if1 .left), ne-eqb _ _ (c .before .if2 .left), le-leb _ _ (c .if3 .left))
+returns-3 c = simp (ne-eqb _ _ (c .before .before .if1 .left), ne-eqb _ _ (c .before .if2 .left)) (c .is-boot .ensures)
 
 pub allowed-spec : {M : Type 1} → statement M
-allowed-spec = tie.close (tie.spec returns returns-2 returns-3 returns-4)
+allowed-spec = tie.close (tie.spec returns returns-2 (λ c κs. search needs) returns-3)

@@ -1,0 +1,115 @@
+-- What the verdict on a view that is accepted says of each rule, and back; and what an accepted image's sections are.
+-- Assumes nothing.
+use Prim.Native.Nat.{ℕ, zero, suc, _+_, _<_, _≤_}
+use mathlib.Core.Path.{_≡_, refl, sym, _∙_}
+use mathlib.Core.Bool.{false, not}
+use mathlib.Core.List.{List}
+use native.Mathlib.Omega.{arith}
+use borrow.Author.Tests.{eq-eqb, eqb-true, ltb-false, not-false}
+use lib.Dec.{eqb}
+use lib.ListN.{length, length-take, length-drop}
+use Rattle.eif.specs.Numbers.{placeCount}
+use Rattle.eif.specs.Rules.{orderFault, missing}
+use Rattle.eif.specs.Layout.{View, viewOf, version, count, checksum, versionOf, countOf, startAt, kindAt}
+use Rattle.eif.specs.Reading.{sectionFault, hasTail, missingFault, tailFault, checksumFault, judged, early, verdictIn, checksumOf, verdictOf, sectionAt, blankSection, sectionsOf, dataOf}
+use Rattle.eif.specs.declared.Section.{Section}
+use Rattle.eif.specs.declared.Verdict.the-variants.{Accepted}
+use Rattle.eif_lemmas.proofs.Logic.{choose-zero}
+use Rattle.eif_lemmas.proofs.Verdicts.{then-accepted, whole-zero, whole-at-zero, all-accepted, walk-accepted, walk-all}
+use Rattle.eif_lemmas.proofs.Table.{All, all-filled}
+use Rattle.eif_lemmas.proofs.Position.{located-accepted}
+use Rattle.eif_lemmas.proofs.View.{Header, header, header-fields, sound-of, order-of}
+use Rattle.eif_lemmas.proofs.Fields.{fields-fine}
+
+pub record Passes (v : View) (computed : ℕ) : Type 0 where
+  pub head : Header v
+  pub sections : (i : ℕ) → i < count v → sectionFault v i ≡ 0
+  pub complete : missing (v .kind) (version v) (count v) ≡ false
+  pub no-tail : hasTail v ≡ false
+  pub sum : checksum v ≡ computed
+
+module _ (v : View) where
+  missing-zero : missingFault v ≡ 0 → missing (v .kind) (version v) (count v) ≡ false
+  unfolding missingFault
+  missing-zero e = choose-zero (missing (v .kind) (version v) (count v)) 11 0 e .0
+
+  zero-missing : missing (v .kind) (version v) (count v) ≡ false → missingFault v ≡ 0
+  unfolding missingFault
+  zero-missing e = rw e
+
+  tail-zero : tailFault v ≡ 0 → hasTail v ≡ false
+  unfolding tailFault
+  tail-zero e = choose-zero (hasTail v) 19 0 e .0
+
+  zero-tail : hasTail v ≡ false → tailFault v ≡ 0
+  unfolding tailFault
+  zero-tail e = rw e
+
+  sum-zero : (computed : ℕ) → checksumFault v computed ≡ 0 → checksum v ≡ computed
+  unfolding checksumFault
+  sum-zero computed e = eqb-true _ _ (not-false _ (choose-zero (not (eqb (checksum v) computed)) 12 0 e .0))
+
+  zero-sum : (computed : ℕ) → checksum v ≡ computed → checksumFault v computed ≡ 0
+  unfolding checksumFault
+  zero-sum computed e = simp (eq-eqb _ _ e)
+
+  pub accepted→ : (computed : ℕ) → verdictIn v computed ≡ Accepted → Passes v computed
+  unfolding verdictIn early judged
+  accepted→ computed e =
+      let j = then-accepted _ _ e in
+      let t = then-accepted _ _ (j .0) in
+      let a = then-accepted _ _ (located-accepted _ _ (t .0)) in
+      let b = then-accepted _ _ (a .1) in
+      record {
+        head = header v (whole-zero _ (a .0));
+        sections = λ i h. walk-accepted (sectionFault v) (count v) 0 (b .0) i (omega arith) (omega arith);
+        complete = missing-zero (whole-zero _ (b .1));
+        no-tail = tail-zero (whole-at-zero _ _ (t .1));
+        sum = sum-zero computed (whole-at-zero _ _ (j .1));
+      }
+
+  pub →accepted : (computed : ℕ) → Passes v computed → verdictIn v computed ≡ Accepted
+  unfolding verdictIn early judged
+  →accepted computed p =
+      let h = p .head in
+      let z = fields-fine (version v) (count v) (h .low) (h .high) (h .some) (h .few) ∙ header-fields v (h .small) (h .whole) (h .magic) in
+      let w = walk-all (sectionFault v) (count v) 0 (λ j a b. p .sections j (omega arith)) in
+      let e = all-accepted _ _ _ (sym z) w (zero-missing (p .complete)) in
+      rw (e, zero-tail (p .no-tail), zero-sum computed (p .sum))
+
+-- ---- of an accepted image
+
+abbrev pub Inside : List ℕ → Section → Type 0
+Inside s x = x .position .0 + x .length .0 ≤ length s
+
+pub length-data : (s : List ℕ) (x : Section) → Inside s x → length (dataOf s x) ≡ x .length .0
+length-data s x inside = simp (length-take, length-drop) (omega arith)
+
+module _ (s : List ℕ) (e : verdictOf s ≡ Accepted) where
+  pub passes : Passes (viewOf s) (checksumOf s)
+  passes = accepted→ (viewOf s) (checksumOf s) e
+
+  pub sections-inside : All (Inside s) (sectionsOf s)
+  sections-inside =
+      all-filled (Inside s) (sectionAt s) blankSection placeCount (countOf s) (omega arith)
+      (λ i h. sound-of (viewOf s) i (passes .sections i h) .ends)
+
+  -- the file ends where the last section does
+  pub file-ends : length s ≡ startAt s (countOf s)
+  file-ends =
+      let t : length s ≤ startAt s (countOf s) = ltb-false (startAt s (countOf s)) (length s) (passes .no-tail) in
+      let u = last (countOf s) (omega (arith, passes .head .some)) refl in
+      omega arith
+    where
+      last : (n : ℕ) → 0 < n → countOf s ≡ n → startAt s n ≤ length s
+      last zero h f = absurd (omega arith)
+      last (suc n) h f = sound-of (viewOf s) n (passes .sections n (omega arith)) .ends
+
+  pub none-missing-of : missing (kindAt s) (versionOf s) (countOf s) ≡ false
+  none-missing-of = passes .complete
+
+  pub sum-of : checksum (viewOf s) ≡ checksumOf s
+  sum-of = passes .sum
+
+  pub order-at : (i : ℕ) → i < countOf s → orderFault (kindAt s) (kindAt s i) i ≡ 0
+  order-at i h = order-of (viewOf s) i (passes .sections i h)

@@ -1,0 +1,13 @@
+pub mod Logic
+pub mod Verdicts
+pub mod Types
+pub mod Table
+pub mod Fields
+pub mod View
+pub mod Position
+pub mod Reading
+pub mod Accept
+pub mod Agree
+pub mod Mark
+pub mod Flags
+pub mod Same

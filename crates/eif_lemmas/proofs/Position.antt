@@ -1,0 +1,56 @@
+-- The position of a refusal: a verdict with it accepts when the verdict does, and an index is a place of the table.
+-- Assumes nothing.
+use Prim.Native.Nat.{ℕ, zero, suc, _+_, _<_, _≤_}
+use mathlib.Core.Path.{_≡_, refl}
+use mathlib.Core.Bool.{Bool, true, false}
+use native.Mathlib.Omega.{arith}
+use lib.Dec.{eqb}
+use Rattle.eif.specs.Numbers.{placeCount}
+use Rattle.octets.specs.Logic.{choose}
+use Rattle.eif.specs.Answers.{refuse, indexOf, andThen, wholeVerdict}
+use Rattle.eif.specs.Rules.{firstFault}
+use Rattle.eif.specs.Layout.{View, count}
+use Rattle.eif.specs.Reading.{headerFault, sectionFault, missingFault, located, judged, early}
+use Rattle.eif.specs.declared.Verdict.{Verdict}
+use Rattle.eif.specs.declared.Verdict.the-variants.{Accepted, Refused}
+use Rattle.eif_lemmas.proofs.Verdicts.{never, then-accepted, whole-zero}
+use Rattle.eif_lemmas.proofs.View.{header}
+
+pub located-accepted : (header : ℕ → ℕ → ℕ) (x : Verdict) → located header x ≡ Accepted → x ≡ Accepted
+located-accepted header Accepted e = refl
+located-accepted header (Refused r) e = never _ e
+
+pub early-accepted : (v : View) → early v ≡ Accepted → judged v ≡ Accepted
+unfolding early
+early-accepted v e = located-accepted _ _ (then-accepted _ _ e .0)
+
+-- ---- the index of a verdict is below a bound
+
+module _ (m : ℕ) (some : 0 < m) where
+  then-index : (a b : Verdict) → indexOf a < m → (a ≡ Accepted → indexOf b < m) → indexOf (andThen a b) < m
+  then-index Accepted b h g = g refl
+  then-index (Refused r) b h g = h
+
+  chosen-index : (b : Bool) (x : Verdict) (n i : ℕ) → indexOf x < m → i < m → indexOf (choose b x (refuse n i)) < m
+  chosen-index true x n i h g = h
+  chosen-index false x n i h g = g
+
+  whole-index : (n : ℕ) → indexOf (wholeVerdict n) < m
+  whole-index n = chosen-index (eqb n 0) Accepted n 0 some some
+
+  pub walk-index : (fault : ℕ → ℕ) (n i : ℕ) → i + n ≤ m → indexOf (firstFault fault n i) < m
+  unfolding firstFault
+  walk-index fault zero i h = some
+  walk-index fault (suc n) i h =
+      chosen-index (eqb (fault i) 0) (firstFault fault n (suc i)) (fault i) i (walk-index fault n (suc i) (omega arith)) (omega arith)
+
+pub judged-index : (v : View) → indexOf (judged v) < placeCount
+unfolding judged
+judged-index v =
+    let some : 0 < placeCount = omega arith in
+    let walk : Verdict = firstFault (sectionFault v) (count v) 0 in
+    let last : Verdict = wholeVerdict (missingFault v) in
+    then-index placeCount some (wholeVerdict (headerFault v)) (andThen walk last) (whole-index placeCount some (headerFault v))
+    (λ e.
+    let few = header v (whole-zero (headerFault v) e) .few in
+    then-index placeCount some walk last (walk-index placeCount some (sectionFault v) (count v) 0 (omega arith)) (λ a. whole-index placeCount some (missingFault v)))

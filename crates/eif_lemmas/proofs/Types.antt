@@ -1,0 +1,67 @@
+-- The rules on section types, 10, 11 and 12, one earlier section after the other; and that the types alone decide.
+-- Assumes nothing.
+use Prim.Native.Nat.{ℕ, zero, suc, _<_}
+use mathlib.Core.Path.{_≡_, refl, ap₂}
+use mathlib.Core.Bool.{Bool, true}
+use native.Mathlib.Omega.{arith}
+use borrow.Author.Tests.{eq-eqb, ne-eqb}
+use lib.Dec.{eqb}
+use Rattle.eif.specs.Numbers.{kernel, commandLine, ramdisk, metadata, ramdiskBeforeKernel, typeRepeated}
+use Rattle.octets.specs.Logic.{either}
+use Rattle.eif.specs.Rules.{seen, orderFault, bootMissing, missing}
+
+-- ---- the rules 10 and 11
+
+module _ (kinds : ℕ → ℕ) (kind : ℕ) where
+  pub order-none : (kind ≡ ramdisk → ⊥) → orderFault kinds kind 0 ≡ 0
+  unfolding orderFault seen
+  order-none h = simp (ne-eqb _ _ h)
+
+  pub order-kernel : (j : ℕ) → kind ≡ ramdisk → kinds j ≡ kernel → orderFault kinds kind (suc j) ≡ 0
+  unfolding orderFault seen
+  order-kernel j h e = simp (eq-eqb _ _ h, eq-eqb _ _ e)
+
+  pub order-lone : kind ≡ ramdisk → orderFault kinds kind 0 ≡ ramdiskBeforeKernel
+  unfolding orderFault seen
+  order-lone h = simp (eq-eqb _ _ h)
+
+  pub order-twice : (j : ℕ) → (kind ≡ ramdisk → ⊥) → kinds j ≡ kind → orderFault kinds kind (suc j) ≡ typeRepeated
+  unfolding orderFault seen
+  order-twice j h e = simp (ne-eqb _ _ h, eq-eqb _ _ e)
+
+  pub order-more-ramdisk : (j : ℕ) → kind ≡ ramdisk → (kinds j ≡ kernel → ⊥) → orderFault kinds kind (suc j) ≡ orderFault kinds kind j
+  unfolding orderFault seen
+  order-more-ramdisk j h e = simp (eq-eqb _ _ h, ne-eqb _ _ e)
+
+  pub order-more : (j : ℕ) → (kind ≡ ramdisk → ⊥) → (kinds j ≡ kind → ⊥) → orderFault kinds kind (suc j) ≡ orderFault kinds kind j
+  unfolding orderFault seen
+  order-more j h e = simp (ne-eqb _ _ h, ne-eqb _ _ e)
+
+-- ---- the types alone decide
+
+module _ (f g : ℕ → ℕ) where
+  pub seen-same : (kind n : ℕ) → ((j : ℕ) → j < n → f j ≡ g j) → seen f kind n ≡ seen g kind n
+  unfolding seen
+  seen-same kind zero h = refl
+  seen-same kind (suc n) h =
+      ap₂ (λ (k : ℕ) (b : Bool). either (eqb k kind) b) (h n (omega arith)) (seen-same kind n (λ j l. h j (omega arith)))
+
+  pub order-same : (kind n : ℕ) → ((j : ℕ) → j < n → f j ≡ g j) → orderFault f kind n ≡ orderFault g kind n
+  unfolding orderFault
+  order-same kind n h = simp (seen-same kernel n h, seen-same kind n h)
+
+  pub boot-missing-same : (n : ℕ) → ((j : ℕ) → j < n → f j ≡ g j) → bootMissing f n ≡ bootMissing g n
+  boot-missing-same n h = simp (seen-same kernel n h, seen-same commandLine n h)
+
+  pub missing-same : (version n : ℕ) → ((j : ℕ) → j < n → f j ≡ g j) → missing f version n ≡ missing g version n
+  unfolding missing
+  missing-same version n h = simp (seen-same kernel n h, seen-same commandLine n h, seen-same metadata n h)
+
+module _ (kinds : ℕ → ℕ) (kind j : ℕ) where
+  pub seen-here : kinds j ≡ kind → seen kinds kind (suc j) ≡ true
+  unfolding seen
+  seen-here e = simp (eq-eqb _ _ e)
+
+  pub seen-on : (kinds j ≡ kind → ⊥) → seen kinds kind (suc j) ≡ seen kinds kind j
+  unfolding seen
+  seen-on h = simp (ne-eqb _ _ h)

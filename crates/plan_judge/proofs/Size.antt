@@ -1,0 +1,90 @@
+-- Sizes: the limit, an image's size from its sum of lengths, and the rules 1 and 15.
+-- Assumes nothing.
+use Prim.Native.Nat.{ℕ, zero, suc, _+_, _*_, _<_, _≤_}
+use mathlib.Core.Path.{_≡_, refl, sym, _∙_}
+use mathlib.Core.List.{List}
+use mathlib.Core.Logic.{⊎-elim}
+use native.Mathlib.Omega.{arith}
+use borrow.Author.Tests.{eq-eqb, ne-eqb, lt-ltb, le-ltb}
+use Rattle.eif.specs.Numbers.{sizeLimit, placeCount, imageTooLong, dataLengthDiffers}
+use Rattle.eif.specs.Layout.{headerSize, sectionHeaderSize}
+use Rattle.eif.specs.Plan.{sizeFault, packedAt, dataBefore, plainSize}
+use Rattle.eif.specs.declared.Place.{Place}
+use Rattle.eif.specs.declared.Plan.{Plan}
+use Rattle.octets.proofs.Over.{le-or-lt}
+use Rattle.plan_judge.specs.Size.{limited, imageSize, dataSize}
+
+pub limited-over : (n : ℕ) → sizeLimit < n → 0 ≡ limited n
+unfolding limited
+limited-over n h = simp (lt-ltb _ _ h)
+
+pub limited-in : (n : ℕ) → n ≤ sizeLimit → n ≡ limited n
+unfolding limited
+limited-in n h = simp (le-ltb _ _ h)
+
+-- an image's size is its header, the sections' headers and the data
+pub packed-before : (l : List Place) (i : ℕ) → packedAt l i ≡ dataBefore l i + sectionHeaderSize * i + headerSize
+unfolding packedAt dataBefore
+packed-before l zero = refl
+packed-before l (suc i) = let r = packed-before l i in omega arith
+
+module _ (p : Plan) where
+  pub image-none : placeCount < p .count → 0 ≡ imageSize p
+  unfolding imageSize
+  image-none h = simp (lt-ltb _ _ h)
+
+  pub image-limited : p .count ≤ placeCount → limited (plainSize p) ≡ imageSize p
+  unfolding imageSize
+  image-limited h = simp (le-ltb _ _ h)
+
+  pub data-none : imageSize p ≡ 0 → 0 ≡ dataSize p
+  unfolding dataSize
+  data-none e = simp e
+
+  pub data-some : (imageSize p ≡ 0 → ⊥) → dataBefore (p .places) (p .count) ≡ dataSize p
+  unfolding dataSize
+  data-some h = simp (ne-eqb _ _ h)
+
+  -- a size that is not 0 is one of no more sections than places
+  pub size-few : (imageSize p ≡ 0 → ⊥) → p .count ≤ placeCount
+  size-few h = ⊎-elim (λ few. few) (λ many. absurd (h (sym (image-none many)))) (le-or-lt (p .count) placeCount)
+
+-- what an image's size tells, where the count is within the places
+module _ (p : Plan) (given r : ℕ) (few : p .count ≤ placeCount) (e : r ≡ imageSize p) where
+  size-is : r ≡ limited (plainSize p)
+  size-is = e ∙ sym (image-limited p few)
+
+  -- no size is 0, so 0 says that it is over the limit
+  pub over : r ≡ 0 → sizeLimit < plainSize p
+  over z =
+      let b = packed-before (p .places) (p .count) in
+      ⊎-elim
+      (λ h.
+      let q = limited-in (plainSize p) h ∙ sym size-is ∙ z in
+      absurd (omega arith))
+      (λ h. h)
+      (le-or-lt (plainSize p) sizeLimit)
+
+  pub within : (r ≡ 0 → ⊥) → (plainSize p ≤ sizeLimit) × (r ≡ plainSize p)
+  within z =
+      ⊎-elim
+      (λ h. (h, size-is ∙ sym (limited-in (plainSize p) h)))
+      (λ h. absurd (z (size-is ∙ sym (limited-over (plainSize p) h))))
+      (le-or-lt (plainSize p) sizeLimit)
+
+  pub size-over : r ≡ 0 → imageTooLong ≡ sizeFault p given
+  unfolding sizeFault
+  size-over z = simp (lt-ltb _ _ (over z))
+
+  module _ (some : r ≡ 0 → ⊥) where
+    -- the data is what the headers leave of the image
+    pub size-parts : r ≡ dataBefore (p .places) (p .count) + sectionHeaderSize * p .count + headerSize
+    size-parts = within some .1 ∙ packed-before (p .places) (p .count)
+
+    pub size-differs : (given ≡ dataBefore (p .places) (p .count) → ⊥) → dataLengthDiffers ≡ sizeFault p given
+    unfolding sizeFault
+    size-differs h = simp (le-ltb _ _ (within some .0), ne-eqb _ _ h)
+
+    pub size-fine : given ≡ dataBefore (p .places) (p .count) → 0 ≡ sizeFault p given
+    unfolding sizeFault
+    size-fine h = simp (le-ltb _ _ (within some .0), eq-eqb _ _ h)

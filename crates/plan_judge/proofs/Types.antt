@@ -1,0 +1,70 @@
+-- The rules on section types: each answer from what its tests give, and one verdict for all functions that give the same types.
+-- Assumes nothing.
+use Prim.Native.Nat.{ℕ, _<_, _≤_}
+use mathlib.Core.Path.{_≡_, sym, ap, _∙_}
+use mathlib.Core.Bool.{Bool, true, false}
+use mathlib.Core.List.{List}
+use native.Mathlib.Omega.{arith}
+use lib.ListN.{length, take, length-take}
+use lib.Seq.{getD-take}
+use Rattle.eif.specs.Numbers.{placeCount, typeNotAllowed, sectionMissing}
+use Rattle.octets.specs.Logic.{choose}
+use Rattle.eif.specs.Answers.{refuse}
+use Rattle.eif.specs.Rules.{typeFault, allowedIn, orderFault, missing, firstFault}
+use Rattle.eif.specs.Plan.{plannedKind}
+use Rattle.eif.specs.declared.Place.{Place}
+use Rattle.eif.specs.declared.Refusal.{Refusal}
+use Rattle.eif.specs.declared.Verdict.the-variants.{Accepted, Refused}
+use Rattle.eif_lemmas.proofs.Verdicts.{then-same, walk-same}
+use Rattle.eif_lemmas.proofs.Types.{order-same, missing-same}
+use Rattle.eif_lemmas.proofs.Table.{filled-at, length-filled}
+use Rattle.type_judge.specs.Kinds.{listedKind}
+use Rattle.plan_judge.specs.Types.{kindsOf, typesVerdict}
+
+-- ---- the answers
+
+module _ (version : ℕ) (kinds : ℕ → ℕ) (i : ℕ) where
+  pub type-order : allowedIn version (kinds i) ≡ true → orderFault kinds (kinds i) i ≡ typeFault version kinds i
+  unfolding typeFault
+  type-order e = simp e
+
+  pub type-other : allowedIn version (kinds i) ≡ false → typeNotAllowed ≡ typeFault version kinds i
+  unfolding typeFault
+  type-other e = simp e
+
+module _ (version : ℕ) (kinds : ℕ → ℕ) (n : ℕ) where
+  pub types-stop : (r : Refusal) → Refused r ≡ firstFault (typeFault version kinds) n 0 → Refused r ≡ typesVerdict version kinds n
+  unfolding typesVerdict
+  types-stop r e = simp (sym e)
+
+  module _ (walked : Accepted ≡ firstFault (typeFault version kinds) n 0) where
+    pub types-missing : missing kinds version n ≡ true → refuse sectionMissing 0 ≡ typesVerdict version kinds n
+    unfolding typesVerdict
+    types-missing e = simp (sym walked, e)
+
+    pub types-fine : missing kinds version n ≡ false → Accepted ≡ typesVerdict version kinds n
+    unfolding typesVerdict
+    types-fine e = simp (sym walked, e)
+
+-- ---- the types alone decide
+
+module _ (version : ℕ) (f g : ℕ → ℕ) where
+  fault-same : (i : ℕ) → ((j : ℕ) → j ≤ i → f j ≡ g j) → typeFault version f i ≡ typeFault version g i
+  unfolding typeFault
+  fault-same i h = simp (h i (omega arith), order-same f g (g i) i (λ j l. h j (omega arith)))
+
+  pub types-same : (n : ℕ) → ((j : ℕ) → j < n → f j ≡ g j) → typesVerdict version f n ≡ typesVerdict version g n
+  unfolding typesVerdict
+  types-same n h =
+      then-same (firstFault (typeFault version f) n 0) (firstFault (typeFault version g) n 0) _ _
+      (walk-same (typeFault version f) (typeFault version g) n 0 (λ k l. absurd (omega arith)) (λ j l good. fault-same j (λ k m. h k (omega arith))))
+      (λ _. ap (λ (b : Bool). choose b (refuse sectionMissing 0) Accepted) (missing-same f g version n h))
+
+-- the first n types of a plan, lent
+pub types-lent : (version : ℕ) (l : List Place) (n : ℕ) → n ≤ placeCount
+    → typesVerdict version (listedKind (take n (kindsOf l))) (length (take n (kindsOf l))) ≡ typesVerdict version (plannedKind l) n
+unfolding kindsOf
+types-lent version l n h =
+    let e : length (take n (kindsOf l)) ≡ n = simp (length-take, length-filled) (omega arith) in
+    ap (typesVerdict version (listedKind (take n (kindsOf l)))) e
+    ∙ types-same version (listedKind (take n (kindsOf l))) (plannedKind l) n (λ j k. rw getD-take (filled-at (plannedKind l) 0 0 placeCount placeCount j (omega arith) (omega arith)))

@@ -1,0 +1,22 @@
+-- What the laws of proofs/Staged.antt state of the image written afresh.
+-- Assumes nothing.
+use Prim.Native.Nat.{ℕ, _<_}
+use mathlib.Core.Path.{_≡_}
+use mathlib.Core.List.{List}
+use Rattle.eif.specs.Layout.{viewOf, defaultMem, defaultCpus, versionOf, headerFlagsOf, countOf, kindAt, flagsAt}
+use Rattle.eif.specs.Reading.{sectionAt, dataOf}
+use Rattle.eif.specs.Plan.{Plain}
+use Rattle.staged.specs.Staged.{stagedPart, afresh}
+
+pub record Afresh (s r : List ℕ) (k : ℕ) : Type 0 where
+  -- it is accepted, and plain
+  pub plain : Plain (afresh s r k)
+  -- it has the base's header fields and sections, in order, and their data are the staged parts
+  pub version-is : versionOf (afresh s r k) ≡ versionOf s
+  pub flags : headerFlagsOf (afresh s r k) ≡ headerFlagsOf s
+  pub default-mem-is : defaultMem (viewOf (afresh s r k)) ≡ defaultMem (viewOf s)
+  pub default-cpus-is : defaultCpus (viewOf (afresh s r k)) ≡ defaultCpus (viewOf s)
+  pub count : countOf (afresh s r k) ≡ countOf s
+  pub kinds : (j : ℕ) → j < countOf s → kindAt (afresh s r k) j ≡ kindAt s j
+  pub section-flags : (j : ℕ) → j < countOf s → flagsAt (afresh s r k) j ≡ flagsAt s j
+  pub parts-are : (j : ℕ) → j < countOf s → dataOf (afresh s r k) (sectionAt (afresh s r k) j) ≡ stagedPart s r k j

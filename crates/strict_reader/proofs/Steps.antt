@@ -1,0 +1,107 @@
+-- The stricter reading, a law for each step of the code.
+-- Assumes nothing.
+use Prim.Native.Nat.{ℕ, zero, suc, _+_, _-_, _<_, _≤_}
+use mathlib.Core.Path.{_≡_, refl, sym, ap, _∙_}
+use mathlib.Core.Bool.{Bool, true, false, not}
+use mathlib.Core.List.{List}
+use native.Mathlib.Numerals.{add-one}
+use native.Mathlib.Omega.{arith}
+use borrow.Author.Tests.{eq-eqb, ne-eqb}
+use lib.ListN.{getD}
+use Rattle.json.specs.declared.JsonVerdict.{JsonVerdict}
+use Rattle.json.specs.declared.JsonVerdict.the-variants.{Text, Fault}
+use Rattle.json_machine.specs.Machine.{jsonVerdict}
+use Rattle.eif.specs.Numbers.{placeCount, metadata}
+use Rattle.octets.specs.Logic.{choose}
+use Rattle.eif.specs.Layout.{viewOf, countOf}
+use Rattle.eif.specs.Reading.{verdictOf, sectionAt, blankSection, dataOf, blankReading, readingOf, readView, readImage}
+use Rattle.eif.specs.declared.Reading.{Reading}
+use Rattle.eif.specs.declared.Refusal.{Refusal}
+use Rattle.eif.specs.declared.Section.{Section}
+use Rattle.eif.specs.declared.Verdict.{Verdict}
+use Rattle.eif.specs.declared.Verdict.the-variants.{Accepted, Refused}
+use Rattle.eif_lemmas.proofs.Accept.{passes}
+use Rattle.eif_lemmas.proofs.Reading.{reading-verdict, reading-accepted}
+use Rattle.eif_lemmas.proofs.Table.{filled-at}
+use Rattle.strict_reader.specs.Strict.{isText, notJson, refuseMetadata, metadataVerdict, sectionIn, strictVerdict, readStrict}
+
+-- ---- one section
+
+module _ (s : List ℕ) (x : Section) where
+  pub other-type : (x .kind ≡ metadata → ⊥) → false ≡ notJson s x
+  unfolding notJson
+  other-type n = simp (ne-eqb _ _ n)
+
+  pub metadata-by : x .kind ≡ metadata → (v : JsonVerdict) → v ≡ jsonVerdict (dataOf s x) → not (isText v) ≡ notJson s x
+  unfolding notJson
+  metadata-by e v i = simp (eq-eqb _ _ e, sym i)
+
+-- ---- the sections
+
+module _ (s : List ℕ) (sections : ℕ → Section) (count i : ℕ) (h : i < count) where
+  left : count - i ≡ suc (count - (i + 1))
+  left = omega arith
+
+  pub metadata-stop : true ≡ notJson s (sections i) → refuseMetadata (sections i) i ≡ metadataVerdict s sections (count - i) i
+  unfolding metadataVerdict
+  metadata-stop e = rw (left, ← e) refl
+
+  pub metadata-on : false ≡ notJson s (sections i) → metadataVerdict s sections (count - i) i ≡ metadataVerdict s sections (count - (i + 1)) (i + 1)
+  unfolding metadataVerdict
+  metadata-on e = rw (left, ← e) (simp add-one)
+
+pub metadata-none : (s : List ℕ) (sections : ℕ → Section) (count i : ℕ) → count ≤ i → Accepted ≡ metadataVerdict s sections (count - i) i
+unfolding metadataVerdict
+metadata-none s sections count i h = let z : count - i ≡ 0 = omega arith in rw z refl
+
+metadata-same : (s : List ℕ) (f g : ℕ → Section) (n i : ℕ) → ((j : ℕ) → j < i + n → f j ≡ g j) → metadataVerdict s f n i ≡ metadataVerdict s g n i
+unfolding metadataVerdict
+metadata-same s f g zero i h = refl
+metadata-same s f g (suc n) i h = rw (h i (omega arith), metadata-same s f g n (suc i) (λ j l. h j (omega arith))) refl
+
+-- ---- the reading
+
+module _ (s : List ℕ) (r : Reading) (is : r ≡ readImage s) where
+  verdict-is : r .verdict ≡ verdictOf s
+  verdict-is = ap (λ (x : Reading). x .verdict) is ∙ reading-verdict s
+
+  pub strict-refused : (f : Refusal) → r .verdict ≡ Refused f → r ≡ readStrict s
+  unfolding readStrict strictVerdict readView
+  strict-refused f e = let z : verdictOf s ≡ Refused f = sym verdict-is ∙ e in is ∙ simp z
+
+  module _ (ok : r .verdict ≡ Accepted) where
+    accepted : verdictOf s ≡ Accepted
+    accepted = sym verdict-is ∙ ok
+
+    whole : r ≡ readingOf (viewOf s) Accepted
+    whole = is ∙ reading-accepted s accepted
+
+    count-is : r .count ≡ countOf s
+    count-is = ap (λ (x : Reading). x .count) whole
+
+    pub count-small : r .count ≤ placeCount
+    count-small = let p = passes s accepted .head .few in let e = count-is in omega arith
+
+    place-is : (i : ℕ) → i < countOf s → sectionIn (r .sections) i ≡ sectionAt s i
+    place-is i h =
+        ap (λ (x : Reading). sectionIn (x .sections) i) whole
+        ∙ filled-at (sectionAt s) blankSection blankSection placeCount (countOf s) i h (passes s accepted .head .few)
+
+    -- the sections of the reading are judged as those of the file
+    judged-is : metadataVerdict s (sectionIn (r .sections)) (r .count) 0 ≡ metadataVerdict s (sectionAt s) (countOf s) 0
+    judged-is =
+        ap (λ (n : ℕ). metadataVerdict s (sectionIn (r .sections)) n 0) count-is
+        ∙ metadata-same s (sectionIn (r .sections)) (sectionAt s) (countOf s) 0 (λ j l. place-is j (omega arith))
+
+    module _ (v : Verdict) (j : v ≡ metadataVerdict s (sectionIn (r .sections)) (r .count) 0) where
+      strict-is : strictVerdict s ≡ v
+      unfolding strictVerdict
+      strict-is = rw accepted (sym judged-is ∙ sym j)
+
+      pub strict-blank : (f : Refusal) → v ≡ Refused f → blankReading v ≡ readStrict s
+      unfolding readStrict
+      strict-blank f e = let z : strictVerdict s ≡ Refused f = strict-is ∙ e in rw (e, z) refl
+
+      pub strict-whole : v ≡ Accepted → r ≡ readStrict s
+      unfolding readStrict
+      strict-whole e = let z : strictVerdict s ≡ Accepted = strict-is ∙ e in whole ∙ sym (ap (readingOf (viewOf s)) z)

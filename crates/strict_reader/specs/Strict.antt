@@ -1,0 +1,70 @@
+-- The stricter reading (FORMAT.md, Stricter reading): the ordinary one, and then 21 for a metadata section whose data is not one JSON
+-- text. What is a text is said by the grammar of the crate json; that the test here says the same is a law of its own.
+-- Assumes nothing.
+use Prim.Native.Nat.{ℕ, zero, suc, _<_}
+use mathlib.Core.Path.{_≡_}
+use mathlib.Core.Bool.{Bool, true, false, not}
+use mathlib.Core.List.{List, [], _∷_, _++_}
+use lib.Dec.{eqb}
+use lib.ListN.{getD}
+use Rattle.json.specs.Verdict.{IsText}
+use Rattle.json.specs.declared.JsonVerdict.{JsonVerdict}
+use Rattle.json.specs.declared.JsonVerdict.the-variants.{Text, Fault}
+use Rattle.json_machine.specs.Machine.{jsonVerdict}
+use Rattle.eif.specs.Numbers.{metadata, metadataNotJson}
+use Rattle.octets.specs.Logic.{both, choose}
+use Rattle.eif.specs.Answers.{refuseAt, andThen}
+use Rattle.eif.specs.Layout.{viewOf, countOf, kindAt}
+use Rattle.eif.specs.Reading.{verdictOf, sectionAt, blankSection, dataOf, readingOf}
+use Rattle.eif.specs.Order.{Rule, rule, rulesFrom, imageRules}
+use Rattle.eif.specs.declared.Reading.{Reading}
+use Rattle.eif.specs.declared.Section.{Section}
+use Rattle.eif.specs.declared.Verdict.{Verdict}
+use Rattle.eif.specs.declared.Verdict.the-variants.{Accepted}
+
+-- ---- what the stricter reading asks, with no order and no test
+
+-- the data of each metadata section is one JSON text within the depth limit
+abbrev pub MetadataIsJson : List ℕ → Type 0
+MetadataIsJson s = (i : ℕ) → i < countOf s → kindAt s i ≡ metadata → IsText (dataOf s (sectionAt s i))
+
+-- ---- the rule
+
+abbrev pub isText : JsonVerdict → Bool
+isText Text = true
+isText (Fault p) = false
+
+-- the test of 21
+unfoldable pub notJson : List ℕ → Section → Bool
+notJson s x = both (eqb (x .kind) metadata) (not (isText (jsonVerdict (dataOf s x))))
+
+-- 21 at a section, with its index and where its data stands
+abbrev pub refuseMetadata : Section → ℕ → Verdict
+refuseMetadata x i = refuseAt metadataNotJson i (x .position .0)
+
+-- at the n sections from place i on, given by place, up to the first that fails
+unfoldable pub metadataVerdict : List ℕ → (ℕ → Section) → ℕ → ℕ → Verdict
+metadataVerdict s sections zero i = Accepted
+metadataVerdict s sections (suc n) i =
+    choose (notJson s (sections i)) (refuseMetadata (sections i) i) (metadataVerdict s sections n (suc i))
+
+-- the places of a list
+abbrev pub sectionIn : List Section → ℕ → Section
+sectionIn sections i = getD sections i blankSection
+
+-- ---- the reading
+
+unfoldable pub strictVerdict : List ℕ → Verdict
+strictVerdict s = andThen (verdictOf s) (metadataVerdict s (sectionAt s) (countOf s) 0)
+
+-- beside a refusal everything is zero
+unfoldable pub readStrict : List ℕ → Reading
+readStrict s = readingOf (viewOf s) (strictVerdict s)
+
+-- ---- the order, as Order.antt of eif has it for the other calls: the image's own rules, then 21 section by section
+
+abbrev pub metadataRules : List ℕ → ℕ → List Rule
+metadataRules s i = rule (notJson s (sectionAt s i)) metadataNotJson i (sectionAt s i .position .0) ∷ []
+
+unfoldable pub strictRules : List ℕ → List Rule
+strictRules s = imageRules s ++ rulesFrom (metadataRules s) (countOf s) 0

@@ -1,8 +1,0 @@
--- A list of section types as a function from place to type, as the rules on types take it.
--- Assumes nothing.
-use Prim.Native.Nat.{ℕ}
-use mathlib.Core.List.{List}
-use lib.ListN.{getD}
-
-abbrev pub kindIn : List ℕ → ℕ → ℕ
-kindIn l j = getD l j 0

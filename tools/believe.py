@@ -1,0 +1,216 @@
+#!/usr/bin/env python3
+"""Lists the definitions that must be believed, and keeps the table of README.md.
+
+Run in the repository's root: tools/believe.py writes the table between the two marks in README.md. With --check nothing is written, and the
+exit status is 1 where the table differs, or where a public function has a `requires` or lacks an `ensures`. With --names every definition is printed, file by file, and then those that stand in no
+specs folder.
+
+Statements are the contracts of the public functions of the libraries, and the laws that docs/PROMISES.md names. A definition must be
+believed where a statement names it, or a definition that must be believed does. A file is listed whole, by its number of lines.
+"""
+
+import re
+import sys
+from pathlib import Path
+
+sys.dont_write_bytecode = True
+from map import CRATES, apart, read_crates
+
+README, PROMISES = Path("README.md"), Path("docs/PROMISES.md")
+BEGIN, END = "<!-- written by tools/believe.py -->", "<!-- to here -->"
+
+USE = re.compile(r"^(?:ghost )?use Rattle·(\w+)(?:·\w+)?\.(specs|proofs)\.([\w.-]+)\.\{([^}]*)\}", re.M)
+WORD = re.compile(r"[^\s(){}\[\];,λ]+")
+FUNCTION = re.compile(
+    r"^ *pub (?:extern \"C\" )?fn (?:(?!^ *(?:pub )?(?:extern \"C\" )?fn ).)*?(?:^ *\{|\{ *$)",
+    re.M | re.S,
+)
+# a declaration: its indentation, whether it is a record or a data type, and its name
+DECLARATION = re.compile(r"^( *)(?:(?:pub|abbrev|unfoldable) )*(?:(record|data) (\S+)|(\S+) :)")
+
+
+def read(path):
+    """A file without its comments."""
+    return re.sub(r"(^|\s)(--|//).*", r"\1", path.read_text(encoding="utf-8"))
+
+
+def words(text):
+    return {word.strip(".") for word in WORD.findall(text)}
+
+
+def imports(text):
+    """Each name that a file imports, with the crate, the folder and the module that it is from."""
+    return {
+        name.strip(): (crate, folder, module, name.strip())
+        for crate, folder, module, names in USE.findall(text)
+        for name in names.split(",")
+    }
+
+
+class Source:
+    """An antt file: its imports and, of each name that it declares, the statement and the whole text."""
+
+    def __init__(self, place):
+        self.place = place
+        crate, folder, module = place
+        text = read(Path("crates", crate, folder, module + ".antt"))
+        self.scope = imports(text)
+        self.statement, self.whole, self.types, self.constructors = {}, {}, set(), {}
+        self.name, self.modules = None, []
+        for line in text.splitlines():
+            if line.strip() and not line.startswith(("use ", "pub mod ")):
+                self.take(line)
+
+    def take(self, line):
+        depth = len(line) - len(line.lstrip())
+        self.modules = [m for m in self.modules if len(m) - len(m.lstrip()) < depth]
+        if line.lstrip().startswith("module "):
+            self.modules.append(line)
+            self.name = None
+            return
+        declared = DECLARATION.match(line)
+        if declared and depth == 2 * len(self.modules):
+            self.declare(line, declared)
+        elif self.name:
+            if declared and self.name in self.types:
+                self.constructors[declared[4]] = self.name
+            self.stated &= depth > 2 * len(self.modules)
+            if self.stated:
+                self.statement[self.name] += "\n" + line
+            self.whole[self.name] += "\n" + line
+
+    def declare(self, line, declared):
+        self.name = declared[3] or declared[4]
+        self.stated = True
+        if declared[2]:
+            self.types.add(self.name)
+        self.statement[self.name] = self.whole[self.name] = "\n".join(self.modules + [line])
+
+    def uses(self, text):
+        """What a text of this file names: its own declarations and what it imports."""
+        for word in words(text):
+            name = self.constructors.get(word, word)
+            if name in self.whole:
+                yield (*self.place, name)
+            elif word in self.scope:
+                yield self.scope[word]
+
+    def below(self, name):
+        """What a declaration rests on: of a law its statement alone, of a definition all of it."""
+        name = self.constructors.get(name, name)
+        if name not in self.whole:
+            return []
+        is_law = self.place[1] == "proofs" and name not in self.types and "-" in name
+        return self.uses(self.statement[name] if is_law else self.whole[name])
+
+
+class Tree:
+    def __init__(self):
+        crates = read_crates(Path(CRATES).read_text(encoding="utf-8"))
+        self.libraries = [name for name in crates if name not in apart(crates)]
+        self.sources = {}
+
+    def source(self, place):
+        if place not in self.sources:
+            there = Path("crates", place[0], place[1], place[2] + ".antt").exists()
+            self.sources[place] = Source(place) if there else None
+        return self.sources[place]
+
+    def functions(self):
+        """The head of each public function, contract included, with what its file imports."""
+        for crate in self.libraries:
+            for path in sorted(Path("crates", crate, "src").rglob("*.rt")):
+                text = read(path)
+                yield from ((function, imports(text)) for function in FUNCTION.findall(text))
+
+    def contracts(self):
+        """What the contracts of public functions name."""
+        for function, scope in self.functions():
+            yield from (scope[word] for word in words(function) if word in scope)
+
+    def lacking(self):
+        """Public functions that ask something of their caller, or say nothing of their answer or of a buffer that they are lent."""
+        for function, _ in self.functions():
+            head = re.split("requires|ensures", function)[0]
+            if "requires" in function or function.count("ensures") < ("->" in head) + head.count("&mut"):
+                yield " ".join(head.split())
+
+    def laws(self):
+        """The laws whose names stand in docs/PROMISES.md; each has a hyphen in its name. One that a crate of laws has is that crate's."""
+        quoted = re.findall(r"`([^`\s]+-[^`\s]+)`", PROMISES.read_text(encoding="utf-8"))
+        told = {re.split(r"[./]", name)[-1] for name in quoted}
+        named = {}
+        for crate in self.libraries:
+            for path in sorted(Path("crates", crate, "proofs").glob("*.antt")):
+                source = self.source((crate, "proofs", path.stem))
+                for name in told & set(source.statement):
+                    named.setdefault(name, []).append((*source.place, name))
+        for laws in named.values():
+            yield from [law for law in laws if law[0].endswith("_laws")] or laws
+
+    def believed(self):
+        """Every statement and every definition that one rests on."""
+        found, left = set(), [*self.contracts(), *self.laws()]
+        while left:
+            one = left.pop()
+            if one not in found:
+                found.add(one)
+                source = self.source(one[:3])
+                left += source.below(one[3]) if source else []
+        return found
+
+    def outside(self, found):
+        """Definitions among these that stand in no specs folder."""
+        return sorted(
+            one for one in found
+            if one[1] == "proofs" and ("-" not in one[3] or one[3] in self.source(one[:3]).types) and one[3] in self.source(one[:3]).whole
+        )
+
+
+def lines(crate, module):
+    return len(Path("crates", crate, "specs", module + ".antt").read_text(encoding="utf-8").splitlines())
+
+
+def table(tree, found):
+    rows, files, total = [], 0, 0
+    for crate in tree.libraries:
+        needed = {one[2] for one in found if one[0] == crate and one[1] == "specs" and not one[2].startswith("declared")}
+        if needed:
+            order = [line.split()[-1] for line in Path("crates", crate, "specs/Lib.antt").read_text(encoding="utf-8").splitlines()]
+            counts = {module: lines(crate, module) for module in order if module in needed}
+            rows.append(f"| `{crate}` | {', '.join(f'`{m}` {n}' for m, n in counts.items())} | {sum(counts.values()):,} |")
+            files += len(counts)
+            total += sum(counts.values())
+    head = ["| crate | files of its `specs`, with their lines | lines |", "|---|---|---|"]
+    return "\n".join(head + rows + [f"| in all | {files} files | {total:,} |"])
+
+
+def print_names(tree, found):
+    for place in sorted({one[:3] for one in found if one[1] == "specs"}):
+        print("/".join(("crates", *place)) + ":", *sorted(one[3] for one in found if one[:3] == place))
+    for one in tree.outside(found):
+        print("in no specs folder:", "/".join(("crates", *one)))
+
+
+def main():
+    tree = Tree()
+    found = tree.believed()
+    if sys.argv[1:] == ["--names"]:
+        print_names(tree, found)
+        return
+    text = README.read_text(encoding="utf-8")
+    before, rest = text.split(BEGIN)
+    now = before + BEGIN + "\n\n" + table(tree, found) + "\n\n" + END + rest.split(END)[1]
+    if sys.argv[1:] == ["--check"]:
+        for function in tree.lacking():
+            sys.exit(f"a public function asks something of its caller, or its contract lacks an equation: {function}")
+        if now != text:
+            sys.exit(f"{README}: the table of what must be believed is not that of the crates: run make map")
+    elif sys.argv[1:]:
+        sys.exit("usage: tools/believe.py [--check | --names]")
+    else:
+        README.write_text(now, encoding="utf-8")
+
+
+if __name__ == "__main__":
+    main()
