@@ -46,12 +46,13 @@ run: kit
 	@$(RT) check eif_check >target/run.log 2>&1 || { cat target/run.log; exit 1; }
 	@target/bin/eif_check <'$(IMAGE)'
 
-# The proofs come first, and the tests use what they built. The last line says the kit's verdict again; where cargo is too old for the
-# Rust tests, all the rest is tried and the last line says what is missing.
+# The proofs come first, and the tests use what they built; the archive is built once. The last line says the kit's verdict again; where cargo
+# is too old for the Rust tests, all the rest is tried and the last line says what is missing.
 test: kit
 	@tests/prove.sh $(RT)
-	@$(MAKE) --no-print-directory written-test show-test c-test
-	@if tests/cargo.sh $(CARGO); then $(MAKE) --no-print-directory rust-test install-test; fi
+	@$(MAKE) --no-print-directory written-test show-test $(archive)
+	@$(MAKE) --no-print-directory EIF_LIB_DIR='$(EIF_LIB_DIR)' c-test
+	@if tests/cargo.sh $(CARGO); then $(MAKE) --no-print-directory EIF_LIB_DIR='$(EIF_LIB_DIR)' rust-test install-test; fi
 	@tests/cargo.sh $(CARGO)
 	@cat target/verdict
 
@@ -72,13 +73,14 @@ map:
 	tools/map.py
 	tools/believe.py
 
-# What tools/ has written is what it would write, what the documents name is there, and the layout is that of rt fmt.
+# What tools/ has written is what it would write, what the documents name is there, each import is used, and the layout is that of rt fmt.
 written-test: kit
 	tests/need.sh python3 python3
 	tools/map.py --check
 	tools/believe.py --check
 	tools/json_tables.py --check
 	tools/names.py --check
+	tools/imports.py
 	$(RT) fmt --check
 
 show-test: kit

@@ -2,11 +2,12 @@
 """Lists the definitions that must be believed, and keeps the table of README.md.
 
 Run in the repository's root: tools/believe.py writes the table between the two marks in README.md. With --check nothing is written, and the
-exit status is 1 where the table differs, or where a public function has a `requires` or lacks an `ensures`. With --names every definition is printed, file by file, and then those that stand in no
-specs folder.
+exit status is 1 where the table differs, where a public function has a `requires` or lacks an `ensures`, or where one of these definitions
+stands in no specs folder. With --names every definition is printed, file by file, and then those that stand in no specs folder.
 
-Statements are the contracts of the public functions of the libraries, and the laws that docs/PROMISES.md names. A definition must be
-believed where a statement names it, or a definition that must be believed does. A file is listed whole, by its number of lines.
+Statements are the contracts of the public functions of the libraries, and the laws that docs/PROMISES.md names. Libraries are all crates but
+programs and what only the programs that run cases stand on. A definition must be believed where a statement names it, or a definition that
+must be believed does. A file is listed whole, by its number of lines.
 """
 
 import re
@@ -14,7 +15,7 @@ import sys
 from pathlib import Path
 
 sys.dont_write_bytecode = True
-from map import CRATES, apart, read_crates
+from map import CRATES, read_crates
 
 README, PROMISES = Path("README.md"), Path("docs/PROMISES.md")
 BEGIN, END = "<!-- written by tools/believe.py -->", "<!-- to here -->"
@@ -25,8 +26,8 @@ FUNCTION = re.compile(
     r"^ *pub (?:extern \"C\" )?fn (?:(?!^ *(?:pub )?(?:extern \"C\" )?fn ).)*?(?:^ *\{|\{ *$)",
     re.M | re.S,
 )
-# a declaration: its indentation, whether it is a record or a data type, and its name
-DECLARATION = re.compile(r"^( *)(?:(?:pub|abbrev|unfoldable) )*(?:(record|data) (\S+)|(\S+) :)")
+# a declaration: its indentation, what stands before its name, whether it is a record or a data type, and its name
+DECLARATION = re.compile(r"^( *)((?:(?:pub|abbrev|unfoldable) )*)(?:(record|data) (\S+)|(\S+) :)")
 
 
 def read(path):
@@ -35,7 +36,9 @@ def read(path):
 
 
 def words(text):
-    return {word.strip(".") for word in WORD.findall(text)}
+    """The names in a text, but for those that it binds and for fields after a point, whose record its type names."""
+    bound = {name for names in re.findall(r"[({]([^(){}:]+) :", text) for name in names.split()}
+    return {word for word in WORD.findall(text) if not word.startswith(".")} - bound
 
 
 def imports(text):
@@ -55,7 +58,8 @@ class Source:
         crate, folder, module = place
         text = read(Path("crates", crate, folder, module + ".antt"))
         self.scope = imports(text)
-        self.statement, self.whole, self.types, self.constructors = {}, {}, set(), {}
+        self.statement, self.whole, self.constructors = {}, {}, {}
+        self.types, self.definitions, self.public = set(), set(), set()
         self.name, self.modules = None, []
         for line in text.splitlines():
             if line.strip() and not line.startswith(("use ", "pub mod ")):
@@ -73,17 +77,21 @@ class Source:
             self.declare(line, declared)
         elif self.name:
             if declared and self.name in self.types:
-                self.constructors[declared[4]] = self.name
+                self.constructors[declared[5]] = self.name
             self.stated &= depth > 2 * len(self.modules)
             if self.stated:
                 self.statement[self.name] += "\n" + line
             self.whole[self.name] += "\n" + line
 
     def declare(self, line, declared):
-        self.name = declared[3] or declared[4]
+        self.name = declared[4] or declared[5]
         self.stated = True
-        if declared[2]:
+        if declared[3]:
             self.types.add(self.name)
+        if declared[3] or "abbrev" in declared[2] or "unfoldable" in declared[2]:
+            self.definitions.add(self.name)
+        if "pub" in declared[2]:
+            self.public.add(self.name)
         self.statement[self.name] = self.whole[self.name] = "\n".join(self.modules + [line])
 
     def uses(self, text):
@@ -100,14 +108,20 @@ class Source:
         name = self.constructors.get(name, name)
         if name not in self.whole:
             return []
-        is_law = self.place[1] == "proofs" and name not in self.types and "-" in name
+        is_law = self.place[1] == "proofs" and name not in self.definitions
         return self.uses(self.statement[name] if is_law else self.whole[name])
+
+
+def is_library(crates, name):
+    users = [user for user, below in crates.items() if name in below]
+    only_for_cases = users and all(user.endswith("_cases") for user in users)
+    return Path("crates", name, "src/lib.rt").exists() and not only_for_cases
 
 
 class Tree:
     def __init__(self):
         crates = read_crates(Path(CRATES).read_text(encoding="utf-8"))
-        self.libraries = [name for name in crates if name not in apart(crates)]
+        self.libraries = [name for name in crates if is_library(crates, name)]
         self.sources = {}
 
     def source(self, place):
@@ -136,17 +150,21 @@ class Tree:
                 yield " ".join(head.split())
 
     def laws(self):
-        """The laws whose names stand in docs/PROMISES.md; each has a hyphen in its name. One that a crate of laws has is that crate's."""
-        quoted = re.findall(r"`([^`\s]+-[^`\s]+)`", PROMISES.read_text(encoding="utf-8"))
-        told = {re.split(r"[./]", name)[-1] for name in quoted}
-        named = {}
+        """The laws whose names stand in docs/PROMISES.md. One that is named alone has a hyphen in its name, and is of the file that its line
+        named before, or else of every file that has it."""
+        stated = {}
         for crate in self.libraries:
             for path in sorted(Path("crates", crate, "proofs").glob("*.antt")):
-                source = self.source((crate, "proofs", path.stem))
-                for name in told & set(source.statement):
-                    named.setdefault(name, []).append((*source.place, name))
-        for laws in named.values():
-            yield from [law for law in laws if law[0].endswith("_laws")] or laws
+                for name in self.source((crate, "proofs", path.stem)).public:
+                    stated.setdefault(name, []).append((crate, "proofs", path.stem, name))
+        for line in PROMISES.read_text(encoding="utf-8").splitlines():
+            before = []
+            for token in re.findall(r"`([^`\s]+)`", line):
+                *path, name = re.split(r"[./]", token)
+                where = path or before
+                laws = stated.get(name, [])
+                yield from [law for law in laws if where == [law[0], law[2]]] or ([] if path else laws if "-" in name else [])
+                before = path if len(path) == 2 else [*path, name] if len(path) == 1 else before
 
     def believed(self):
         """Every statement and every definition that one rests on."""
@@ -163,7 +181,7 @@ class Tree:
         """Definitions among these that stand in no specs folder."""
         return sorted(
             one for one in found
-            if one[1] == "proofs" and ("-" not in one[3] or one[3] in self.source(one[:3]).types) and one[3] in self.source(one[:3]).whole
+            if one[1] == "proofs" and one[3] in self.source(one[:3]).definitions
         )
 
 
@@ -204,6 +222,8 @@ def main():
     if sys.argv[1:] == ["--check"]:
         for function in tree.lacking():
             sys.exit(f"a public function asks something of its caller, or its contract lacks an equation: {function}")
+        for one in tree.outside(found):
+            sys.exit(f"a law's statement rests on a definition that stands in no specs folder: {'/'.join(('crates', *one))}")
         if now != text:
             sys.exit(f"{README}: the table of what must be believed is not that of the crates: run make map")
     elif sys.argv[1:]:

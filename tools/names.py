@@ -143,6 +143,14 @@ def edits_that_do_not_fit():
                 text = text.replace(old, rest, 1)
 
 
+def edits_that_name_nothing():
+    """Must-fail edits that call what a crate does not have: these would be refused whatever their fact."""
+    for path in sorted(Path("crates").glob("*/must-fail/*.edit")):
+        for crate, name in re.findall(r"\b([a-z]\w*)::(\w+)", path.read_text(encoding="utf-8")):
+            if Path("crates", crate).exists() and not any(holds(file, name) for file in Path("crates", crate, "src").rglob("*.rt")):
+                yield f"{path}: {crate}::{name} is not there"
+
+
 def main():
     if sys.argv[1:] != ["--check"]:
         sys.exit("usage: tools/names.py --check")
@@ -150,6 +158,7 @@ def main():
     faults = [fault for document in DOCUMENTS for fault in faults_of(document, words)]
     faults += edits_without_a_row()
     faults += edits_that_do_not_fit()
+    faults += edits_that_name_nothing()
     print(*faults, sep="\n", end="\n" if faults else "")
     sys.exit(1 if faults else 0)
 

@@ -13,15 +13,17 @@
 
 enum { STACK_LENGTH = 1 << 18, PATTERN = 0xa5, SECTIONS = EIF_MAX_SECTIONS, METADATA = 2 };
 enum { TEXT_LENGTH = 2 * EIF_MAX_JSON_DEPTH };
-enum { SHORT_SECTION = 98, LONG_SECTION = 4000, LONGER_SECTION = 9000, ROOM = 1 << 20 };
-/* What an image of less than 256 KiB is held to: only a longer one takes the large window of the checksum. */
-enum { LONG_STACK_KIB = 16 };
+/* Lengths of sections, for an image of EIF_SHORT_LENGTH bytes at most and one on each side of LONGER bytes and of PARTED. */
+enum { SHORT_SECTION = 98, LONG_SECTION = 4000, LONGER_SECTION = 9000, LONGEST_SECTION = 542000 };
+/* From LONGER bytes on the checksum takes its large window, from PARTED on two parts. What is shorter is held to LONG_STACK_KIB. */
+enum { LONGER = 1 << 18, PARTED = 1 << 24, LONG_STACK_KIB = 16 };
+enum { DATA_LENGTH = SECTIONS * LONGEST_SECTION, ROOM = 2 * DATA_LENGTH };
 
 static uint8_t stack[STACK_LENGTH];
 static ucontext_t here, there;
 
 static eif_plan plan;
-static uint8_t data[SECTIONS * LONGER_SECTION], text[TEXT_LENGTH];
+static uint8_t data[DATA_LENGTH], text[TEXT_LENGTH];
 static uint8_t image[ROOM], out[ROOM], roll[ROOM];
 static size_t data_length, image_length, roll_length;
 static eif_stream_position start;
@@ -229,6 +231,10 @@ int main(void) {
     int failures = try_calls(SHORT_SECTION, EIF_SHORT_STACK_KIB);
     failures += image_length > EIF_SHORT_LENGTH;
     failures += try_calls(LONG_SECTION, LONG_STACK_KIB);
+    failures += image_length >= LONGER;
     failures += try_calls(LONGER_SECTION, EIF_STACK_KIB);
+    failures += image_length < EIF_HEADER_LENGTH + LONGER || image_length >= PARTED;
+    failures += try_calls(LONGEST_SECTION, EIF_STACK_KIB);
+    failures += image_length < EIF_HEADER_LENGTH + PARTED;
     return failures != 0;
 }

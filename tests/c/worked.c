@@ -53,16 +53,22 @@ static void put_place(eif_plan *plan, unsigned i, uint16_t type, uint64_t length
     plan->places[i].length.value = length;
 }
 
-static void try_write(const uint8_t *image) {
-    static const uint8_t data[3] = {0x4b, 0x61, 0x00};
-    uint8_t out[600];
+/* A kernel and a command line of one byte each, and an empty section of a type. */
+static eif_plan plan_with(uint16_t version, uint16_t type) {
     eif_plan plan;
     memset(&plan, 0, sizeof plan);
-    plan.version = 2;
+    plan.version = version;
     plan.count = 3;
     put_place(&plan, 0, EIF_KERNEL, 1);
     put_place(&plan, 1, EIF_COMMAND_LINE, 1);
-    put_place(&plan, 2, EIF_RAMDISK, 0);
+    put_place(&plan, 2, type, 0);
+    return plan;
+}
+
+static void try_write(const uint8_t *image) {
+    static const uint8_t data[3] = {0x4b, 0x61, 0x00};
+    uint8_t out[600];
+    eif_plan plan = plan_with(2, EIF_RAMDISK);
 
     check(is(eif_plan_length(plan), EIF_ACCEPTED, IMAGE_LENGTH), "plan's length");
     memset(out, STAYS, sizeof out);
@@ -187,12 +193,7 @@ static void try_json(void) {
 static void try_strict(const uint8_t *worked) {
     static const uint8_t data[9] = {'k', 'c', '{', '"', 'a', '"', ':', '1', '}'};
     uint8_t image[600];
-    eif_plan plan;
-    memset(&plan, 0, sizeof plan);
-    plan.version = 4;
-    plan.count = 3;
-    put_place(&plan, 0, EIF_KERNEL, 1);
-    put_place(&plan, 1, EIF_COMMAND_LINE, 1);
+    eif_plan plan = plan_with(4, EIF_METADATA);
     for (size_t length = 0; length <= 7; length++) {
         put_place(&plan, 2, EIF_METADATA, length);
         eif_answer written = eif_write(plan, data, 2 + length, image, sizeof image);

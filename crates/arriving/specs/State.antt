@@ -3,10 +3,10 @@
 use Prim.Native.Nat.{ℕ, zero, suc, _-_, _^_, max}
 use mathlib.Core.List.{List, [], _∷_, _++_}
 use lib.ListN.{length, take, drop}
+use Rattle.eif.specs.Table.{joinFrom}
 use Rattle.crc32.specs.Crc.{crcFrom, ones32}
 use Rattle.eif.specs.Numbers.{placeCount}
 use Rattle.eif.specs.Layout.{headerSize, sectionHeaderSize, checksumAt, checksumEnd, offsetAt}
-use Rattle.eif.specs.Plan.{joinFrom}
 use Rattle.arriving.specs.declared.Arriving.{Arriving}
 
 -- the first n bytes of a string, and zeros where it has fewer

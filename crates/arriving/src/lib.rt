@@ -5,7 +5,7 @@
 // contract holds for any state, and the laws of a state begun fresh are in arriving_laws.
 ghost use mathlib.Core.Path.{_≡_};
 ghost use mathlib.Core.List.{[]};
-ghost use Prim.Native.Nat.{_+_, _-_, _*_, _<_, _≤_, min};
+ghost use Prim.Native.Nat.{_+_, _-_, _*_, _<_, _≤_};
 ghost use lib.ListN.{length};
 ghost use Rattle.crc32.specs.Crc.{crcFrom};
 ghost use Rattle.eif.specs.Numbers.{placeCount};
@@ -15,9 +15,6 @@ ghost use Rattle.arriving.specs.Calls.{keptOver, headersOver, grown, fed
 use eif::Header;
 use eif::Reading;
 use eif::SectionHeader;
-
-// Twelve bytes for each place of the section table.
-pub const HEADERS: usize = SectionHeader::SIZE * eif::PLACES;
 
 // The largest count of bytes; the counter stops there.
 pub const COUNT_LIMIT: u64 = 0xFFFFFFFFFFFFFFFF;
@@ -29,7 +26,7 @@ pub const COUNT_LIMIT: u64 = 0xFFFFFFFFFFFFFFFF;
 pub struct Arriving {
     pub taken: u64,
     pub header: [u8; Header::SIZE],
-    pub headers: [u8; HEADERS],
+    pub headers: [u8; SectionHeader::ALL_SIZE],
     pub checksum: u32,
     pub ended: u64,
 }
@@ -49,12 +46,6 @@ pub struct Finished {
 
 // ---- numbers
 
-fn lesser(a: u64, b: u64) -> u64
-    ensures { λ r. ⌜ r ≡ min a b ⌝ }
-{
-    if a < b { a } else { b }
-}
-
 // How far a position lies past another; 0 where it does not.
 fn past(position: u64, other: u64) -> u64
     ensures { λ r. ⌜ r ≡ position - other ⌝ }
@@ -72,7 +63,7 @@ fn kept_from(header: &[u8], i: usize) -> u64
     requires { ⌜ i < placeCount ⌝ }
     ensures { λ r. ⌜ r ≡ keptFrom (now (header .entry)) i ⌝ }
 {
-    let offset = octets::be64(header, Header::OFFSETS_AT + 8 * i);
+    let offset = octets::be64(header, Header::OFFSETS_AT + Header::ENTRY_SIZE * i);
     if offset < Header::SIZE as u64 {
         return Header::SIZE as u64;
     }
@@ -95,7 +86,7 @@ fn keep_header(headers: &mut [u8], at: usize, from: u64, taken: u64, piece: &[u8
         return;
     }
     let start = skip as usize;
-    let end = start + lesser(size - held, len - skip) as usize;
+    let end = start + octets::lesser((size - held) as usize, (len - skip) as usize);
     octets::copy(headers, at + held as usize, &piece[start..end]);
 }
 
@@ -123,13 +114,15 @@ fn remainder(checksum: u32, taken: u64, piece: &[u8]) -> u32
     ensures { λ r. ⌜ r ≡ crcFrom checksum (checkedAfter taken (now (piece .entry))) ⌝ }
 {
     if Header::SIZE as u64 <= taken {
-        return crc32::update(checksum, piece);
+        return crc32_fold::update(checksum, piece);
     }
-    let len = piece.len() as u64;
-    let end = lesser(past(Header::CHECKSUM_AT as u64, taken), len) as usize;
-    let start = lesser(past(Header::SIZE as u64, taken), len) as usize;
-    let before = crc32::update(checksum, &piece[..end]);
-    crc32::update(before, &piece[start..])
+    let end = octets::lesser(
+        past(Header::CHECKSUM_AT as u64, taken) as usize,
+        piece.len(),
+    );
+    let start = octets::lesser(past(Header::SIZE as u64, taken) as usize, piece.len());
+    let before = crc32_fold::update(checksum, &piece[..end]);
+    crc32_fold::update(before, &piece[start..])
 }
 
 // ---- the three calls
@@ -141,8 +134,8 @@ pub fn begin() -> Arriving
     Arriving {
         taken: 0,
         header: [0u8; Header::SIZE],
-        headers: [0u8; HEADERS],
-        checksum: crc32::START,
+        headers: [0u8; SectionHeader::ALL_SIZE],
+        checksum: crc32_fold::START,
         ended: 0,
     }
 }
@@ -173,13 +166,13 @@ pub fn feed(state: Arriving, piece: &[u8], allowance: u64) -> Fed
     if state.ended != 0 {
         return Fed { state, count: 0 };
     }
-    let count = lesser(allowance, piece.len() as u64);
+    let count = octets::lesser(allowance as usize, piece.len());
     let room = COUNT_LIMIT - state.taken;
-    let kept = lesser(room, count) as usize;
+    let kept = octets::lesser(room as usize, count);
     let after = grow(state, &piece[..kept]);
     Fed {
         state: after,
-        count,
+        count: count as u64,
     }
 }
 

@@ -5,26 +5,17 @@ use mathlib.Core.Path.{_≡_, refl, sym, ap, ap₂, _∙_}
 use mathlib.Core.List.{List, [], _∷_, _++_, append-assoc, append-nil}
 use mathlib.Core.Logic.{⊎-elim}
 use native.Mathlib.Omega.{arith}
-use native.Mathlib.Nat.{add-zero, zero-add, suc-add, sub-zero, zero-sub, suc-sub-suc}
+use native.Mathlib.Nat.{add-zero, zero-add, suc-add}
 use lib.ListN.{length, take, drop, set, length-set, length-drop, drop-of-length-le}
-use lib.Seq.{take-nil, drop-nil, set-append-left, drop-append-le, take-append-le, drop-append-add}
+use lib.Seq.{take-nil, set-append-left, drop-append-le, take-append-le, drop-append-add}
+use Rattle.eif.specs.Table.{joinFrom}
+use Rattle.octets.proofs.Lists.{take-both, drop-both}
 use Rattle.octets.specs.Over.{over}
 use Rattle.octets.proofs.Over.{le-or-lt, over-head, over-out}
 use Rattle.eif.specs.Layout.{headerSize, sectionHeaderSize, checksumAt}
-use Rattle.eif.specs.Plan.{joinFrom}
 use Rattle.arriving.specs.State.{padded, checkedAfter}
 
 -- ---- of two parts
-
-pub take-both : (n : ℕ) (x y : List ℕ) → take n (x ++ y) ≡ take n x ++ take (n - length x) y
-take-both n [] y = simp (take-nil, sub-zero)
-take-both zero (b ∷ x) y = simp zero-sub
-take-both (suc n) (b ∷ x) y = ap (λ (l : List ℕ). b ∷ l) (take-both n x y) ∙ simp suc-sub-suc
-
-pub drop-both : (n : ℕ) (x y : List ℕ) → drop n (x ++ y) ≡ drop n x ++ drop (n - length x) y
-drop-both n [] y = simp (drop-nil, sub-zero)
-drop-both zero (b ∷ x) y = simp zero-sub
-drop-both (suc n) (b ∷ x) y = drop-both n x y ∙ simp suc-sub-suc
 
 parts-both : (m n : ℕ) (x y : List ℕ) → m ≤ n
     → take m (x ++ y) ++ drop n (x ++ y) ≡ (take m x ++ drop n x) ++ (take (m - length x) y ++ drop (n - length x) y)

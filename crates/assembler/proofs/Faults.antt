@@ -10,7 +10,7 @@ use lib.ListN.{length, take}
 use Rattle.eif.specs.Numbers.{sizeLimit, pieceRecordWrong, pieceOutOfTurn, bufferTooShort, pieceDiffers, pieceMissing}
 use Rattle.octets.specs.Logic.{choose}
 use Rattle.eif.specs.Roll.{recordHeadSize}
-use Rattle.eif_lemmas.proofs.Logic.{choose-zero, either-false}
+use Rattle.octets.proofs.Logic.{choose-zero, either-false}
 use Rattle.assembler.specs.Records.{pieceSize, numberSize, openKind, pieceKind, closeKind, kindIn, numberIn, dataIn, isOpen, formed, piecesOf, pieceSizeAt, offGrid}
 use Rattle.assembler.specs.Rules.{isOpened, outOfTurn, tooSmall, shorterThanAtOpen, shortFor, heldWithOther, allHeld, faultOf}
 use Rattle.assembler.specs.ByKind.{openFault, pieceFault, closeFault}

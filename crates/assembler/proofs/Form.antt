@@ -8,7 +8,7 @@ use borrow.Author.Tests.{le-leb, lt-leb, eq-eqb, ne-eqb, leb-true, eqb-true}
 use lib.Dec.{leb}
 use lib.ListN.{length}
 use Rattle.eif.specs.Roll.{recordHeadSize}
-use Rattle.eif_lemmas.proofs.Logic.{both-true}
+use Rattle.octets.proofs.Logic.{both-true}
 use Rattle.assembler.specs.Records.{numberSize, openKind, pieceKind, closeKind, sizeIn, kindIn, sizeFits, formed}
 
 module _ (r : List ℕ) where

@@ -10,7 +10,7 @@ use Rattle.octets.specs.Over.{over}
 use Rattle.octets.specs.Logic.{both, choose}
 use Rattle.assembler.specs.Records.{pieceSize, numberIn, dataIn, piecesOf, pieceSizeAt, placeIn}
 use Rattle.octets.specs.Same.{sameBytes}
-use Rattle.assembler.specs.Rules.{held, standing, heldWithOther}
+use Rattle.assembler.specs.Rules.{isHeld, standing, heldWithOther}
 use Rattle.assembler.specs.Step.{pieceWritten, pieceMarked}
 
 -- the place of a start in the image has a mark, and its piece lies in the image
@@ -22,19 +22,19 @@ piece-in n start count h e = omega arith
 
 module _ (r y : List ℕ) where
   module _ (n : ℕ) (number-is : n ≡ numberIn r) where
-    pub held-yes : (getD y (n / pieceSize) 0 ≡ 0 → ⊥) → held r y ≡ true
+    pub held-yes : (getD y (n / pieceSize) 0 ≡ 0 → ⊥) → isHeld r y ≡ true
     held-yes h =
         let g : getD y (placeIn r) 0 ≡ 0 → ⊥ = λ e. h (ap (λ (m : ℕ). getD y (m / pieceSize) 0) number-is ∙ e) in
         ap not (ne-eqb _ _ g)
 
-    pub held-no : getD y (n / pieceSize) 0 ≡ 0 → held r y ≡ false
+    pub held-no : getD y (n / pieceSize) 0 ≡ 0 → isHeld r y ≡ false
     held-no h = ap not (eq-eqb _ _ (sym (ap (λ (m : ℕ). getD y (m / pieceSize) 0) number-is) ∙ h))
 
   module _ (x : List ℕ) where
-    pub not-held : held r y ≡ false → false ≡ heldWithOther r x y
+    pub not-held : isHeld r y ≡ false → false ≡ heldWithOther r x y
     not-held h = sym (ap (λ (t : Bool). both t (not (sameBytes (standing r x) (dataIn r)))) h)
 
-    pub held-other : (n : ℕ) → n ≡ numberIn r → (b : List ℕ) → b ≡ dataIn r → held r y ≡ true
+    pub held-other : (n : ℕ) → n ≡ numberIn r → (b : List ℕ) → b ≡ dataIn r → isHeld r y ≡ true
         → (w : Bool) → w ≡ sameBytes (take (n + length b - n) (drop n x)) b → not w ≡ heldWithOther r x y
     held-other n number-is b bytes-are h w e =
         let f : n + length b - n ≡ length b = omega arith in
@@ -42,10 +42,10 @@ module _ (r y : List ℕ) where
         ∙ ap₂ (λ (m : ℕ) (l : List ℕ). not (sameBytes (take (length l) (drop m x)) l)) number-is bytes-are
         ∙ sym (ap (λ (t : Bool). both t (not (sameBytes (standing r x) (dataIn r)))) h)
 
-    pub piece-kept : held r y ≡ true → (x ≡ pieceWritten r x y) × (y ≡ pieceMarked r y)
+    pub piece-kept : isHeld r y ≡ true → (x ≡ pieceWritten r x y) × (y ≡ pieceMarked r y)
     piece-kept h =
         (sym (ap (λ (t : Bool). choose t x (over x (numberIn r) (dataIn r))) h), sym (ap (λ (t : Bool). choose t y (set y (placeIn r) 1)) h))
 
-    pub piece-put : held r y ≡ false → (over x (numberIn r) (dataIn r) ≡ pieceWritten r x y) × (set y (placeIn r) 1 ≡ pieceMarked r y)
+    pub piece-put : isHeld r y ≡ false → (over x (numberIn r) (dataIn r) ≡ pieceWritten r x y) × (set y (placeIn r) 1 ≡ pieceMarked r y)
     piece-put h =
         (sym (ap (λ (t : Bool). choose t x (over x (numberIn r) (dataIn r))) h), sym (ap (λ (t : Bool). choose t y (set y (placeIn r) 1)) h))

@@ -7,7 +7,7 @@ use lib.Dec.{leb, eqb}
 use lib.ListN.{length, drop}
 use Rattle.octets.specs.Bytes.{leField}
 use Rattle.octets.specs.Logic.{both, either, choose}
-use Rattle.eif.specs.Roll.{recordHeadSize, recordTypeAt}
+use Rattle.eif.specs.Roll.{recordHeadSize, recordLengthAt, recordTypeAt}
 
 -- ---- numbers
 
@@ -31,14 +31,14 @@ closeKind = 3
 -- ---- what a record says: the head is that of a roll's record, 8-byte length of what follows and 2-byte kind, little-endian
 
 abbrev pub sizeIn : List ℕ → ℕ
-sizeIn r = leField 8 0 r
+sizeIn r = leField 8 recordLengthAt r
 
 abbrev pub kindIn : List ℕ → ℕ
 kindIn r = leField 2 recordTypeAt r
 
 -- the image length of an open, the start of a piece
 abbrev pub numberIn : List ℕ → ℕ
-numberIn r = leField 8 recordHeadSize r
+numberIn r = leField numberSize recordHeadSize r
 
 -- the data of a piece
 abbrev pub dataIn : List ℕ → List ℕ

@@ -1,7 +1,7 @@
 -- The rules that refuse a record, in a state st, with an image buffer x and a mark buffer y, for any values of these.
 -- Assumes nothing.
 use Prim.Native.Nat.{ℕ}
-use mathlib.Core.Bool.{Bool, true, false, not}
+use mathlib.Core.Bool.{Bool, true, not}
 use mathlib.Core.List.{List, [], _∷_}
 use lib.Dec.{ltb, eqb}
 use lib.ListN.{length, take, drop, getD}
@@ -49,15 +49,15 @@ tooShort st r x y =
 -- ---- 25: a piece already held with other bytes
 
 -- any mark but 0 is held
-abbrev pub held : List ℕ → List ℕ → Bool
-held r y = not (eqb (getD y (placeIn r) 0) 0)
+abbrev pub isHeld : List ℕ → List ℕ → Bool
+isHeld r y = not (eqb (getD y (placeIn r) 0) 0)
 
 -- the bytes that stand where a record's piece belongs
 abbrev pub standing : List ℕ → List ℕ → List ℕ
 standing r x = take (length (dataIn r)) (drop (numberIn r) x)
 
 abbrev pub heldWithOther : List ℕ → List ℕ → List ℕ → Bool
-heldWithOther r x y = both (held r y) (not (sameBytes (standing r x) (dataIn r)))
+heldWithOther r x y = both (isHeld r y) (not (sameBytes (standing r x) (dataIn r)))
 
 abbrev pub differs : List ℕ → List ℕ → List ℕ → Bool
 differs r x y = both (isPiece r) (heldWithOther r x y)

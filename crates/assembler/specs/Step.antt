@@ -9,7 +9,7 @@ use Rattle.eif.specs.Answers.{refuse}
 use Rattle.eif.specs.declared.Verdict.{Verdict}
 use Rattle.eif.specs.declared.Verdict.the-variants.{Accepted}
 use Rattle.assembler.specs.Records.{numberIn, dataIn, isOpen, isPiece, piecesOf, placeIn}
-use Rattle.assembler.specs.Rules.{held, faultOf}
+use Rattle.assembler.specs.Rules.{isHeld, faultOf}
 use Rattle.assembler.specs.declared.State.{State}
 use Rattle.assembler.specs.declared.Stepped.{Stepped}
 
@@ -47,7 +47,7 @@ stepAnswer st r x y =
 -- ---- the image buffer: a piece taken writes its bytes, a repeat changes nothing, and no other byte changes
 
 abbrev pub pieceWritten : List ℕ → List ℕ → List ℕ → List ℕ
-pieceWritten r x y = choose (held r y) x (over x (numberIn r) (dataIn r))
+pieceWritten r x y = choose (isHeld r y) x (over x (numberIn r) (dataIn r))
 
 unfoldable pub imageAfter : State → List ℕ → List ℕ → List ℕ → List ℕ
 imageAfter st r x y =
@@ -58,7 +58,7 @@ imageAfter st r x y =
 -- ---- the mark buffer: an open zeroes its pieces' marks, and a piece taken writes mark 1
 
 abbrev pub pieceMarked : List ℕ → List ℕ → List ℕ
-pieceMarked r y = choose (held r y) y (set y (placeIn r) 1)
+pieceMarked r y = choose (isHeld r y) y (set y (placeIn r) 1)
 
 unfoldable pub marksAfter : State → List ℕ → List ℕ → List ℕ → List ℕ
 marksAfter st r x y =

@@ -1,5 +1,5 @@
 // An image that comes in pieces, in any order and more than once (FORMAT.md, Pieces out of order): the vocabulary. The definitions stand in
-// specs/, the calls in the crate assembler.
+// specs/, the refusals in `assembler_judge`, the call in `assembler_step`.
 use eif::RecordHead;
 use eif::Verdict;
 
@@ -7,9 +7,9 @@ use eif::Verdict;
 pub const PIECE_SIZE: u64 = 4096;
 
 // A record's kind.
-pub struct RecordKind;
+pub struct PieceRecordKind;
 
-impl RecordKind {
+impl PieceRecordKind {
     pub const OPEN: u16 = 1;
 
     pub const PIECE: u16 = 2;
@@ -18,14 +18,14 @@ impl RecordKind {
 }
 
 // What follows a record's head: an open's image length, a piece's start and its data.
-pub struct Record;
+pub struct PieceRecord;
 
-impl Record {
+impl PieceRecord {
     pub const NUMBER_AT: usize = RecordHead::SIZE;
 
     pub const NUMBER_SIZE: u64 = 8;
 
-    pub const DATA_AT: usize = RecordHead::SIZE + 8;
+    pub const DATA_AT: usize = PieceRecord::NUMBER_AT + PieceRecord::NUMBER_SIZE as usize;
 }
 
 // Whether a transfer is open (0: no), its image length, and the lengths of the image buffer and of the mark buffer when it was opened.

@@ -4,15 +4,15 @@
 ghost use Prim.Native.Nat.{_≤_, _<_};
 ghost use lib.ListN.{length};
 use assembler::PIECE_SIZE;
-use assembler::Record;
-use assembler::RecordKind;
+use assembler::PieceRecord;
+use assembler::PieceRecordKind;
 use assembler::State;
 use eif::RecordHead;
 use eif::Refusal;
 use eif::Verdict;
 
 // The longest record.
-const LONGEST: usize = Record::DATA_AT + PIECE_SIZE as usize;
+const LONGEST: usize = PieceRecord::DATA_AT + PIECE_SIZE as usize;
 
 // ---- lines
 
@@ -118,10 +118,10 @@ fn size_of(kind: u16, count: usize) -> usize
     requires { ⌜ count ≤ 4096 ⌝ }
     ensures { λ r. ⌜ r ≤ 4104 ⌝ }
 {
-    if kind == RecordKind::OPEN {
+    if kind == PieceRecordKind::OPEN {
         return 8;
     }
-    if kind == RecordKind::PIECE {
+    if kind == PieceRecordKind::PIECE {
         return 8 + count;
     }
     0
@@ -130,7 +130,7 @@ fn size_of(kind: u16, count: usize) -> usize
 fn put_head(sent: &mut [u8], size: u64, kind: u16, number: u64) {
     octets::put_le64(sent, RecordHead::LENGTH_AT, size);
     octets::put_le16(sent, RecordHead::TYPE_AT, kind);
-    octets::put_le64(sent, Record::NUMBER_AT, number);
+    octets::put_le64(sent, PieceRecord::NUMBER_AT, number);
 }
 
 fn record_text(s: Sending) {
@@ -150,10 +150,10 @@ fn make(sent: &mut [u8], s: Sending) -> usize
     requires { ⌜ 4114 ≤ length (now sent) ⌝ }
     ensures { λ r. ⌜ r ≤ 4104 ⌝ }
 {
-    let count = lesser(s.2, PIECE_SIZE as usize);
+    let count = octets::lesser(s.2, PIECE_SIZE as usize);
     let size = size_of(s.0, count);
-    let end = Record::DATA_AT + count;
-    put_data(&mut sent[Record::DATA_AT..end], s.1, s.3);
+    let end = PieceRecord::DATA_AT + count;
+    put_data(&mut sent[PieceRecord::DATA_AT..end], s.1, s.3);
     put_head(sent, size as u64, s.0, s.1);
     size
 }
@@ -166,17 +166,11 @@ fn send(state: State, s: Sending, image: &mut [u8], marks: &mut [u8]) -> State {
     call(state, &sent[..RecordHead::SIZE + size], image, marks)
 }
 
-fn lesser(a: usize, b: usize) -> usize
-    ensures { λ r. ⌜ r ≤ b ⌝ }
-{
-    if a < b { a } else { b }
-}
-
 // The length of a buffer that is cut.
 fn cut(length: usize, by: usize) -> usize
     ensures { λ r. ⌜ r ≤ length ⌝ }
 {
-    length - lesser(by, length)
+    length - octets::lesser(by, length)
 }
 
 fn send_cut(state: State, s: Sending, image: &mut [u8], marks: &mut [u8]) -> State {

@@ -9,6 +9,7 @@ use borrow.Author.Tests.{lt-leb, le-leb, eq-eqb, ne-eqb}
 use lib.Dec.{eqb}
 use lib.ListN.{length, drop, getD, drop-of-length-le}
 use lib.Seq.{drop-cons}
+use Rattle.octets.proofs.Logic.{both-none}
 use Rattle.octets.specs.Logic.{both}
 use Rattle.assembler.specs.Records.{pieceSize, offGrid}
 use Rattle.octets.specs.Same.{sameBytes}
@@ -16,17 +17,13 @@ use Rattle.assembler.specs.Rules.{allHeld}
 
 -- ---- two byte strings
 
-both-false : (b : Bool) → both b false ≡ false
-both-false true = refl
-both-false false = refl
-
 pub same-lengths : (a b : List ℕ) → (length a ≡ length b → ⊥) → false ≡ sameBytes a b
 unfolding sameBytes
 same-lengths [] [] h = absurd (h refl)
 same-lengths [] (y ∷ b) h = refl
 same-lengths (x ∷ a) [] h = refl
 same-lengths (x ∷ a) (y ∷ b) h =
-    sym (ap (both (eqb x y)) (sym (same-lengths a b (λ e. h (ap suc e)))) ∙ both-false (eqb x y))
+    sym (ap (both (eqb x y)) (sym (same-lengths a b (λ e. h (ap suc e)))) ∙ both-none (eqb x y))
 
 module _ (a b : List ℕ) (k : ℕ) where
   module _ (ha : k < length a) (hb : k < length b) where

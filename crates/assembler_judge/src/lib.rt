@@ -5,11 +5,11 @@ ghost use lib.ListN.{length};
 ghost use Rattle.eif.specs.Roll.{recordHeadSize};
 ghost use Rattle.assembler.specs.Records.{numberSize, numberIn, dataIn, formed, piecesOf, offGrid, placeIn};
 ghost use Rattle.octets.specs.Same.{sameBytes};
-ghost use Rattle.assembler.specs.Rules.{allHeld, held, heldWithOther, tooSmall, shortFor, faultOf};
+ghost use Rattle.assembler.specs.Rules.{allHeld, isHeld, heldWithOther, tooSmall, shortFor, faultOf};
 ghost use Rattle.assembler.specs.ByKind.{openFault, pieceFault, closeFault};
 use assembler::PIECE_SIZE;
-use assembler::Record;
-use assembler::RecordKind;
+use assembler::PieceRecord;
+use assembler::PieceRecordKind;
 use assembler::State;
 use eif::RecordHead;
 use eif::Refusal;
@@ -39,13 +39,13 @@ fn is_formed(sent: &[u8]) -> bool
         return false;
     }
     let kind = octets::le16(sent, RecordHead::TYPE_AT);
-    if kind == RecordKind::OPEN {
-        return size == Record::NUMBER_SIZE;
+    if kind == PieceRecordKind::OPEN {
+        return size == PieceRecord::NUMBER_SIZE;
     }
-    if kind == RecordKind::PIECE {
-        return Record::NUMBER_SIZE <= size;
+    if kind == PieceRecordKind::PIECE {
+        return PieceRecord::NUMBER_SIZE <= size;
     }
-    if kind == RecordKind::CLOSE {
+    if kind == PieceRecordKind::CLOSE {
         return size == 0;
     }
     false
@@ -129,9 +129,9 @@ fn is_same(a: &[u8], b: &[u8]) -> bool
 // Whether a piece's mark is anything but 0.
 fn is_held(sent: &[u8], marks: &[u8]) -> bool
     requires { ⌜ placeIn (now sent) < length (now marks) ⌝ }
-    ensures { λ r. ⌜ r ≡ held (now (sent .entry)) (now (marks .entry)) ⌝ }
+    ensures { λ r. ⌜ r ≡ isHeld (now (sent .entry)) (now (marks .entry)) ⌝ }
 {
-    let place = (octets::le64(sent, Record::NUMBER_AT) / PIECE_SIZE) as usize;
+    let place = (octets::le64(sent, PieceRecord::NUMBER_AT) / PIECE_SIZE) as usize;
     marks[place] != 0
 }
 
@@ -145,8 +145,8 @@ fn is_held_with_other(sent: &[u8], image: &[u8], marks: &[u8]) -> bool
     if !is_held(sent, marks) {
         return false;
     }
-    let from = octets::le64(sent, Record::NUMBER_AT) as usize;
-    let bytes = &sent[Record::DATA_AT..];
+    let from = octets::le64(sent, PieceRecord::NUMBER_AT) as usize;
+    let bytes = &sent[PieceRecord::DATA_AT..];
     let standing = &image[from..from + bytes.len()];
     !is_same(standing, bytes)
 }
@@ -169,8 +169,8 @@ fn piece_fault(state: State, sent: &[u8], image: &[u8], marks: &[u8]) -> u8
     requires { ⌜ recordHeadSize + numberSize ≤ length (now sent) ⌝ }
     ensures { λ r. ⌜ r ≡ pieceFault state (now (sent .entry)) (now (image .entry)) (now (marks .entry)) ⌝ }
 {
-    let start = octets::le64(sent, Record::NUMBER_AT);
-    let count = (sent.len() - Record::DATA_AT) as u64;
+    let start = octets::le64(sent, PieceRecord::NUMBER_AT);
+    let count = (sent.len() - PieceRecord::DATA_AT) as u64;
     if off_grid(state.length, start, count) {
         return Refusal::PIECE_RECORD_WRONG;
     }
@@ -204,17 +204,17 @@ pub fn judge(state: State, sent: &[u8], image: &[u8], marks: &[u8]) -> u8
         return Refusal::PIECE_RECORD_WRONG;
     }
     let kind = octets::le16(sent, RecordHead::TYPE_AT);
-    if kind == RecordKind::OPEN {
+    if kind == PieceRecordKind::OPEN {
         if state.opened != 0 {
             return Refusal::PIECE_OUT_OF_TURN;
         }
-        let length = octets::le64(sent, Record::NUMBER_AT);
+        let length = octets::le64(sent, PieceRecord::NUMBER_AT);
         return open_fault(length, image.len() as u64, marks.len() as u64);
     }
     if state.opened == 0 {
         return Refusal::PIECE_OUT_OF_TURN;
     }
-    if kind == RecordKind::PIECE {
+    if kind == PieceRecordKind::PIECE {
         return piece_fault(state, sent, image, marks);
     }
     close_fault(state, image.len() as u64, marks)

@@ -8,16 +8,16 @@ use mathlib.Core.Logic.{⊎-elim}
 use native.Mathlib.Omega.{arith}
 use lib.ListN.{length, take, drop, getD, replicate}
 use Rattle.eif.specs.Numbers.{sizeLimit}
-use Rattle.eif_lemmas.proofs.Logic.{not-both, zero-or, equal-or-not}
+use Rattle.octets.proofs.Logic.{not-both, zero-or, equal-or-not}
 use Rattle.assembler.specs.Records.{openKind, pieceKind, closeKind, kindIn, numberIn, piecesOf, pieceSizeAt}
 use Rattle.assembler.specs.Rules.{allHeld, isOpened}
 use Rattle.assembler.specs.Step.{freshState}
 use Rattle.assembler.specs.declared.Stepped.{Stepped}
 use Rattle.assembler.proofs.Form.{formed-kinds}
 use Rattle.assembler.proofs.Faults.{accepted-form, accepted-open, accepted-piece, accepted-close}
-use Rattle.assembler_laws.specs.Run.{Memory, memory, answer, after, run, Every, Agrees, StaysOpen, AnyBetween}
+use Rattle.assembler_laws.specs.Run.{faultAt, Memory, memory, answer, after, run, Every, Agrees, StaysOpen, AnyBetween}
 use Rattle.assembler_laws.proofs.Lists.{gap-found}
-use Rattle.assembler_laws.proofs.Calls.{faultAt, refused-keeps, no-fault, close-ends}
+use Rattle.assembler_laws.proofs.Calls.{refused-keeps, no-fault, close-ends}
 use Rattle.assembler_laws.proofs.Transfer.{InProgress, size-is, open-now, one-piece, close-answer, close-leaves, starts}
 
 module _ (m x y : List ℕ) (image-room : length m ≤ length x) (mark-room : piecesOf (length m) ≤ length y) where

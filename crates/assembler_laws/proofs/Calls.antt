@@ -4,7 +4,7 @@ use Prim.Native.Nat.{ℕ, _+_, _<_, _≤_}
 use mathlib.Core.Path.{_≡_, refl, sym, ap, _∙_}
 use mathlib.Core.Bool.{Bool, true, false, not}
 use mathlib.Core.List.{List, [], _∷_, _++_}
-use mathlib.Core.Logic.{_⊎_, inl, inr, ⊎-elim}
+use mathlib.Core.Logic.{_⊎_, inr, ⊎-elim}
 use native.Mathlib.Omega.{arith}
 use native.Mathlib.Nat.{lt-of-lt-of-le}
 use borrow.Author.Tests.{eqb-true, ne-eqb}
@@ -17,28 +17,20 @@ use Rattle.octets.specs.Logic.{both, choose}
 use Rattle.eif.specs.Answers.{refuse}
 use Rattle.eif.specs.declared.Verdict.{Verdict}
 use Rattle.eif.specs.declared.Verdict.the-variants.{Accepted}
-use Rattle.eif_lemmas.proofs.Logic.{equal-or-not, zero-or}
+use Rattle.octets.proofs.Logic.{equal-or-not, zero-or, both-none, true-or-false}
 use Rattle.assembler.specs.Records.{openKind, pieceKind, closeKind, kindIn, numberIn, dataIn, formed, piecesOf, placeIn}
 use Rattle.eif.specs.Numbers.{pieceOutOfTurn, pieceMissing}
-use Rattle.assembler.specs.Rules.{held, standing, faultOf, isOpened}
+use Rattle.assembler.specs.Rules.{isHeld, standing, isOpened}
 use Rattle.assembler.specs.Step.{freshState, stepped, imageAfter, marksAfter}
 use Rattle.assembler.specs.declared.State.{State}
 use Rattle.assembler.specs.declared.Stepped.{Stepped}
 use Rattle.assembler.proofs.Piece.{place-in, piece-in, held-yes, piece-kept, piece-put}
 use Rattle.assembler.proofs.Faults.{PieceTaken, fault-not-open, accepted-form, accepted-piece}
 use Rattle.assembler.proofs.Steps.{Answers, step-refused, step-taken, step-closed}
-use Rattle.assembler_laws.specs.Run.{Memory, memory, answer, after, run, Outside, OutsideTaken, OutsideAll, OtherMarks}
-use Rattle.eif_lemmas.proofs.Same.{equal-same}
+use Rattle.assembler_laws.specs.Run.{Memory, memory, answer, after, faultAt, run, Every, Outside, OutsideTaken, OutsideAll, OtherMark}
+use Rattle.octets.proofs.Same.{equal-same}
 use Rattle.assembler_laws.proofs.Lists.{over-other, gap-found}
 use Rattle.assembler_laws.proofs.Accept.{LongEnough, piece-fine, close-lacks}
-
-pub both-none : (t : Bool) → both t false ≡ false
-both-none true = refl
-both-none false = refl
-
-pub bool-or : (t : Bool) → (t ≡ true) ⊎ (t ≡ false)
-bool-or true = inl refl
-bool-or false = inr refl
 
 same-memory : (s t : State) (a b c d : List ℕ) → s ≡ t → a ≡ b → c ≡ d → memory s a c ≡ memory t b d
 same-memory s t a b c d e f g =
@@ -48,10 +40,6 @@ same-memory s t a b c d e f g =
 pub called : (w : Memory) (r : List ℕ) (s : Stepped) (i k : List ℕ) → Answers (w .state) r (w .image) (w .marks) s i k
     → after w r ≡ memory (s .state) i k
 called w r s i k h = same-memory _ _ _ _ _ _ (sym (ap (λ (a : Stepped). a .state) (h .0))) (sym (h .1)) (sym (h .2))
-
--- the number that a call refuses with; 0: it is taken
-abbrev pub faultAt : Memory → List ℕ → ℕ
-faultAt w r = faultOf (w .state) r (w .image) (w .marks)
 
 -- ---- a refusal changes neither buffer nor state
 
@@ -75,7 +63,7 @@ no-fault w r e =
 
 module _ (w : Memory) (r : List ℕ) (z : faultAt w r ≡ 0) (k : kindIn r ≡ pieceKind) where
   -- a piece that is held and taken again changes nothing
-  pub repeat-keeps : held r (w .marks) ≡ true → (answer w r ≡ stepped Accepted (w .state) 0) × (after w r ≡ w)
+  pub repeat-keeps : isHeld r (w .marks) ≡ true → (answer w r ≡ stepped Accepted (w .state) 0) × (after w r ≡ w)
   repeat-keeps h =
       let p = piece-kept r (w .marks) (w .image) h in
       let s = step-taken (w .state) r (w .image) (w .marks) z k in
@@ -88,7 +76,7 @@ module _ (w : Memory) (r : List ℕ) (z : faultAt w r ≡ 0) (k : kindIn r ≡ p
   abbrev pub put : Memory
   put = memory (w .state) (over (w .image) (numberIn r) (dataIn r)) (set (w .marks) (placeIn r) 1)
 
-  pub put-left : held r (w .marks) ≡ false → after w r ≡ put
+  pub put-left : isHeld r (w .marks) ≡ false → after w r ≡ put
   put-left h =
       let p = piece-put r (w .marks) (w .image) h in
       let s = step-taken (w .state) r (w .image) (w .marks) z k in
@@ -117,9 +105,9 @@ module _ (w : Memory) (r : List ℕ) (z : faultAt w r ≡ 0) (k : kindIn r ≡ p
       piece-fine (w .state) r (put .image) (put .marks) (accepted-form (w .state) r (w .image) (w .marks) z) (t .open-now)
       (record { image-room = rw i (t .image-room); mark-room = rw j (t .mark-room); image-kept = rw i (t .image-kept); marks-kept = rw j (t .marks-kept) })
       k (t .inside) (t .on-grid) (t .sized)
-      (ap (λ (t : Bool). both (held r (put .marks)) (not t)) (equal-same (standing r (put .image)) (dataIn r) put-stands) ∙ both-none (held r (put .marks)))
+      (ap (λ (t : Bool). both (isHeld r (put .marks)) (not t)) (equal-same (standing r (put .image)) (dataIn r) put-stands) ∙ both-none (isHeld r (put .marks)))
 
-  pub put-held : held r (put .marks) ≡ true
+  pub put-held : isHeld r (put .marks) ≡ true
   put-held =
       let n = lt-of-lt-of-le (place-in (w .state .length) (numberIn r) (taken .inside)) (taken .mark-room) in
       let s = getD-set-same (w .marks) (placeIn r) 1 0 n in
@@ -128,14 +116,14 @@ module _ (w : Memory) (r : List ℕ) (z : faultAt w r ≡ 0) (k : kindIn r ≡ p
 -- the same piece straight after it was taken is taken, and changes nothing
 pub again-keeps : (w : Memory) (r : List ℕ) → faultAt w r ≡ 0 → kindIn r ≡ pieceKind
     → (faultAt (after w r) r ≡ 0) × (after (after w r) r ≡ after w r)
-again-keeps w r z k = ⊎-elim from-held from-free (bool-or (held r (w .marks)))
+again-keeps w r z k = ⊎-elim from-held from-free (true-or-false (isHeld r (w .marks)))
   where
-    from-held : held r (w .marks) ≡ true → (faultAt (after w r) r ≡ 0) × (after (after w r) r ≡ after w r)
+    from-held : isHeld r (w .marks) ≡ true → (faultAt (after w r) r ≡ 0) × (after (after w r) r ≡ after w r)
     from-held h =
         let e = repeat-keeps w r z k h .1 in
         (ap (λ (v : Memory). faultAt v r) e ∙ z, ap (λ (v : Memory). after v r) e)
 
-    from-free : held r (w .marks) ≡ false → (faultAt (after w r) r ≡ 0) × (after (after w r) r ≡ after w r)
+    from-free : isHeld r (w .marks) ≡ false → (faultAt (after w r) r ≡ 0) × (after (after w r) r ≡ after w r)
     from-free h =
         let e = put-left w r z k h in
         let f = repeat-keeps (put w r z k) r (put-fine w r z k) k (put-held w r z k) .1 in
@@ -176,7 +164,7 @@ module _ (w : Memory) (r : List ℕ) where
   -- outside a record's piece no byte of the image buffer changes
   image-outside : (i : ℕ) → Outside i r → getD (after w r .image) i 0 ≡ getD (w .image) i 0
   unfolding imageAfter
-  image-outside i h = go (eqb (faultAt w r) 0) (eqb (kindIn r) pieceKind) (held r (w .marks))
+  image-outside i h = go (eqb (faultAt w r) 0) (eqb (kindIn r) pieceKind) (isHeld r (w .marks))
     where
       go : (a b c : Bool) → getD (choose a (choose b (choose c (w .image) (over (w .image) (numberIn r) (dataIn r))) (w .image)) (w .image)) i 0 ≡ getD (w .image) i 0
       go true true true = refl
@@ -203,7 +191,7 @@ module _ (w : Memory) (r : List ℕ) where
   pub marks-elsewhere : (k : ℕ) → (kindIn r ≡ openKind → piecesOf (numberIn r) ≤ k) → (kindIn r ≡ pieceKind → k ≡ placeIn r → ⊥)
       → getD (after w r .marks) k 0 ≡ getD (w .marks) k 0
   unfolding marksAfter
-  marks-elsewhere k f g = go (eqb (faultAt w r) 0) (eqb (kindIn r) openKind) (eqb (kindIn r) pieceKind) (held r (w .marks)) (λ e. f (eqb-true _ _ e)) (λ e. g (eqb-true _ _ e))
+  marks-elsewhere k f g = go (eqb (faultAt w r) 0) (eqb (kindIn r) openKind) (eqb (kindIn r) pieceKind) (isHeld r (w .marks)) (λ e. f (eqb-true _ _ e)) (λ e. g (eqb-true _ _ e))
     where
       go : (a b c d : Bool) → (b ≡ true → piecesOf (numberIn r) ≤ k) → (c ≡ true → k ≡ placeIn r → ⊥)
           → getD (choose a (choose b (over (w .marks) 0 (replicate (piecesOf (numberIn r)) 0)) (choose c (choose d (w .marks) (set (w .marks) (placeIn r) 1)) (w .marks))) (w .marks)) k 0
@@ -220,8 +208,8 @@ module _ (w : Memory) (r : List ℕ) where
   pub lengths-kept : (length (after w r .image) ≡ length (w .image)) × (length (after w r .marks) ≡ length (w .marks))
   unfolding imageAfter marksAfter
   lengths-kept = (
-    image (eqb (faultAt w r) 0) (eqb (kindIn r) pieceKind) (held r (w .marks)),
-    marks (eqb (faultAt w r) 0) (eqb (kindIn r) openKind) (eqb (kindIn r) pieceKind) (held r (w .marks)),
+    image (eqb (faultAt w r) 0) (eqb (kindIn r) pieceKind) (isHeld r (w .marks)),
+    marks (eqb (faultAt w r) 0) (eqb (kindIn r) openKind) (eqb (kindIn r) pieceKind) (isHeld r (w .marks)),
   )
     where
       image : (a b c : Bool) → length (choose a (choose b (choose c (w .image) (over (w .image) (numberIn r) (dataIn r))) (w .image)) (w .image)) ≡ length (w .image)
@@ -246,7 +234,7 @@ run-elsewhere [] w i h = refl
 run-elsewhere (r ∷ rs) w i h = run-elsewhere rs (after w r) i (h .1) ∙ image-elsewhere w r i (h .0)
 
 -- nor a mark but those of the pieces that are opened or brought
-pub run-marks-elsewhere : (rs : List (List ℕ)) (w : Memory) (k : ℕ) → OtherMarks k rs → getD (run w rs .marks) k 0 ≡ getD (w .marks) k 0
-unfolding run OtherMarks
+pub run-marks-elsewhere : (rs : List (List ℕ)) (w : Memory) (k : ℕ) → Every (OtherMark k) rs → getD (run w rs .marks) k 0 ≡ getD (w .marks) k 0
+unfolding run Every
 run-marks-elsewhere [] w k h = refl
 run-marks-elsewhere (r ∷ rs) w k h = run-marks-elsewhere rs (after w r) k (h .1) ∙ marks-elsewhere w r k (h .0 .0) (h .0 .1)

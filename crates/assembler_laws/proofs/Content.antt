@@ -12,10 +12,11 @@ use lib.ListN.{length, take, drop, getD, length-take, length-drop, take-append-d
 use lib.Seq.{getD-take, getD-drop, drop-drop, ext-getD}
 use Rattle.octets.specs.Logic.{choose}
 use Rattle.eif.specs.Table.{filled}
+use Rattle.eif.specs.Table.{joinFrom}
 use Rattle.eif_lemmas.proofs.Table.{filled-at, length-filled}
 use Rattle.assembler.specs.Records.{pieceSize, numberIn, dataIn, piecesOf, placeIn}
 use Rattle.assembler_laws.specs.Run.{Memory, run, PieceOf, Every, Sent, Pieces, Transfer, Assembled}
-use Rattle.assembler_laws.specs.Set.{PieceFor, In, CompleteSet, bytesFor, joinedFrom, imageOf, AnyOrder, SetTransfer}
+use Rattle.assembler_laws.specs.Set.{PieceFor, In, CompleteSet, bytesFor, joinedPieces, AnyOrder, SetTransfer}
 use Rattle.assembler_laws.proofs.Transfer.{assembled}
 
 -- ---- the first record of a place
@@ -115,8 +116,8 @@ module _ (n : ℕ) (ps : List (List ℕ)) (all : CompleteSet n ps) where
       let e : numberIn (f .sent) ≡ k * pieceSize = omega arith in
       f .bytes ∙ bytes-are (f .sent) (f .member) ∙ ap (λ (i : ℕ). take pieceSize (drop i content)) e
 
-  joined-is : (count k : ℕ) → k + count ≡ piecesOf n → joinedFrom ps count k ≡ drop (k * pieceSize) content
-  unfolding joinedFrom
+  joined-is : (count k : ℕ) → k + count ≡ piecesOf n → joinFrom (bytesFor ps) count k ≡ drop (k * pieceSize) content
+  unfolding joinFrom
   joined-is zero k e = let l = content-length in sym (drop-of-length-le content {i = k * pieceSize} (omega arith))
   joined-is (suc count) k e =
       let s : k * pieceSize + pieceSize ≡ suc k * pieceSize = omega arith in
@@ -124,23 +125,23 @@ module _ (n : ℕ) (ps : List (List ℕ)) (all : CompleteSet n ps) where
       ∙ take-append-drop pieceSize (drop (k * pieceSize) content)
 
   -- the pieces joined
-  image-is : content ≡ imageOf n ps
+  image-is : content ≡ joinedPieces n ps
   image-is = sym (joined-is (piecesOf n) 0 (omega arith))
 
-  pub image-length : length (imageOf n ps) ≡ n
+  pub image-length : length (joinedPieces n ps) ≡ n
   image-length = sym (ap length image-is) ∙ content-length
 
-  every-piece : (rs : List (List ℕ)) → Every (In ps) rs → Every (PieceOf (imageOf n ps)) rs
+  every-piece : (rs : List (List ℕ)) → Every (In ps) rs → Every (PieceOf (joinedPieces n ps)) rs
   unfolding Every
   every-piece [] h = tt
   every-piece (r ∷ rs) h = (subst (λ (l : List ℕ). PieceOf l r) image-is (piece-of r (h .0)), every-piece rs (h .1))
 
-  pub pieces-of : (rs : List (List ℕ)) → AnyOrder n ps rs → Pieces (imageOf n ps) rs
+  pub pieces-of : (rs : List (List ℕ)) → AnyOrder n ps rs → Pieces (joinedPieces n ps) rs
   pieces-of rs h = record { agree = every-piece rs (h .from-set); cover = λ k b. h .cover k (rw image-length at b) }
 
   -- the transfer of the set, in any order and with any repeats
   module _ (w : Memory) (o : List ℕ) (rs : List (List ℕ)) (c : List ℕ) (t : SetTransfer n ps w o rs c) where
-    transfer : Transfer (imageOf n ps) w o rs c
+    transfer : Transfer (joinedPieces n ps) w o rs c
     transfer =
         let e = image-length in
         record {
@@ -153,8 +154,8 @@ module _ (n : ℕ) (ps : List (List ℕ)) (all : CompleteSet n ps) where
           closes = t .closes;
         }
 
-    pub any-order : Assembled (imageOf n ps) w o rs c
-    any-order = assembled (imageOf n ps) w o rs c transfer
+    pub any-order : Assembled (joinedPieces n ps) w o rs c
+    any-order = assembled (joinedPieces n ps) w o rs c transfer
 
 -- two such transfers over the same buffers leave the same, byte for byte
 pub order-free : (n : ℕ) (ps : List (List ℕ)) → CompleteSet n ps → (w : Memory) (o p : List ℕ) (rs ss : List (List ℕ)) (c d : List ℕ)

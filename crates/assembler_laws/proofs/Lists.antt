@@ -11,6 +11,7 @@ use borrow.Author.Tests.{eq-eqb, ne-eqb}
 use lib.Dec.{eqb}
 use lib.ListN.{length, take, drop, getD, set, length-set, length-append, length-drop, List·getD-append}
 use lib.Seq.{getD-set-same, getD-set-other, getD-append-add, getD-drop, ext-getD}
+use Rattle.octets.proofs.Logic.{both-none}
 use Rattle.octets.specs.Over.{over}
 use Rattle.octets.proofs.Over.{le-or-lt}
 use Rattle.octets.specs.Logic.{both}
@@ -66,8 +67,4 @@ gap-found y zero k a b e = absurd (omega arith)
 gap-found [] (suc p) k a b e = absurd (omega arith)
 gap-found (m ∷ y) (suc p) zero a b e = ap (λ (t : Bool). both (not t) (allHeld (take p y))) (eq-eqb m 0 e)
 gap-found (m ∷ y) (suc p) (suc k) a b e =
-    ap (both (not (eqb m 0))) (gap-found y p k (omega arith) (omega arith) e) ∙ none (not (eqb m 0))
-  where
-    none : (t : Bool) → both t false ≡ false
-    none true = refl
-    none false = refl
+    ap (both (not (eqb m 0))) (gap-found y p k (omega arith) (omega arith) e) ∙ both-none (not (eqb m 0))

@@ -12,7 +12,7 @@ use lib.ListN.{length, length-drop}
 use Rattle.eif.specs.Numbers.{pieceRecordWrong, pieceOutOfTurn}
 use Rattle.octets.specs.Logic.{both, either, choose}
 use Rattle.eif.specs.Roll.{recordHeadSize}
-use Rattle.eif_lemmas.proofs.Logic.{equal-or-not}
+use Rattle.octets.proofs.Logic.{equal-or-not}
 use Rattle.assembler.specs.Records.{pieceSize, numberSize, openKind, pieceKind, closeKind, sizeIn, kindIn, numberIn, dataIn, sizeFits, formed, pieceSizeAt, offGrid}
 use Rattle.assembler.specs.Rules.{isOpened, faultOf}
 use Rattle.assembler.specs.ByKind.{pieceFault}

@@ -14,34 +14,40 @@ use Rattle.octets.specs.Bytes.{leBytes, leField}
 use Rattle.octets.proofs.Value.{leField-at, length-leBytes}
 use Rattle.octets.proofs.Over.{le-or-lt}
 use Rattle.eif.specs.Numbers.{sizeLimit}
-use Rattle.eif_lemmas.proofs.Logic.{equal-or-not}
+use Rattle.eif.specs.Roll.{recordHeadSize, headOf}
+use Rattle.octets.proofs.Logic.{equal-or-not}
 use Rattle.assembler.specs.Records.{pieceSize, numberSize, openKind, pieceKind, sizeIn, kindIn, numberIn, dataIn, sizeFits, formed, piecesOf, placeIn}
 use Rattle.assembler.specs.Step.{freshState}
 use Rattle.assembler.proofs.Form.{formed-fits}
 use Rattle.assembler_laws.specs.Run.{memory, OpenFor, PieceOf, Close, Every, Sent, Pieces, Transfer}
-use Rattle.assembler_laws.specs.Made.{recordOf, openRecord, closeRecord, pieceOf, piecesFrom, allPieces}
+use Rattle.assembler_laws.specs.Made.{openRecord, closeRecord, pieceRecordAt, piecesFrom, allPieces}
 
 -- ---- what the fields say
 
 module _ (size kind : ℕ) (rest : List ℕ) (a : size < 256 ^ 8) (b : kind < 256 ^ 2) where
-  size-in : sizeIn (recordOf size kind rest) ≡ size
+  size-in : sizeIn (headOf size kind ++ rest) ≡ size
+  unfolding headOf
   size-in = leField-at 8 size 0 [] (leBytes 2 kind ++ rest) refl a
 
-  kind-in : kindIn (recordOf size kind rest) ≡ kind
+  kind-in : kindIn (headOf size kind ++ rest) ≡ kind
+  unfolding headOf
   kind-in = leField-at 2 kind 8 (leBytes 8 size) rest (length-leBytes 8 size) b
 
-  length-is : length (recordOf size kind rest) ≡ 10 + length rest
+  length-is : length (headOf size kind ++ rest) ≡ recordHeadSize + length rest
+  unfolding headOf
   length-is = omega arith
 
-  form-is : size ≡ length rest → sizeFits kind size ≡ true → formed (recordOf size kind rest) ≡ true
+  form-is : size ≡ length rest → sizeFits kind size ≡ true → formed (headOf size kind ++ rest) ≡ true
   form-is e f =
       let n = length-is in
-      sym (formed-fits (recordOf size kind rest) (omega arith) size (sym size-in) (omega arith) kind (sym kind-in)) ∙ f
+      sym (formed-fits (headOf size kind ++ rest) (omega arith) size (sym size-in) (omega arith) kind (sym kind-in)) ∙ f
 
-number-in : (size kind n : ℕ) (rest : List ℕ) → n < 256 ^ 8 → numberIn (recordOf size kind (leBytes 8 n ++ rest)) ≡ n
-number-in size kind n rest a = leField-at 8 n 10 (leBytes 8 size ++ leBytes 2 kind) rest refl a
+number-in : (size kind n : ℕ) (rest : List ℕ) → n < 256 ^ numberSize → numberIn (headOf size kind ++ (leBytes numberSize n ++ rest)) ≡ n
+unfolding headOf
+number-in size kind n rest a = leField-at numberSize n recordHeadSize (headOf size kind) rest refl a
 
-bytes-in : (size kind n : ℕ) (rest : List ℕ) → dataIn (recordOf size kind (leBytes 8 n ++ rest)) ≡ rest
+bytes-in : (size kind n : ℕ) (rest : List ℕ) → dataIn (headOf size kind ++ (leBytes numberSize n ++ rest)) ≡ rest
+unfolding headOf
 bytes-in size kind n rest = refl
 
 -- ---- the records
@@ -50,12 +56,12 @@ small : (n : ℕ) → n ≤ sizeLimit + pieceSize → n < 256 ^ 8
 small n h = lt-of-le-of-lt h (lit< tt)
 
 pub made-close : Close closeRecord
-unfolding formed leField
+unfolding formed leField headOf
 made-close = record { form = refl; kind = refl }
 
 pub made-open : (m : List ℕ) → length m ≤ sizeLimit → OpenFor m (openRecord (length m))
 made-open m h =
-    let rest = leBytes 8 (length m) ++ [] in
+    let rest = leBytes numberSize (length m) in
     record {
       form = form-is numberSize openKind rest (lit< tt) (lit< tt) refl refl;
       kind = kind-in numberSize openKind rest (lit< tt) (lit< tt);
@@ -69,10 +75,10 @@ module _ (m : List ℕ) (h : length m ≤ sizeLimit) (k : ℕ) (b : k < piecesOf
   part-size : numberSize + length part ≤ sizeLimit + pieceSize
   part-size = let t = length-take pieceSize (drop (k * pieceSize) m) in omega arith
 
-  pub made-piece : PieceOf m (pieceOf m k)
+  pub made-piece : PieceOf m (pieceRecordAt m k)
   made-piece =
       let size = numberSize + length part in
-      let rest = leBytes 8 (k * pieceSize) ++ part in
+      let rest = leBytes numberSize (k * pieceSize) ++ part in
       let n = number-in size pieceKind (k * pieceSize) part (small (k * pieceSize) (omega arith)) in
       let s = small size part-size in
       record {
@@ -80,13 +86,13 @@ module _ (m : List ℕ) (h : length m ≤ sizeLimit) (k : ℕ) (b : k < piecesOf
         kind = kind-in size pieceKind rest s (lit< tt);
         inside = omega arith;
         on-grid = omega arith;
-        bytes-are = sym (ap (λ (i : ℕ). take pieceSize (drop i m)) n);
+        bytes-are = bytes-in size pieceKind (k * pieceSize) part ∙ sym (ap (λ (i : ℕ). take pieceSize (drop i m)) n);
       }
     where
-      rest-size : numberSize + length part ≡ length (leBytes 8 (k * pieceSize) ++ part)
+      rest-size : numberSize + length part ≡ length (leBytes numberSize (k * pieceSize) ++ part)
       rest-size = omega arith
 
-  pub made-place : placeIn (pieceOf m k) ≡ k
+  pub made-place : placeIn (pieceRecordAt m k) ≡ k
   made-place =
       let n = number-in (numberSize + length part) pieceKind (k * pieceSize) part (small (k * pieceSize) (omega arith)) in
       omega arith

@@ -12,7 +12,7 @@ use Rattle.octets.specs.Over.{over}
 use Rattle.octets.proofs.Over.{length-over}
 use Rattle.eif.specs.Numbers.{pieceMissing}
 use Rattle.eif.specs.Answers.{refuse}
-use Rattle.eif_lemmas.proofs.Logic.{not-both, zero-or, equal-or-not}
+use Rattle.octets.proofs.Logic.{not-both, zero-or, equal-or-not}
 use Rattle.assembler.specs.Records.{openKind, pieceKind, closeKind, kindIn, numberIn, piecesOf, placeIn}
 use Rattle.assembler.specs.Rules.{isOpened}
 use Rattle.assembler.specs.Step.{openState, stepped}
@@ -20,10 +20,10 @@ use Rattle.assembler.specs.declared.Stepped.{Stepped}
 use Rattle.assembler.proofs.Form.{formed-kinds}
 use Rattle.assembler.proofs.Faults.{accepted-form, accepted-open, accepted-close}
 use Rattle.assembler.proofs.Steps.{step-opened, step-taken}
-use Rattle.assembler_laws.specs.Run.{Memory, memory, answer, after, run, Every, WithoutPiece}
+use Rattle.assembler_laws.specs.Run.{faultAt, Memory, memory, answer, after, run, Every, WithoutPiece}
 use Rattle.assembler_laws.proofs.Lists.{over-in, gap-found}
 use Rattle.assembler_laws.proofs.Accept.{LongEnough}
-use Rattle.assembler_laws.proofs.Calls.{called, faultAt, refused-keeps, no-fault, missing-refused, marks-elsewhere, lengths-kept}
+use Rattle.assembler_laws.proofs.Calls.{called, refused-keeps, no-fault, missing-refused, marks-elsewhere, lengths-kept}
 
 -- a transfer is open and the piece of a place is not held
 record Lacks (k : ℕ) (w : Memory) : Type 0 where

@@ -1,41 +1,31 @@
 -- A piece that was taken is held with its bytes as long as its transfer is open, whatever records come; so a repeat with equal bytes, however
 -- much later, is taken and changes nothing. Assumes nothing.
 use Prim.Native.Nat.{ℕ, _+_, _/_, _%_, _<_, _≤_}
-use mathlib.Core.Path.{_≡_, refl, sym, ap, ap₂, subst, _∙_}
+use mathlib.Core.Path.{_≡_, sym, ap, subst, _∙_}
 use mathlib.Core.Bool.{Bool, true, false, not}
 use mathlib.Core.List.{List, [], _∷_}
 use mathlib.Core.Logic.{_⊎_, inl, inr, ⊎-elim}
 use native.Mathlib.Omega.{arith}
 use borrow.Author.Tests.{eqb-true, eqb-false, ne-eqb, not-true, not-false}
-use lib.Dec.{eqb}
 use lib.ListN.{length, take, drop, getD, length-take, length-drop, length-set}
 use lib.Seq.{getD-take, getD-drop, getD-set-other, ext-getD}
 use Rattle.octets.proofs.Over.{length-over, le-or-lt}
 use Rattle.octets.specs.Logic.{both}
 use Rattle.eif.specs.declared.Verdict.the-variants.{Accepted}
-use Rattle.eif_lemmas.proofs.Logic.{both-true, not-both, zero-or, equal-or-not}
+use Rattle.octets.proofs.Logic.{not-both, zero-or, equal-or-not, both-none, true-or-false}
 use Rattle.assembler.specs.Records.{pieceSize, openKind, pieceKind, closeKind, kindIn, numberIn, dataIn, pieceSizeAt, placeIn}
 use Rattle.octets.specs.Same.{sameBytes}
-use Rattle.assembler.specs.Rules.{isOpened, held, standing}
+use Rattle.assembler.specs.Rules.{isOpened, isHeld, standing}
 use Rattle.assembler.specs.Step.{stepped}
 use Rattle.assembler.proofs.Form.{formed-kinds}
 use Rattle.assembler.proofs.Faults.{accepted-form, accepted-open, accepted-piece}
-use Rattle.assembler_laws.specs.Run.{Memory, answer, after, run, StaysOpen, Repeated}
-use Rattle.eif_lemmas.proofs.Same.{equal-same}
+use Rattle.assembler_laws.specs.Run.{faultAt, Memory, answer, after, run, StaysOpen, Repeated}
+use Rattle.octets.proofs.Same.{equal-same, same-equal}
 use Rattle.assembler_laws.proofs.Lists.{over-other}
 use Rattle.assembler_laws.proofs.Accept.{LongEnough, piece-fine}
-use Rattle.assembler_laws.proofs.Calls.{faultAt, both-none, bool-or, no-fault, refused-keeps, repeat-keeps, put, put-left, put-stands, put-held, close-ends}
+use Rattle.assembler_laws.proofs.Calls.{no-fault, refused-keeps, repeat-keeps, put, put-left, put-stands, put-held, close-ends}
 
 -- equal by the test is equal
-same-true : (a b : List ℕ) → sameBytes a b ≡ true → a ≡ b
-unfolding sameBytes
-same-true [] [] e = refl
-same-true [] (y ∷ b) e = not-both e
-same-true (x ∷ a) [] e = not-both e
-same-true (x ∷ a) (y ∷ b) e =
-    let h = both-true (eqb x y) (sameBytes a b) e in
-    ap₂ (λ (n : ℕ) (l : List ℕ). n ∷ l) (eqb-true x y (h .0)) (same-true a b (h .1))
-
 -- ---- a piece that is held with its bytes
 
 -- while a transfer is open, the piece at a start is held with these bytes
@@ -50,7 +40,7 @@ record Stands (start : ℕ) (bytes : List ℕ) (w : Memory) : Type 0 where
 
 -- after a piece was taken
 module _ (w : Memory) (r : List ℕ) (z : faultAt w r ≡ 0) (k : kindIn r ≡ pieceKind) where
-  from-held : held r (w .marks) ≡ true → Stands (numberIn r) (dataIn r) w
+  from-held : isHeld r (w .marks) ≡ true → Stands (numberIn r) (dataIn r) w
   from-held h =
       let t = accepted-piece (w .state) r (w .image) (w .marks) z k in
       let other : both true (not (sameBytes (standing r (w .image)) (dataIn r))) ≡ false =
@@ -62,10 +52,10 @@ module _ (w : Memory) (r : List ℕ) (z : faultAt w r ≡ 0) (k : kindIn r ≡ p
         sized = t .sized;
         enough = record { image-room = t .image-room; mark-room = t .mark-room; image-kept = t .image-kept; marks-kept = t .marks-kept };
         held-now = eqb-false _ _ (not-true _ h);
-        stands = same-true (standing r (w .image)) (dataIn r) (not-false _ other);
+        stands = same-equal (standing r (w .image)) (dataIn r) (not-false _ other);
       }
 
-  from-free : held r (w .marks) ≡ false → Stands (numberIn r) (dataIn r) (put w r z k)
+  from-free : isHeld r (w .marks) ≡ false → Stands (numberIn r) (dataIn r) (put w r z k)
   from-free h =
       let t = accepted-piece (w .state) r (w .image) (w .marks) z k in
       let i = length-over (w .image) (numberIn r) (dataIn r) in
@@ -85,13 +75,13 @@ module _ (w : Memory) (r : List ℕ) (z : faultAt w r ≡ 0) (k : kindIn r ≡ p
       ⊎-elim
       (λ h. subst (Stands (numberIn r) (dataIn r)) (sym (repeat-keeps w r z k h .1)) (from-held h))
       (λ h. subst (Stands (numberIn r) (dataIn r)) (sym (put-left w r z k h)) (from-free h))
-      (bool-or (held r (w .marks)))
+      (true-or-false (isHeld r (w .marks)))
 
 -- ---- and stays so
 
 module _ (start : ℕ) (bytes : List ℕ) (w : Memory) (g : Stands start bytes w) (r : List ℕ) where
   -- another piece that is not held yet is another piece
-  module _ (z : faultAt w r ≡ 0) (k : kindIn r ≡ pieceKind) (free : held r (w .marks) ≡ false) where
+  module _ (z : faultAt w r ≡ 0) (k : kindIn r ≡ pieceKind) (free : isHeld r (w .marks) ≡ false) where
     other-place : start / pieceSize ≡ placeIn r → ⊥
     other-place e =
         g .held-now (ap (λ (n : ℕ). getD (w .marks) n 0) e ∙ eqb-true _ _ (not-false _ free))
@@ -160,7 +150,7 @@ module _ (start : ℕ) (bytes : List ℕ) (w : Memory) (g : Stands start bytes w
             ⊎-elim
             (λ h. subst (Stands start bytes) (sym (repeat-keeps w r z k h .1)) g)
             (λ h. subst (Stands start bytes) (sym (put-left w r z k h)) (piece-stays z k h))
-            (bool-or (held r (w .marks)))
+            (true-or-false (isHeld r (w .marks)))
 
     one-more : Stands start bytes (after w r)
     one-more = ⊎-elim by-kind (λ h. subst (Stands start bytes) (sym (refused-keeps w r h .1)) g) (zero-or (faultAt w r))
@@ -179,7 +169,7 @@ repeat-changes-nothing w r rs s h =
     let first = all-stand (numberIn r) (dataIn r) rs (after w r) (taken-stands w r (no-fault w r (h .taken)) (h .kind)) (h .stays-open) in
     let bytes = subst (λ (l : List ℕ). Stands (numberIn r) l v) (sym (h .same-bytes)) first in
     let g = subst (λ (n : ℕ). Stands n (dataIn s) v) (sym (h .same-start)) bytes in
-    let yes : held s (v .marks) ≡ true = ap not (ne-eqb _ _ (g .held-now)) in
-    let agrees = ap (λ (t : Bool). both (held s (v .marks)) (not t)) (equal-same (standing s (v .image)) (dataIn s) (g .stands)) ∙ both-none (held s (v .marks)) in
+    let yes : isHeld s (v .marks) ≡ true = ap not (ne-eqb _ _ (g .held-now)) in
+    let agrees = ap (λ (t : Bool). both (isHeld s (v .marks)) (not t)) (equal-same (standing s (v .image)) (dataIn s) (g .stands)) ∙ both-none (isHeld s (v .marks)) in
     let z = piece-fine (v .state) s (v .image) (v .marks) (h .form-again) (g .open-now) (g .enough) (h .kind-again) (g .inside) (g .on-grid) (g .sized) agrees in
     repeat-keeps v s z (h .kind-again) yes

@@ -14,19 +14,19 @@ use Rattle.octets.proofs.Over.{length-over, le-or-lt}
 use Rattle.eif.specs.Numbers.{sizeLimit}
 use Rattle.octets.specs.Logic.{both}
 use Rattle.eif.specs.declared.Verdict.the-variants.{Accepted}
-use Rattle.eif_lemmas.proofs.Logic.{equal-or-not}
+use Rattle.octets.proofs.Logic.{both-none, equal-or-not}
 use Rattle.assembler.specs.Records.{pieceSize, closeKind, kindIn, numberIn, dataIn, piecesOf, pieceSizeAt, placeIn}
-use Rattle.assembler.specs.Rules.{allHeld, held, standing, heldWithOther, faultOf, isOpened}
+use Rattle.assembler.specs.Rules.{allHeld, isHeld, standing, heldWithOther, faultOf, isOpened}
 use Rattle.assembler.specs.Step.{openState, freshState, stepped}
 use Rattle.assembler.specs.declared.State.{State}
 use Rattle.assembler.specs.declared.Stepped.{Stepped}
 use Rattle.assembler.proofs.Piece.{place-in, piece-in, held-yes, held-no, not-held, piece-kept, piece-put}
 use Rattle.assembler.proofs.Steps.{step-opened, step-taken, step-closed}
 use Rattle.assembler_laws.specs.Run.{Memory, memory, answer, after, run, AllAccepted, OpenFor, PieceOf, Close, Every, Sent, Pieces, Transfer, Assembled}
-use Rattle.eif_lemmas.proofs.Same.{equal-same}
+use Rattle.octets.proofs.Same.{equal-same}
 use Rattle.assembler_laws.proofs.Lists.{over-other, over-in, starts-with, all-held}
 use Rattle.assembler_laws.proofs.Accept.{LongEnough, open-fine, piece-fine, close-fine}
-use Rattle.assembler_laws.proofs.Calls.{called, both-none}
+use Rattle.assembler_laws.proofs.Calls.{called}
 
 -- ---- while a transfer of m is open, over buffers that first held x and y
 
@@ -118,7 +118,7 @@ module _ (m x y : List ℕ) (image-room : length m ≤ length x) (mark-room : pi
 
       -- held already
       module _ (e : getD (w .marks) (placeIn r) 0 ≡ 1) where
-        held-now : held r (w .marks) ≡ true
+        held-now : isHeld r (w .marks) ≡ true
         held-now = held-yes r (w .marks) (numberIn r) refl (λ z. omega arith)
 
         stands : standing r (w .image) ≡ dataIn r
@@ -137,8 +137,8 @@ module _ (m x y : List ℕ) (image-room : length m ≤ length x) (mark-room : pi
 
         agrees : heldWithOther r (w .image) (w .marks) ≡ false
         agrees =
-            ap (λ (t : Bool). both (held r (w .marks)) (not t)) (equal-same (standing r (w .image)) (dataIn r) stands)
-            ∙ both-none (held r (w .marks))
+            ap (λ (t : Bool). both (isHeld r (w .marks)) (not t)) (equal-same (standing r (w .image)) (dataIn r) stands)
+            ∙ both-none (isHeld r (w .marks))
 
         stays : after w r ≡ w
         stays =
@@ -151,7 +151,7 @@ module _ (m x y : List ℕ) (image-room : length m ≤ length x) (mark-room : pi
 
       -- not held yet
       module _ (e : getD (w .marks) (placeIn r) 0 ≡ 0) where
-        free : held r (w .marks) ≡ false
+        free : isHeld r (w .marks) ≡ false
         free = held-no r (w .marks) (numberIn r) refl e
 
         passes : heldWithOther r (w .image) (w .marks) ≡ false

@@ -9,7 +9,7 @@ use lib.ListN.{length, take, drop, replicate}
 use Rattle.eif.specs.Numbers.{sizeLimit}
 use Rattle.eif.specs.declared.Verdict.the-variants.{Accepted}
 use Rattle.assembler.specs.Records.{pieceSize, openKind, pieceKind, closeKind, kindIn, numberIn, dataIn, formed, piecesOf, pieceSizeAt, placeIn}
-use Rattle.assembler.specs.Rules.{isOpened}
+use Rattle.assembler.specs.Rules.{faultOf, isOpened}
 use Rattle.assembler.specs.Step.{freshState, stepAnswer, imageAfter, marksAfter}
 use Rattle.assembler.specs.declared.State.{State}
 use Rattle.assembler.specs.declared.Stepped.{Stepped}
@@ -31,6 +31,10 @@ answer w r = stepAnswer (w .state) r (w .image) (w .marks)
 
 abbrev pub after : Memory → List ℕ → Memory
 after w r = memory (answer w r .state) (imageAfter (w .state) r (w .image) (w .marks)) (marksAfter (w .state) r (w .image) (w .marks))
+
+-- the number that it refuses with; 0: it is taken
+abbrev pub faultAt : Memory → List ℕ → ℕ
+faultAt w r = faultOf (w .state) r (w .image) (w .marks)
 
 unfoldable pub run : Memory → List (List ℕ) → Memory
 run w [] = w
@@ -111,11 +115,6 @@ OutsideAll i w (r ∷ rs) = OutsideTaken i w r × OutsideAll i (after w r) rs
 -- mark k is of no piece that the record opens or brings
 abbrev pub OtherMark : ℕ → List ℕ → Type 0
 OtherMark k r = (kindIn r ≡ openKind → piecesOf (numberIn r) ≤ k) × (kindIn r ≡ pieceKind → k ≡ placeIn r → ⊥)
-
--- and so for each call in turn
-unfoldable pub OtherMarks : ℕ → List (List ℕ) → Type 0
-OtherMarks k [] = Unit
-OtherMarks k (r ∷ rs) = OtherMark k r × OtherMarks k rs
 
 -- ---- any records between the open and the close, also such as are refused
 

@@ -1,14 +1,15 @@
 -- One complete set of pieces of an image of n bytes, none of which disagree, and the image that they are: the pieces joined in the
 -- order of their starts. Assumes nothing.
-use Prim.Native.Nat.{ℕ, zero, suc, _<_, _≤_, _%_}
+use Prim.Native.Nat.{ℕ, _<_, _≤_, _%_}
 use mathlib.Core.Path.{_≡_}
 use mathlib.Core.Bool.{true, false}
-use mathlib.Core.List.{List, [], _∷_, _++_}
+use mathlib.Core.List.{List, [], _∷_}
 use mathlib.Core.Logic.{_⊎_}
 use lib.Dec.{eqb}
 use lib.ListN.{length}
 use Rattle.eif.specs.Numbers.{sizeLimit}
 use Rattle.octets.specs.Logic.{choose}
+use Rattle.eif.specs.Table.{joinFrom}
 use Rattle.assembler.specs.Records.{pieceSize, openKind, pieceKind, kindIn, numberIn, dataIn, formed, piecesOf, pieceSizeAt, placeIn}
 use Rattle.assembler.specs.Rules.{isOpened}
 use Rattle.assembler_laws.specs.Run.{Memory, Close, Every, Sent}
@@ -37,13 +38,9 @@ unfoldable pub bytesFor : List (List ℕ) → ℕ → List ℕ
 bytesFor [] k = []
 bytesFor (r ∷ rs) k = choose (eqb (placeIn r) k) (dataIn r) (bytesFor rs k)
 
--- the pieces of count places from k on, joined
-unfoldable pub joinedFrom : List (List ℕ) → ℕ → ℕ → List ℕ
-joinedFrom ps zero k = []
-joinedFrom ps (suc count) k = bytesFor ps k ++ joinedFrom ps count (suc k)
-
-abbrev pub imageOf : ℕ → List (List ℕ) → List ℕ
-imageOf n ps = joinedFrom ps (piecesOf n) 0
+-- the pieces of all places, joined
+abbrev pub joinedPieces : ℕ → List (List ℕ) → List ℕ
+joinedPieces n ps = joinFrom (bytesFor ps) (piecesOf n) 0
 
 -- any order and any repeats of the set
 pub record AnyOrder (n : ℕ) (ps rs : List (List ℕ)) : Type 0 where

@@ -12,8 +12,8 @@ ghost use Rattle.eif.specs.declared.Verdict.the-variants.{Accepted};
 ghost use Rattle.assembler.specs.Records.{numberSize, placeIn};
 ghost use Rattle.assembler.specs.Step.{freshState, openState, stepped, pieceWritten, pieceMarked, stepAnswer, imageAfter, marksAfter};
 use assembler::PIECE_SIZE;
-use assembler::Record;
-use assembler::RecordKind;
+use assembler::PieceRecord;
+use assembler::PieceRecordKind;
 use assembler::State;
 use assembler::Stepped;
 use eif::RecordHead;
@@ -72,12 +72,12 @@ fn take_piece(sent: &[u8], image: &mut [u8], marks: &mut [u8])
     ensures { λ _. ⌜ now (image .exit) ≡ pieceWritten (now (sent .entry)) (now (image .entry)) (now (marks .entry)) ⌝ }
     ensures { λ _. ⌜ now (marks .exit) ≡ pieceMarked (now (sent .entry)) (now (marks .entry)) ⌝ }
 {
-    let start = octets::le64(sent, Record::NUMBER_AT);
+    let start = octets::le64(sent, PieceRecord::NUMBER_AT);
     let place = (start / PIECE_SIZE) as usize;
     if marks[place] != 0 {
         return;
     }
-    octets::copy(image, start as usize, &sent[Record::DATA_AT..]);
+    octets::copy(image, start as usize, &sent[PieceRecord::DATA_AT..]);
     marks[place] = 1;
 }
 
@@ -96,13 +96,13 @@ pub fn step(state: State, sent: &[u8], image: &mut [u8], marks: &mut [u8]) -> St
         };
     }
     let kind = octets::le16(sent, RecordHead::TYPE_AT);
-    if kind == RecordKind::OPEN {
-        let length = octets::le64(sent, Record::NUMBER_AT);
+    if kind == PieceRecordKind::OPEN {
+        let length = octets::le64(sent, PieceRecord::NUMBER_AT);
         let next = open_state(length, image.len() as u64, marks.len() as u64);
         clear(marks, assembler_judge::pieces(length) as usize);
         return accepted(next, 0);
     }
-    if kind == RecordKind::PIECE {
+    if kind == PieceRecordKind::PIECE {
         take_piece(sent, image, marks);
         return accepted(state, 0);
     }

@@ -1,11 +1,11 @@
 -- What the building functions leave in a buffer, as bytes written over what stood there.
 -- Assumes nothing.
-use Prim.Native.Nat.{ℕ, _+_, _*_}
+use Prim.Native.Nat.{ℕ, _+_}
 use mathlib.Core.List.{List}
 use lib.ListN.{length}
 use Rattle.octets.specs.Bytes.{beBytes}
 use Rattle.octets.specs.Over.{over}
-use Rattle.eif.specs.Layout.{magicNumber, sectionHeaderSize, sectionFlagsAt, sectionSizeAt, magicAt, versionAt, headerFlagsAt, countAt, offsetsAt, sizesAt, checksumAt}
+use Rattle.eif.specs.Layout.{magicNumber, sectionHeaderSize, sectionFlagsAt, sectionSizeAt, magicAt, versionAt, headerFlagsAt, countAt, offsetsAt, sizesAt, checksumAt, entrySize, entryAt}
 use Rattle.eif.specs.Reading.{checksumOf}
 
 abbrev pub withHeader : List ℕ → ℕ → ℕ → ℕ → List ℕ
@@ -13,7 +13,7 @@ withHeader s version flags count =
     over (over (over (over s magicAt (beBytes 4 magicNumber)) versionAt (beBytes 2 version)) headerFlagsAt (beBytes 2 flags)) countAt (beBytes 2 count)
 
 abbrev pub withEntry : List ℕ → ℕ → ℕ → ℕ → List ℕ
-withEntry s i offset size = over (over s (offsetsAt + 8 * i) (beBytes 8 offset)) (sizesAt + 8 * i) (beBytes 8 size)
+withEntry s i offset size = over (over s (entryAt offsetsAt i) (beBytes entrySize offset)) (entryAt sizesAt i) (beBytes entrySize size)
 
 abbrev pub withOwnHeader : List ℕ → ℕ → ℕ → ℕ → ℕ → List ℕ
 withOwnHeader s at kind flags size = over (over (over s at (beBytes 2 kind)) (at + sectionFlagsAt) (beBytes 2 flags)) (at + sectionSizeAt) (beBytes 8 size)

@@ -1,4 +1,4 @@
-// Images for the programs that run cases, damaged ones too: built in a lent buffer, field by field, and sealed with the right
+// Images for the programs that run cases, damaged ones too: built in a lent buffer, field by field, and given the right
 // checksum. Every function is total: what would lie past the buffer is left out.
 ghost use mathlib.Core.Path.{_≡_};
 ghost use Rattle.case_images.specs.Build.{withHeader, withEntry, withOwnHeader, withSection, withOwnChecksum};

@@ -1,5 +1,5 @@
 -- The order of the refusals of writing and of reading one COSE_Sign1, as lists of rules, like those of an image.
--- That each verdict is that of the first rule that applies is a law of its own. Assumes nothing.
+-- That each verdict is that of the first rule that applies: `cose_laws/FirstApplies`. Assumes nothing.
 use Prim.Native.Nat.{ℕ}
 use mathlib.Core.Bool.{not}
 use mathlib.Core.List.{List, [], _∷_}

@@ -3,7 +3,7 @@
 -- rule of its own, and what is accepted is what would be written. Past the end a byte reads as 0, so every byte string has an answer.
 -- Assumes nothing.
 use Prim.Native.Nat.{ℕ, zero, suc, _+_}
-use mathlib.Core.Bool.{Bool, true, false}
+use mathlib.Core.Bool.{Bool}
 use mathlib.Core.List.{List, [], _∷_}
 use lib.Dec.{ltb, eqb}
 use lib.ListN.{length, getD, replicate, drop}

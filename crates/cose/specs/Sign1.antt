@@ -19,6 +19,10 @@ registerSize = 48
 abbrev pub longest : ℕ
 longest = 281
 
+-- the last position that a part is written to or read from: past any that there is, and far below where a sum overflows
+abbrev pub positionLimit : ℕ
+positionLimit = 65536
+
 -- ---- algorithms: their numbers in the COSE registry are -7, -35 and -36; here the sign is left off
 
 abbrev pub es256 : ℕ
@@ -30,12 +34,16 @@ es384 = 35
 abbrev pub es512 : ℕ
 es512 = 36
 
+-- the bytes of the longest signatures
+abbrev pub longestSignature : ℕ
+longestSignature = 132
+
 -- the bytes of an algorithm's signatures; 0: it may not sign
 unfoldable pub signatureSize : ℕ → ℕ
 signatureSize algorithm =
     choose (eqb algorithm es256) 64
     (choose (eqb algorithm es384) 96
-    (choose (eqb algorithm es512) 132
+    (choose (eqb algorithm es512) longestSignature
     0))
 
 -- ---- the bytes

@@ -1,7 +1,6 @@
 // Runs the cases of COSE_Sign1, one line each: claims written and read back, and byte strings and claims that are refused.
 use cose::Algorithm;
 use cose::Claim;
-use cose::LONGEST;
 use cose::REGISTER_SIZE;
 use eif::Refusal;
 use eif::Verdict;
@@ -180,8 +179,8 @@ fn refused_writes() {
     write(36, 0, 0, 131, ROOM);
     write(36, 0, 0, 133, ROOM);
     // too short: by one, and with both faults
-    write(36, 18446744073709551615, 2, 132, LONGEST);
-    write(36, 18446744073709551615, 2, 132, LONGEST - 1);
+    write(36, 18446744073709551615, 2, 132, cose::longest());
+    write(36, 18446744073709551615, 2, 132, cose::longest() - 1);
     write(36, 18446744073709551615, 2, 132, 0);
     write(36, 18446744073709551615, 2, 131, 0);
 }

@@ -19,7 +19,7 @@ use Rattle.eif.specs.Answers.{refuse}
 use Rattle.eif.specs.Plan.{writtenFor}
 use Rattle.eif.specs.declared.Verdict.the-variants.{Accepted}
 use Rattle.eif.specs.declared.Written.{Written}
-use Rattle.eif_lemmas.proofs.Logic.{both-true}
+use Rattle.octets.proofs.Logic.{both-true}
 use Rattle.eif_lemmas.proofs.Verdicts.{never}
 use Rattle.cose.specs.Sign1.{registerSize, signatureSize, signatureFits, Writable, IsSign1, sign1Bytes}
 use Rattle.cose.specs.Write.{sign1Verdict, sign1Answer, sign1Output, IsWritten}
@@ -28,7 +28,7 @@ use Rattle.cose.specs.Read.{numberAt, byteAt, byteEnd, bytesFrom, algorithmOf, 
 use Rattle.cose.specs.declared.Claim.{Claim}
 use Rattle.cose.specs.declared.Sign1Reading.{Sign1Reading}
 use Rattle.cose_lemmas.proofs.Answers.{fine}
-use Rattle.eif_lemmas.proofs.Same.{same-equal}
+use Rattle.octets.proofs.Same.{same-equal}
 use Rattle.cose_lemmas.proofs.Same.{fits}
 use Rattle.cose_laws.proofs.RoundTrip.{reads-back, written-part, none-begins}
 
@@ -160,19 +160,20 @@ module _ (s : List ℕ) (bytes : AreBytes s) where
     unfolding acceptedSign1 signatureOf
     signature-read = ap (signatureIn s) answer
 
-    pub writable-read : Writable (r .claim) (signatureIn s r)
+    pub writable-read : Writable (readSign1 s .claim) (signatureIn s (readSign1 s))
     writable-read = rw (claim-read, signature-read) (taken-writable s bytes (facts s (verdict-true s e) .0))
 
-    pub bytes-read : s ≡ sign1Bytes (r .claim) (signatureIn s r)
+    pub bytes-read : s ≡ sign1Bytes (readSign1 s .claim) (signatureIn s (readSign1 s))
     bytes-read = facts s (verdict-true s e) .1 ∙ sym (ap₂ sign1Bytes claim-read signature-read)
 
     -- the signature is the last bytes, as many as the reading says
-    pub ends-read : r .position .0 + r .length .0 ≡ length s
+    pub ends-read : readSign1 s .position .0 + readSign1 s .length .0 ≡ length s
     unfolding acceptedSign1
     ends-read = ap (λ (q : Sign1Reading). q .position .0 + q .length .0) answer ∙ sym (facts s (verdict-true s e) .0)
 
     pub written-again : (d : List ℕ) → length s ≤ length d
-        → (sign1Answer (r .claim) (signatureIn s r) (length d) ≡ writtenFor Accepted (length s)) × (sign1Output (r .claim) (signatureIn s r) d ≡ over d 0 s)
+        → (sign1Answer (readSign1 s .claim) (signatureIn s (readSign1 s)) (length d) ≡ writtenFor Accepted (length s))
+        × (sign1Output (readSign1 s .claim) (signatureIn s (readSign1 s)) d ≡ over d 0 s)
     written-again d room =
         let n : length (sign1Bytes (r .claim) (signatureIn s r)) ≡ length s = sym (ap length bytes-read) in
         let f = fine (r .claim) (signatureIn s r) d (writable-read .fits) (omega arith) in

@@ -9,7 +9,7 @@ use borrow.Author.Tests.{ltb-true, eqb-true}
 use lib.Dec.{ltb, eqb}
 use lib.ListN.{length, drop, length-append}
 use lib.Seq.{drop-at}
-use Rattle.eif_lemmas.proofs.Logic.{both-true}
+use Rattle.octets.proofs.Logic.{both-true}
 use Rattle.cose.specs.Cbor.{unsigned, byteString, headBytes, stringBytes, numbersBytes}
 use Rattle.cose.specs.Sign1.{registerSize, longest, signatureSize, signatureFits, Writable, payloadBytes, sign1Bytes}
 use Rattle.cose.specs.Read.{numberAt, numberEnd, bytesFrom, bytesEnd, algorithmOf, indexStart, valueStart, signatureStart, claimOf, signatureOf}

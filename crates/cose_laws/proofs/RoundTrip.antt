@@ -2,10 +2,11 @@
 -- Assumes nothing.
 use Prim.Native.Nat.{ℕ, _+_, _-_, _≤_}
 use mathlib.Core.Path.{_≡_, refl, sym, ap, ap₂, _∙_}
-use mathlib.Core.List.{List, [], _∷_, _++_, append-nil}
+use mathlib.Core.List.{List, [], _++_, append-nil}
 use native.Mathlib.Omega.{arith}
 use lib.ListN.{length, take, drop, length-append}
 use lib.Seq.{take-at, drop-at}
+use Rattle.octets.proofs.Lists.{none-of}
 use Rattle.octets.proofs.Over.{over-start}
 use Rattle.eif.specs.Plan.{writtenFor}
 use Rattle.eif.specs.declared.Verdict.the-variants.{Accepted}
@@ -14,7 +15,7 @@ use Rattle.cose.specs.Write.{sign1Answer, sign1Output}
 use Rattle.cose.specs.Read.{algorithmOf, signatureStart, claimOf, signatureOf, acceptedSign1, readSign1}
 use Rattle.cose.specs.declared.Claim.{Claim}
 use Rattle.cose_lemmas.proofs.Answers.{fine}
-use Rattle.eif_lemmas.proofs.Same.{equal-same}
+use Rattle.octets.proofs.Same.{equal-same}
 use Rattle.cose_lemmas.proofs.Same.{read-same}
 use Rattle.cose_laws.proofs.Places.{sized, whole, algorithm-same, claim-same, signature-same, end-same}
 
@@ -42,7 +43,7 @@ module _ (c : Claim) (sig : List ℕ) (writable : Writable c sig) where
   size-back : length sig ≡ signatureSize (algorithmOf s)
   size-back = sized c sig writable ∙ ap signatureSize (sym algorithm-back)
 
-  pub reads-back : readSign1 s ≡ acceptedSign1 c (length s - length sig) (length sig)
+  pub reads-back : readSign1 (sign1Bytes c sig) ≡ acceptedSign1 c (length (sign1Bytes c sig) - length sig) (length sig)
   reads-back =
       let size : length s ≡ signatureStart s + signatureSize (algorithmOf s) = let e = end-back in let f = size-back in omega arith in
       let at : signatureStart s ≡ length s - length sig = let e = end-back in omega arith in
@@ -50,15 +51,17 @@ module _ (c : Claim) (sig : List ℕ) (writable : Writable c sig) where
       ∙ ap (λ (q : Claim). acceptedSign1 q (signatureStart s) (signatureSize (algorithmOf s))) claim-back
       ∙ ap₂ (acceptedSign1 c) at (sym size-back)
 
-  pub signature-stands : drop (length s - length sig) s ≡ sig
+  pub signature-stands : drop (length (sign1Bytes c sig) - length sig) (sign1Bytes c sig) ≡ sig
   unfolding signatureOf
   signature-stands =
       let at : signatureStart s ≡ length s - length sig = let e = end-back in omega arith in
       ap (λ (k : ℕ). drop k s) (sym at) ∙ signature-back
 
   -- the writer leaves these bytes at the buffer's start, and the later bytes as they were
-  pub written-part : (d : List ℕ) → length s ≤ length d
-      → (sign1Answer c sig (length d) ≡ writtenFor Accepted (length s)) × (take (length s) (sign1Output c sig d) ≡ s) × (drop (length s) (sign1Output c sig d) ≡ drop (length s) d)
+  pub written-part : (d : List ℕ) → length (sign1Bytes c sig) ≤ length d
+      → (sign1Answer c sig (length d) ≡ writtenFor Accepted (length (sign1Bytes c sig)))
+      × (take (length (sign1Bytes c sig)) (sign1Output c sig d) ≡ sign1Bytes c sig)
+      × (drop (length (sign1Bytes c sig)) (sign1Output c sig d) ≡ drop (length (sign1Bytes c sig)) d)
   written-part d room =
       let f = fine c sig d (writable .fits) room in
       let o : sign1Output c sig d ≡ s ++ drop (length s) d = sym (f .1) ∙ over-start d s room in (
@@ -86,8 +89,4 @@ module _ (c : Claim) (sig : List ℕ) (writable : Writable c sig) (k : Claim) (t
       let p = ap signatureStart e in
       let q : length sig ≡ length tag = sized c sig writable ∙ ap signatureSize a ∙ sym (sized k tag other) in
       let r = ap length e ∙ length-append (sign1Bytes c sig) t in
-      none t (omega arith)
-    where
-      none : (l : List ℕ) → length l ≡ 0 → l ≡ []
-      none [] z = refl
-      none (x ∷ xs) z = absurd (omega arith)
+      none-of t (omega arith)

@@ -3,17 +3,17 @@
 use Prim.Native.Nat.{ℕ, _+_, _-_, _≤_}
 use mathlib.Core.Bool.{Bool, true, false}
 use mathlib.Core.Path.{_≡_, refl, sym, ap, ap₂, _∙_}
-use mathlib.Core.List.{List, [], _∷_}
+use mathlib.Core.List.{List}
 use mathlib.Core.Logic.{⊎-elim}
 use native.Mathlib.Omega.{arith}
-use borrow.Author.Tests.{eqb-true, eq-eqb, ne-eqb}
+use borrow.Author.Tests.{eq-eqb, ne-eqb}
 use lib.Dec.{eqb}
 use lib.ListN.{length, getD, take, drop, length-drop}
 use lib.Seq.{take-at, take-all}
 use Rattle.octets.proofs.Over.{le-or-lt, over-start}
 use Rattle.octets.specs.Logic.{choose}
 use Rattle.octets.specs.Same.{sameBytes}
-use Rattle.eif_lemmas.proofs.Same.{not-same}
+use Rattle.octets.proofs.Same.{not-same}
 use Rattle.eif.specs.declared.Written.{Written}
 use Rattle.cose.specs.Sign1.{registerSize, es256, es384, es512, signatureSize, signatureFits, sign1Bytes}
 use Rattle.cose.specs.Write.{sign1Answer, sign1Output}

@@ -4,9 +4,9 @@
 // are accepted exactly when they are what was written: no head, name, length or order is judged on the way, and none can be forgotten.
 // Every byte string has an answer, and of a long one no more is looked at than a COSE_Sign1 can have.
 ghost use mathlib.Core.Path.{_≡_};
-ghost use Prim.Native.Nat.{_+_, _≤_};
+ghost use Prim.Native.Nat.{_+_, _*_, _≤_};
 ghost use lib.ListN.{length, getD};
-ghost use Rattle.cose.specs.Sign1.{registerSize, longest, signatureSize, sign1Bytes};
+ghost use Rattle.cose.specs.Sign1.{registerSize, longest, positionLimit, signatureSize, sign1Bytes};
 ghost use Rattle.octets.specs.Same.{sameBytes};
 ghost use Rattle.cose.specs.Read.{numberAt, numberEnd, byteAt, byteEnd, bytesFrom, bytesEnd, algorithmOf, indexStart, signatureStart, claimOf, signatureOf, refusedSign1, readSign1};
 use cose::Algorithm;
@@ -30,7 +30,7 @@ fn byte(s: &[u8], at: usize) -> u8
 
 // The number whose head stands at a position.
 fn number_at(s: &[u8], at: usize) -> u64
-    requires { ⌜ at ≤ 65536 ⌝ }
+    requires { ⌜ at ≤ positionLimit ⌝ }
     ensures { λ r. ⌜ r ≡ numberAt (now (s .entry)) at ⌝ }
 {
     let b = byte(s, at);
@@ -51,7 +51,7 @@ fn number_at(s: &[u8], at: usize) -> u64
 
 // Where that head ends.
 fn number_end(s: &[u8], at: usize) -> usize
-    requires { ⌜ at ≤ 65536 ⌝ }
+    requires { ⌜ at ≤ positionLimit ⌝ }
     ensures { λ r. ⌜ r ≡ numberEnd (now (s .entry)) at ⌝ }
     ensures { λ r. ⌜ r ≤ at + 9 ⌝ }
 {
@@ -81,7 +81,7 @@ struct Found {
 
 // The number below 256 whose head stands at a position.
 fn byte_at(s: &[u8], at: usize) -> u8
-    requires { ⌜ at ≤ 65536 ⌝ }
+    requires { ⌜ at ≤ positionLimit ⌝ }
     ensures { λ r. ⌜ r ≡ byteAt (now (s .entry)) at ⌝ }
 {
     let b = byte(s, at);
@@ -90,7 +90,7 @@ fn byte_at(s: &[u8], at: usize) -> u8
 
 // Where that head ends.
 fn byte_end(s: &[u8], at: usize) -> usize
-    requires { ⌜ at ≤ 65536 ⌝ }
+    requires { ⌜ at ≤ positionLimit ⌝ }
     ensures { λ r. ⌜ r ≡ byteEnd (now (s .entry)) at ⌝ }
     ensures { λ r. ⌜ r ≤ at + 2 ⌝ }
 {
@@ -99,10 +99,10 @@ fn byte_end(s: &[u8], at: usize) -> usize
 
 // As many numbers below 256 as a register has bytes, from a position on.
 fn values(s: &[u8], from: usize) -> Found
-    requires { ⌜ from ≤ 32768 ⌝ }
+    requires { ⌜ from + 2 * registerSize ≤ positionLimit ⌝ }
     ensures { λ r. ⌜ r .value ≡ bytesFrom (now (s .entry)) registerSize from ⌝ }
     ensures { λ r. ⌜ r .end ≡ bytesEnd (now (s .entry)) registerSize from ⌝ }
-    ensures { λ r. ⌜ r .end ≤ from + 96 ⌝ }
+    ensures { λ r. ⌜ r .end ≤ from + 2 * registerSize ⌝ }
 {
     let mut value = [0u8; REGISTER_SIZE];
     let mut at = from;

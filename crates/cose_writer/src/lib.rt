@@ -3,14 +3,14 @@
 // The claim is judged and measured before a byte is written, so that a refusal leaves every byte of the output as it was. Heads are
 // written in their shortest form; with 48 numbers and a signature of 64 to 132 bytes, payload and signature always have a head of two bytes.
 ghost use mathlib.Core.Path.{_≡_};
-ghost use Prim.Native.Nat.{_+_, _≤_, _<_};
+ghost use Prim.Native.Nat.{_+_, _*_, _≤_, _<_};
 ghost use mathlib.Core.List.{_∷_, []};
 ghost use lib.ListN.{length};
 ghost use Rattle.octets.specs.Over.{over};
 ghost use Rattle.eif.specs.Answers.{refuse};
 ghost use Rattle.eif.specs.Plan.{writtenFor};
 ghost use Rattle.cose.specs.Cbor.{unsigned, byteString, headBytes, stringBytes, numbersBytes};
-ghost use Rattle.cose.specs.Sign1.{signatureSize, payloadBytes, sign1Bytes};
+ghost use Rattle.cose.specs.Sign1.{registerSize, positionLimit, longestSignature, signatureSize, payloadBytes, sign1Bytes};
 ghost use Rattle.cose.specs.Write.{sign1Answer, sign1Output};
 ghost use Rattle.cose_lemmas.proofs.Parts.{opening};
 use cose::Algorithm;
@@ -25,7 +25,7 @@ use eif::Written;
 // How many bytes the signatures of an algorithm have; 0: it may not sign.
 pub fn signature_size(algorithm: u64) -> usize
     ensures { λ r. ⌜ r ≡ signatureSize algorithm ⌝ }
-    ensures { λ r. ⌜ r ≤ 132 ⌝ }
+    ensures { λ r. ⌜ r ≤ longestSignature ⌝ }
 {
     if algorithm == Algorithm::ES256 {
         return 64;
@@ -70,7 +70,7 @@ fn small_size(n: u8) -> usize
 // How long the numbers of a register's value are together.
 fn value_size(value: [u8; REGISTER_SIZE]) -> usize
     ensures { λ r. ⌜ r ≡ length (numbersBytes value) ⌝ }
-    ensures { λ r. ⌜ (48 ≤ r) × (r ≤ 96) ⌝ }
+    ensures { λ r. ⌜ (registerSize ≤ r) × (r ≤ 2 * registerSize) ⌝ }
 {
     let mut total: usize = 0;
     let mut i: usize = 0;
@@ -110,7 +110,7 @@ fn put_byte(out: &mut [u8], at: usize, b: u8)
 
 // The head of a number.
 fn put_number(out: &mut [u8], at: usize, n: u64) -> usize
-    requires { ⌜ at ≤ 65536 ⌝ }
+    requires { ⌜ at ≤ positionLimit ⌝ }
     ensures { λ r. ⌜ r ≡ at + length (headBytes unsigned n) ⌝ }
     ensures { λ r. ⌜ r ≤ at + 9 ⌝ }
     ensures { λ _. ⌜ now (out .exit) ≡ over (now (out .entry)) at (headBytes unsigned n) ⌝ }
@@ -135,7 +135,7 @@ fn put_number(out: &mut [u8], at: usize, n: u64) -> usize
 
 // The head of a number below 256.
 fn put_small(out: &mut [u8], at: usize, n: u8) -> usize
-    requires { ⌜ at ≤ 65536 ⌝ }
+    requires { ⌜ at ≤ positionLimit ⌝ }
     ensures { λ r. ⌜ r ≡ at + length (headBytes unsigned n) ⌝ }
     ensures { λ r. ⌜ r ≤ at + 2 ⌝ }
     ensures { λ _. ⌜ now (out .exit) ≡ over (now (out .entry)) at (headBytes unsigned n) ⌝ }
@@ -151,7 +151,7 @@ fn put_small(out: &mut [u8], at: usize, n: u8) -> usize
 
 // The head of a byte string whose length takes one byte after the first.
 fn put_string_head(out: &mut [u8], at: usize, size: u8) -> usize
-    requires { ⌜ (at ≤ 65536) × (24 ≤ size) ⌝ }
+    requires { ⌜ (at ≤ positionLimit) × (24 ≤ size) ⌝ }
     ensures { λ r. ⌜ r ≡ at + 2 ⌝ }
     ensures { λ _. ⌜ now (out .exit) ≡ over (now (out .entry)) at (headBytes byteString size) ⌝ }
 {
@@ -162,9 +162,9 @@ fn put_string_head(out: &mut [u8], at: usize, size: u8) -> usize
 
 // The numbers of a register's value.
 fn put_values(out: &mut [u8], from: usize, value: [u8; REGISTER_SIZE]) -> usize
-    requires { ⌜ from ≤ 32768 ⌝ }
+    requires { ⌜ from + 2 * registerSize ≤ positionLimit ⌝ }
     ensures { λ r. ⌜ r ≡ from + length (numbersBytes value) ⌝ }
-    ensures { λ r. ⌜ r ≤ from + 96 ⌝ }
+    ensures { λ r. ⌜ r ≤ from + 2 * registerSize ⌝ }
     ensures { λ _. ⌜ now (out .exit) ≡ over (now (out .entry)) from (numbersBytes value) ⌝ }
 {
     let mut at = from;

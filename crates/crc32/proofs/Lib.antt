@@ -1,13 +1,4 @@
 pub mod Xor
 pub mod Linear
-pub mod Tabulate
 pub mod Bounds
-pub mod Sparse
-pub mod Steps
-pub mod Left
-pub mod Joined
-pub mod FoldBits
-pub mod FoldWords
-pub mod FoldBytes
-pub mod FoldRing
 pub mod Burst

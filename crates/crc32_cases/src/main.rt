@@ -1,10 +1,10 @@
-// Published CRC-32 vectors through `crc32::checksum`, a line each: a label, and the checksum in eight hexadecimal digits.
+// Published CRC-32 vectors through `crc32_fold::checksum`, a line each: a label, and the checksum in eight hexadecimal digits.
 use libc::STDOUT_FILENO;
 
 fn show(label: &[u8], bytes: &[u8]) {
     io::write_all(STDOUT_FILENO, label);
     io::write_all(STDOUT_FILENO, b" ");
-    io::print_hex(STDOUT_FILENO, crc32::checksum(bytes) as u64, 8);
+    io::print_hex(STDOUT_FILENO, crc32_fold::checksum(bytes) as u64, 8);
     io::write_all(STDOUT_FILENO, b"\n");
 }
 

@@ -1,5 +1,5 @@
 -- What an accepted image is, with no order of rules and no walk: each rule of FORMAT.md, Reading an image, once, in plain arithmetic.
--- That an image is accepted exactly when it meets these rules is a law of its own. Assumes nothing.
+-- That an image is accepted exactly when it meets these rules: `eif_laws/Acceptance.accepted-exactly-when`. Assumes nothing.
 use Prim.Native.Nat.{ℕ, _<_, _≤_}
 use mathlib.Core.Path.{_≡_}
 use mathlib.Core.List.{List}

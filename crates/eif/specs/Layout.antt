@@ -13,6 +13,10 @@ headerSize = 548
 abbrev pub sectionHeaderSize : ℕ
 sectionHeaderSize = 12
 
+-- an entry of a table, of offsets or of sizes
+abbrev pub entrySize : ℕ
+entrySize = 8
+
 -- 2e 65 69 66
 abbrev pub magicNumber : ℕ
 magicNumber = 0x2e656966
@@ -104,15 +108,19 @@ reserved v = v .header 2 reservedAt
 abbrev pub count : View → ℕ
 count v = v .header 2 countAt
 
--- the table's entries for section i; an offset points at the section's own header, a size counts the data only
+-- where the entry for section i stands, in the table of offsets or of sizes that starts at a position
+abbrev pub entryAt : ℕ → ℕ → ℕ
+entryAt at i = at + entrySize * i
+
+-- the tables' entries for section i; an offset points at the section's own header, a size counts the data only
 abbrev pub offsetEntry : (ℕ → ℕ → ℕ) → ℕ → ℕ
-offsetEntry header i = header 8 (offsetsAt + 8 * i)
+offsetEntry header i = header entrySize (entryAt offsetsAt i)
 
 abbrev pub offset : View → ℕ → ℕ
 offset v i = offsetEntry (v .header) i
 
-abbrev pub size : View → ℕ → ℕ
-size v i = v .header 8 (sizesAt + 8 * i)
+abbrev pub tableSize : View → ℕ → ℕ
+tableSize v i = v .header entrySize (entryAt sizesAt i)
 
 abbrev pub reservedAfter : View → ℕ
 reservedAfter v = v .header 4 reservedAfterAt
@@ -122,7 +130,7 @@ checksum v = v .header 4 checksumAt
 
 -- the first byte after section i
 abbrev pub end : View → ℕ → ℕ
-end v i = offset v i + sectionHeaderSize + size v i
+end v i = offset v i + sectionHeaderSize + tableSize v i
 
 -- where section i may start: at the end of the header or of the section before
 abbrev pub start : View → ℕ → ℕ
@@ -164,7 +172,7 @@ abbrev pub countOf : List ℕ → ℕ
 countOf s = count (viewOf s)
 
 abbrev pub sizeAt : List ℕ → ℕ → ℕ
-sizeAt s = size (viewOf s)
+sizeAt s = tableSize (viewOf s)
 
 abbrev pub endAt : List ℕ → ℕ → ℕ
 endAt s = end (viewOf s)

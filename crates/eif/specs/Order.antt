@@ -1,20 +1,22 @@
 -- The order of the refusals that FORMAT.md gives for each call, as lists: every rule at every section or record that it judges.
--- That each verdict is that of the first rule that applies is a law of its own. Assumes nothing.
-use Prim.Native.Nat.{ℕ, zero, suc, _+_, _*_}
+-- The chains of `Reading`, `Plan`, `Stream` and `Roll` have the shape of the code, these lists that of the paper. That each verdict is that of
+-- the first rule that applies: `eif_laws/FirstApplies`. Assumes nothing.
+use Prim.Native.Nat.{ℕ, zero, suc, _+_}
 use mathlib.Core.Bool.{Bool, true, not}
 use mathlib.Core.List.{List, [], _∷_, _++_}
 use lib.Dec.{ltb, leb, eqb}
 use lib.ListN.{length}
+use Rattle.eif.specs.Table.{joinFrom}
 use Rattle.octets.specs.Bytes.{leField}
 use Rattle.eif.specs.Numbers.{sizeLimit, placeCount, kernel, ramdisk, imageTooLong, imageTooShort, wrongMagic, wrongVersion, wrongCount, startsEarly, endsLate, sizesDiffer, typeNotAllowed, ramdiskBeforeKernel, typeRepeated, sectionMissing, checksumDiffers, notPacked, outputTooShort, dataLengthDiffers, recordCut, recordTypeWrong, bytesAfterEnd, pastStreamEnd}
 use Rattle.octets.specs.Logic.{both, either, choose}
 use Rattle.eif.specs.Answers.{refuseAt}
 use Rattle.eif.specs.Rules.{versionKnown, countKnown, allowedIn, seen, bootMissing, missing}
-use Rattle.eif.specs.Layout.{magicNumber, headerSize, versionAt, countAt, offsetsAt, checksumAt, View, viewOf, magic, version, count, offset, size, checksum, end, start}
+use Rattle.eif.specs.Layout.{magicNumber, headerSize, versionAt, countAt, offsetsAt, checksumAt, View, viewOf, magic, version, count, entryAt, offset, tableSize, checksum, end, start}
 use Rattle.eif.specs.Reading.{hasTail, checksumOf}
 use Rattle.eif.specs.Plan.{plannedKind, plainSize, dataBefore}
 use Rattle.eif.specs.Stream.{streamOf, listedBytes}
-use Rattle.eif.specs.Roll.{recordHeadSize, recordTypeAt, flagsType, flagsLength, flagsRecordSize, restOf, recordAt, recordStart, recordSize, recordKind, isEnd, sizeAsImage, rollBytes}
+use Rattle.eif.specs.Roll.{recordHeadSize, recordLengthAt, recordTypeAt, flagsType, flagsLength, flagsRecordSize, restOf, recordAt, recordStart, recordSize, recordKind, isEnd, sizeAsImage, rollBytes}
 use Rattle.eif.specs.declared.Plan.{Plan}
 use Rattle.eif.specs.declared.Stream.{Stream}
 use Rattle.eif.specs.declared.StreamSections.{StreamSections}
@@ -49,11 +51,6 @@ orderRules kinds i index position =
 unfoldable pub typeRules : ℕ → (ℕ → ℕ) → ℕ → ℕ → List Rule
 typeRules version kinds i position = rule (not (allowedIn version (kinds i))) typeNotAllowed i position ∷ orderRules kinds i i position
 
--- the rules at n places from place i on
-unfoldable pub rulesFrom : (ℕ → List Rule) → ℕ → ℕ → List Rule
-rulesFrom at zero i = []
-rulesFrom at (suc n) i = at i ++ rulesFrom at n (suc i)
-
 -- ---- reading an image: 1 to 5, then 6, 20 and 7 to 11 section by section, then 12, 20, 13
 
 unfoldable pub headerRules : View → List Rule
@@ -67,15 +64,15 @@ headerRules v =
 
 unfoldable pub sectionRules : View → ℕ → List Rule
 sectionRules v i =
-    rule (ltb (offset v i) (start v i)) startsEarly i (offsetsAt + 8 * i)
-    ∷ rule (not (eqb (offset v i) (start v i))) notPacked i (offsetsAt + 8 * i)
-    ∷ rule (ltb (v .size) (end v i)) endsLate i (offsetsAt + 8 * i)
-    ∷ rule (not (eqb (v .ownSize i) (size v i))) sizesDiffer i (offset v i)
+    rule (ltb (offset v i) (start v i)) startsEarly i (entryAt offsetsAt i)
+    ∷ rule (not (eqb (offset v i) (start v i))) notPacked i (entryAt offsetsAt i)
+    ∷ rule (ltb (v .size) (end v i)) endsLate i (entryAt offsetsAt i)
+    ∷ rule (not (eqb (v .ownSize i) (tableSize v i))) sizesDiffer i (offset v i)
     ∷ typeRules (version v) (v .kind) i (offset v i)
 
 unfoldable pub viewRules : View → ℕ → List Rule
 viewRules v computed =
-    headerRules v ++ (rulesFrom (sectionRules v) (count v) 0
+    headerRules v ++ (joinFrom (sectionRules v) (count v) 0
     ++ (rule (missing (v .kind) (version v) (count v)) sectionMissing 0 countAt
     ∷ rule (hasTail v) notPacked 0 (start v (count v))
     ∷ rule (not (eqb (checksum v) computed)) checksumDiffers 0 checksumAt
@@ -91,7 +88,7 @@ unfoldable pub planRules : Plan → List Rule
 planRules p =
     rule (not (versionKnown (p .version))) wrongVersion 0 0
     ∷ rule (not (countKnown (p .count))) wrongCount 0 0
-    ∷ (rulesFrom (λ i. typeRules (p .version) (plannedKind (p .places)) i 0) (p .count) 0
+    ∷ (joinFrom (λ i. typeRules (p .version) (plannedKind (p .places)) i 0) (p .count) 0
     ++ (rule (missing (plannedKind (p .places)) (p .version) (p .count)) sectionMissing 0 0
     ∷ rule (ltb sizeLimit (plainSize p)) imageTooLong 0 0
     ∷ []))
@@ -122,7 +119,7 @@ rollWriteRules s room = imageRules s ++ (rule (ltb room (length (rollBytes s))) 
 unfoldable pub flagsRules : List ℕ → List Rule
 flagsRules s =
     rule (ltb (length s) recordHeadSize) recordCut 0 0
-    ∷ rule (either (not (eqb (leField 2 recordTypeAt s) flagsType)) (not (eqb (leField 8 0 s) flagsLength))) recordTypeWrong 0 0
+    ∷ rule (either (not (eqb (leField 2 recordTypeAt s) flagsType)) (not (eqb (leField 8 recordLengthAt s) flagsLength))) recordTypeWrong 0 0
     ∷ rule (ltb (length s) flagsRecordSize) recordCut 0 0
     ∷ []
 

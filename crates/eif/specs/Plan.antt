@@ -13,9 +13,9 @@ use Rattle.eif.specs.Numbers.{sizeLimit, placeCount, imageTooLong, secti
 use Rattle.octets.specs.Logic.{choose}
 use Rattle.eif.specs.Answers.{refuse, andThen, wholeVerdict, beside}
 use Rattle.eif.specs.Rules.{fieldFault, typeFault, missing, firstFault}
-use Rattle.eif.specs.Table.{filled}
-use Rattle.eif.specs.Layout.{magicNumber, headerSize, sectionHeaderSize, viewOf, reserved, reservedAfter, countOf, offsetAt, sizeAt}
-use Rattle.eif.specs.Reading.{verdictOf, blankSection, dataOf}
+use Rattle.eif.specs.Table.{filled, joinFrom}
+use Rattle.eif.specs.Layout.{magicNumber, headerSize, sectionHeaderSize, viewOf, reserved, reservedAfter, countOf, offsetAt, sizeAt, entrySize}
+use Rattle.eif.specs.Reading.{verdictOf, dataOf, sectionIn}
 use Rattle.eif.specs.Output.{outputFor}
 use Rattle.eif.specs.declared.Section.{Section}
 use Rattle.eif.specs.declared.Reading.{Reading}
@@ -85,7 +85,7 @@ writeVerdict p given room =
 -- 8 bytes for each number
 abbrev pub entries : List ℕ → List ℕ
 entries [] = []
-entries (x ∷ xs) = beBytes 8 x ++ entries xs
+entries (x ∷ xs) = beBytes entrySize x ++ entries xs
 
 -- the header up to the table, 28 bytes: magic, version, flags, default_mem, default_cpus, reserved, num_sections
 unfoldable pub fixedFields : Plan → List ℕ
@@ -148,13 +148,17 @@ writeOutput p given d = outputFor (writeVerdict p (length given) (length d)) (pl
 
 -- ---- an image read and written again
 
--- an accepted image of that form: reserved fields and unused entries are zero; the sections of any accepted image are packed
-pub record Plain (s : List ℕ) : Type 0 where
-  pub accepted : verdictOf s ≡ Accepted
+-- every reserved field and unused entry is zero
+pub record UnusedZero (s : List ℕ) : Type 0 where
   pub reserved-zero : reserved (viewOf s) ≡ 0
   pub reserved-after-zero : reservedAfter (viewOf s) ≡ 0
   pub unused-offset : (i : ℕ) → countOf s ≤ i → i < placeCount → offsetAt s i ≡ 0
   pub unused-size : (i : ℕ) → countOf s ≤ i → i < placeCount → sizeAt s i ≡ 0
+
+-- an accepted image of that form; the sections of any accepted image are packed
+pub record Plain (s : List ℕ) : Type 0 where
+  pub accepted : verdictOf s ≡ Accepted
+  pub unused : UnusedZero s
 
 abbrev pub placeOf : Section → Place
 placeOf x = record { kind = x .kind; flags = x .flags; length = x .length }
@@ -164,11 +168,6 @@ abbrev pub planOf : Reading → Plan
 planOf r =
     record { version = r .version; flags = r .flags; «default_mem» = r .«default_mem»; «default_cpus» = r .«default_cpus»; count = r .count; places = map placeOf (r .sections) }
 
--- n lists from list i on, joined
-unfoldable pub joinFrom : (ℕ → List ℕ) → ℕ → ℕ → List ℕ
-joinFrom f zero i = []
-joinFrom f (suc n) i = f i ++ joinFrom f n (suc i)
-
 -- the sections' data, joined in file order
 abbrev pub dataJoined : List ℕ → Reading → List ℕ
-dataJoined s r = joinFrom (λ i. dataOf s (getD (r .sections) i blankSection)) (r .count) 0
+dataJoined s r = joinFrom (λ i. dataOf s (sectionIn (r .sections) i)) (r .count) 0

@@ -4,14 +4,14 @@ use Prim.Native.Nat.{ℕ, suc, _+_, _*_}
 use mathlib.Core.Bool.{Bool, not}
 use mathlib.Core.List.{List, [], _∷_, _++_}
 use lib.Dec.{ltb, leb, eqb}
-use lib.ListN.{replicate, take, drop}
+use lib.ListN.{replicate, take, drop, getD}
 use Rattle.crc32.specs.Crc.{crc32}
 use Rattle.eif.specs.Numbers.{sizeLimit, placeCount, ramdisk, imageTooLong, imageTooShort, wrongMagic, wrongVersion, wrongCount, startsEarly, endsLate, sizesDiffer, typeNotAllowed, sectionMissing, checksumDiffers, notPacked}
 use Rattle.octets.specs.Logic.{either, choose}
 use Rattle.eif.specs.Answers.{refuseAt, andThen, wholeAt, wholeVerdict}
 use Rattle.eif.specs.Rules.{fieldFault, allowedIn, orderFault, missing, firstFault}
 use Rattle.eif.specs.Table.{filled}
-use Rattle.eif.specs.Layout.{magicNumber, headerSize, sectionHeaderSize, versionAt, countAt, offsetsAt, checksumAt, checksumEnd, View, viewOf, magic, version, headerFlags, architecture, defaultMem, defaultCpus, count, offsetEntry, offset, size, checksum, end, start}
+use Rattle.eif.specs.Layout.{magicNumber, headerSize, sectionHeaderSize, versionAt, countAt, offsetsAt, checksumAt, checksumEnd, View, viewOf, magic, version, headerFlags, architecture, defaultMem, defaultCpus, count, offsetEntry, entryAt, offset, tableSize, checksum, end, start}
 use Rattle.eif.specs.declared.Section.{Section}
 use Rattle.eif.specs.declared.Reading.{Reading}
 use Rattle.eif.specs.declared.Verdict.{Verdict}
@@ -33,7 +33,7 @@ entryFault v i =
     choose (ltb (offset v i) (start v i)) startsEarly
     (choose (not (eqb (offset v i) (start v i))) notPacked
     (choose (ltb (v .size) (end v i)) endsLate
-    (choose (not (eqb (v .ownSize i) (size v i))) sizesDiffer
+    (choose (not (eqb (v .ownSize i) (tableSize v i))) sizesDiffer
     (choose (not (allowedIn (version v) (v .kind i))) typeNotAllowed
     0))))
 
@@ -67,7 +67,7 @@ positionIn header number index =
     choose (leb number wrongMagic) 0
     (choose (eqb number wrongVersion) versionAt
     (choose (either (eqb number wrongCount) (eqb number sectionMissing)) countAt
-    (choose (either (leb number endsLate) (eqb number notPacked)) (offsetsAt + 8 * index)
+    (choose (either (leb number endsLate) (eqb number notPacked)) (entryAt offsetsAt index)
     (offsetEntry header index))))
 
 -- a verdict with its position
@@ -113,11 +113,15 @@ section v i =
       kind = v .kind i;
       flags = v .flags i;
       position = record { 0 = offset v i + sectionHeaderSize };
-      length = record { 0 = size v i };
+      length = record { 0 = tableSize v i };
     }
 
 abbrev pub blankSection : Section
 blankSection = record { kind = 0; flags = 0; position = record { 0 = 0 }; length = record { 0 = 0 } }
+
+-- the section at a place of a list
+abbrev pub sectionIn : List Section → ℕ → Section
+sectionIn sections i = getD sections i blankSection
 
 abbrev pub sections : View → List Section
 sections v = filled (section v) blankSection placeCount (count v)

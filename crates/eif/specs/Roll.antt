@@ -29,7 +29,10 @@ use Rattle.eif.specs.declared.Verdict.the-variants.{Accepted}
 abbrev pub recordHeadSize : ℕ
 recordHeadSize = 10
 
--- where the type stands in it, after the length
+-- where the length stands in it, and the type
+abbrev pub recordLengthAt : ℕ
+recordLengthAt = 0
+
 abbrev pub recordTypeAt : ℕ
 recordTypeAt = 8
 
@@ -48,7 +51,7 @@ abbrev pub flagsLength : ℕ
 flagsLength = 2
 
 abbrev pub flagsRecordSize : ℕ
-flagsRecordSize = 12
+flagsRecordSize = recordHeadSize + flagsLength
 
 unfoldable pub flagsRecord : ℕ → List ℕ
 flagsRecord flags = headOf flagsLength flagsType ++ leBytes flagsLength flags
@@ -120,7 +123,7 @@ rollOutput s d = outputFor (rollVerdict s (length d)) (rollBytes s) d
 unfoldable pub flagsFault : List ℕ → ℕ
 flagsFault s =
     choose (ltb (length s) recordHeadSize) recordCut
-    (choose (either (not (eqb (leField 2 recordTypeAt s) flagsType)) (not (eqb (leField 8 0 s) flagsLength))) recordTypeWrong
+    (choose (either (not (eqb (leField 2 recordTypeAt s) flagsType)) (not (eqb (leField 8 recordLengthAt s) flagsLength))) recordTypeWrong
     (choose (ltb (length s) flagsRecordSize) recordCut
     0))
 

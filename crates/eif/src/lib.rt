@@ -51,6 +51,9 @@ impl Header {
 
     pub const SIZES_AT: usize = 284;
 
+    // An entry of a table, of offsets or of sizes.
+    pub const ENTRY_SIZE: usize = 8;
+
     pub const RESERVED_AFTER_AT: usize = 540;
 
     pub const CHECKSUM_AT: usize = 544;
@@ -70,6 +73,9 @@ impl SectionHeader {
     pub const FLAGS_AT: usize = 2;
 
     pub const SIZE_AT: usize = 4;
+
+    // The own headers of as many sections as the table has places.
+    pub const ALL_SIZE: usize = SectionHeader::SIZE * PLACES;
 }
 
 // A record's head in a boot roll: its size, where its fields stand, and the type of the end record.
@@ -93,7 +99,7 @@ impl FlagsRecord {
 
     pub const LENGTH: u64 = 2;
 
-    pub const SIZE: usize = 12;
+    pub const SIZE: usize = RecordHead::SIZE + FlagsRecord::LENGTH as usize;
 }
 
 // ---- numbers that must not be mixed up
@@ -255,6 +261,16 @@ pub struct Section {
     pub flags: u16,
     pub position: FilePosition,
     pub length: DataLength,
+}
+
+impl Section {
+    // What stands in a place with no section.
+    pub const BLANK: Section = Section {
+        kind: 0,
+        flags: 0,
+        position: FilePosition(0),
+        length: DataLength(0),
+    };
 }
 
 // `architecture` is the lowest bit of the flags; `ramdisk_mark` is a term of FORMAT.md: its bit i is one exactly when section i

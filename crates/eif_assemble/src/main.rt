@@ -5,15 +5,16 @@
 // with the length that this start has, which is too long too: it refuses that as it would the whole record. Where the input ends inside a
 // record, what came of it is handed over, which its own length makes a refusal.
 ghost use mathlib.Core.Path.{_≡_};
-ghost use Prim.Native.Nat.{_+_, _≤_, min};
+ghost use Prim.Native.Nat.{_+_, _≤_};
 ghost use lib.ListN.{length};
 ghost use Rattle.eif.specs.Roll.{recordHeadSize};
 ghost use Rattle.assembler.specs.Records.{pieceSize, numberSize};
 use assembler::PIECE_SIZE;
-use assembler::Record;
+use assembler::PieceRecord;
 use assembler::State;
 use assembler::Stepped;
 use eif::RecordHead;
+use eif::Refusal;
 use eif::Verdict;
 
 // The longest image, and with it the marks.
@@ -22,7 +23,7 @@ const ROOM: usize = 65536;
 const PLACES: usize = ROOM / PIECE_SIZE as usize;
 
 // What is kept of a record: one byte more than the longest piece has.
-const KEPT: usize = Record::DATA_AT + PIECE_SIZE as usize + 1;
+const KEPT: usize = PieceRecord::DATA_AT + PIECE_SIZE as usize + 1;
 
 // What is kept of it after its head.
 const KEPT_REST: usize = KEPT - RecordHead::SIZE;
@@ -31,12 +32,6 @@ const KEPT_REST: usize = KEPT - RecordHead::SIZE;
 const RECORDS: u64 = 0xFFFFFFFFFFFFFFFF;
 
 // ---- the input
-
-fn lesser(a: u64, b: usize) -> usize
-    ensures { λ r. ⌜ r ≡ min a b ⌝ }
-{
-    if a < b as u64 { a as usize } else { b }
-}
 
 // At most so many bytes of the input, to a place in a buffer; how many came.
 fn read_to(buffer: &mut [u8], at: usize, want: usize) -> usize
@@ -49,7 +44,7 @@ fn read_to(buffer: &mut [u8], at: usize, want: usize) -> usize
 // Leaves so many bytes of the input out, at most as many as are kept of a record; how many came.
 fn skip_block(want: usize) -> usize {
     let mut block = [0u8; KEPT_REST];
-    let n = lesser(want as u64, KEPT_REST);
+    let n = octets::lesser(want, KEPT_REST);
     read_to(&mut block, 0, n)
 }
 
@@ -57,7 +52,7 @@ fn skip_block(want: usize) -> usize {
 fn skip(size: u64) -> bool {
     let mut left = size;
     while 0 < left {
-        let want = lesser(left, KEPT_REST);
+        let want = octets::lesser(left as usize, KEPT_REST);
         if skip_block(want) != want {
             return false;
         }
@@ -84,7 +79,7 @@ fn read_record(sent: &mut [u8]) -> Came
         };
     }
     let size = octets::le64(sent, RecordHead::LENGTH_AT);
-    let want = lesser(size, KEPT_REST);
+    let want = octets::lesser(size as usize, KEPT_REST);
     let rest = read_to(sent, RecordHead::SIZE, want);
     let count = RecordHead::SIZE + rest;
     if rest != want {
@@ -103,7 +98,17 @@ fn read_record(sent: &mut [u8]) -> Came
 // ---- one record
 
 fn show(image: &[u8]) {
-    eif_lines::show(eif_reader::read(image));
+    let text = eif_lines::lines(eif_reader::read(image));
+    let bytes = text.bytes;
+    let length = text.length;
+    io::write_all(libc::STDOUT_FILENO, &bytes[..length]);
+}
+
+fn refuse(r: Refusal) {
+    let text = eif_lines::refusal(r);
+    let bytes = text.bytes;
+    let length = text.length;
+    io::write_all(libc::STDOUT_FILENO, &bytes[..length]);
 }
 
 // An accepted record after which no transfer is open was a close.
@@ -112,10 +117,10 @@ fn say(answer: Stepped, image: &[u8]) {
     match verdict {
         Verdict::Accepted => {
             if answer.state.opened == 0 {
-                show(&image[..lesser(answer.length, image.len())]);
+                show(&image[..octets::lesser(answer.length as usize, image.len())]);
             }
         }
-        Verdict::Refused(r) => eif_lines::refusal(r),
+        Verdict::Refused(r) => refuse(r),
     }
 }
 
@@ -163,6 +168,6 @@ fn main() {
     let mut marks = [0u8; PLACES];
     let state = take_records(&mut image, &mut marks);
     if state.opened != 0 {
-        eif_lines::text(b"transfer not closed\n");
+        io::write_all(libc::STDOUT_FILENO, b"transfer not closed\n");
     }
 }

@@ -1,7 +1,7 @@
 // SHA-384 fed in pieces, and the three registers of an image, for programs in C and Rust. A state is a value that the caller keeps.
 ghost use mathlib.Core.Path.{_≡_};
 ghost use Rattle.sha384.specs.State.{initialState, updated, digestFrom};
-ghost use Rattle.eif_registers.specs.Rule.{registersAnswer};
+ghost use Rattle.eif_registers.specs.Registers.{registersAnswer};
 ghost use Rattle.eif_c.specs.Measure.{flatFed, flatDigest, flatRegisters};
 use eif_registers::Digest;
 use sha384::State;

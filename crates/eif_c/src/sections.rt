@@ -9,8 +9,6 @@ ghost use Rattle.eif_c.specs.Listed.{readSection, listedOf, listOf};
 use crate::EifAnswer;
 use crate::EifReading;
 use crate::EifSection;
-use eif::DataLength;
-use eif::FilePosition;
 use eif::PLACES;
 use eif::Section;
 use eif::Stream;
@@ -42,13 +40,7 @@ fn read_section(x: EifSection) -> Section
 fn read_sections(sections: [EifSection; PLACES]) -> [Section; PLACES]
     ensures { λ r. ⌜ r ≡ map readSection sections ⌝ }
 {
-    let blank = Section {
-        kind: 0,
-        flags: 0,
-        position: FilePosition(0),
-        length: DataLength(0),
-    };
-    let mut all = [blank; PLACES];
+    let mut all = [Section::BLANK; PLACES];
     let mut i: usize = 0;
     while i < PLACES {
         all[i] = read_section(sections[i]);

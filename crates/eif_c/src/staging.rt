@@ -4,7 +4,7 @@ ghost use mathlib.Core.Path.{_≡_};
 ghost use lib.ListN.{length};
 ghost use Rattle.staged.specs.Staged.{stagedRollAnswer, stagedRollOutput, stagedRollLength};
 ghost use Rattle.staged.specs.View.{stagedPlace};
-ghost use Rattle.eif_registers.specs.Rule.{stagedRegisters};
+ghost use Rattle.eif_registers.specs.Registers.{stagedRegisters};
 ghost use Rattle.eif_c.specs.Flat.{flatWritten};
 ghost use Rattle.eif_c.specs.Measure.{flatRegisters};
 ghost use Rattle.eif_c.specs.Staging.{flatPart};

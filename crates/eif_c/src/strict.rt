@@ -1,5 +1,7 @@
 // The stricter reading of an image, and the check of JSON that it makes, for programs in C and Rust (FORMAT.md, Stricter reading).
 ghost use mathlib.Core.Path.{_≡_};
+ghost use Rattle.json.specs.Verdict.{IsVerdict};
+ghost use Rattle.json.specs.declared.JsonVerdict.{JsonVerdict};
 ghost use Rattle.json_machine.specs.Machine.{jsonVerdict};
 ghost use Rattle.strict_reader.specs.Strict.{readStrict};
 ghost use Rattle.eif_c.specs.Flat.{flatReading};
@@ -49,9 +51,11 @@ pub extern "C" fn eif_read_strict(image: &[u8]) -> crate::EifReading
     crate::flat_reading(strict_reader::read_strict(image))
 }
 
+// What the checker computes, which is the verdict that the grammar says is the right one.
 #[no_mangle]
 pub extern "C" fn eif_json_check(text: &[u8]) -> EifJson
     ensures { λ r. ⌜ r ≡ flatJson (jsonVerdict (now (text .entry))) ⌝ }
+    ensures { λ r. ⌜ ((v : JsonVerdict) → IsVerdict (now (text .entry)) v → r ≡ flatJson v) ⌝ }
 {
     flat_json(json_check::check(text))
 }

@@ -206,7 +206,7 @@ fn paired(label: &[u8], version: u16, first: u16, second: u16) {
     answer(label, &image);
 }
 
-// The worked example with a change after it was sealed.
+// The worked example with a change after its checksum was put.
 fn after_seal(label: &[u8], a: Change) {
     let mut image = [0u8; 586];
     worked(&mut image);
@@ -218,7 +218,7 @@ fn after_seal(label: &[u8], a: Change) {
 // ---- cases that no change of a field makes
 
 // Two sections, with no checksum.
-fn unsealed(label: &[u8], version: u16, first: u16, second: u16) {
+fn wrong_checksum(label: &[u8], version: u16, first: u16, second: u16) {
     let mut image = [0u8; 573];
     pair(&mut image, version, first, second);
     answer(label, &image);
@@ -252,7 +252,7 @@ fn begins(label: &[u8], image: &[u8], size: usize) {
 fn zeros_counted(label: &[u8]) {
     let mut image = [0u8; 586];
     worked(&mut image);
-    let sum = crc32::checksum(&image);
+    let sum = crc32_fold::checksum(&image);
     octets::put_be32(&mut image, Header::CHECKSUM_AT, sum);
     answer(label, &image);
 }
@@ -266,7 +266,7 @@ fn tail(label: &[u8]) {
 }
 
 // The same with no checksum.
-fn tail_unsealed(label: &[u8]) {
+fn tail_wrong_checksum(label: &[u8]) {
     let mut image = [0u8; 587];
     worked(&mut image);
     answer(label, &image);
@@ -395,9 +395,9 @@ fn two_at_once() {
     full(b"10 at 2, 11 at 4", two(548, 4), nothing());
     full(b"11 at 1, 9 at 2", two(561, 1), two(574, 6));
     full(b"9 at 5, and 12", two(614, 9), nothing());
-    unsealed(b"12 and 13", 4, 1, 2);
+    wrong_checksum(b"12 and 13", 4, 1, 2);
     paired_tail(b"12, and a byte after the last section", 3, 1, 4);
-    tail_unsealed(b"a byte after the last section, and 13");
+    tail_wrong_checksum(b"a byte after the last section, and 13");
     after_seal(b"20 at 0, and 13", eight(28, 549));
 }
 

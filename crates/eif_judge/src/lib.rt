@@ -15,7 +15,7 @@ ghost use Rattle.eif.specs.Numbers.{placeCount};
 ghost use Rattle.eif.specs.Answers.{refuse};
 ghost use Rattle.eif.specs.Rules.{firstFault};
 ghost use Rattle.eif.specs.Table.{filled};
-ghost use Rattle.eif.specs.Layout.{headerSize, sectionHeaderSize, offsetsAt, offsetAt, sizeAt, start, end};
+ghost use Rattle.eif.specs.Layout.{headerSize, sectionHeaderSize, offsetsAt, entryAt, offsetAt, sizeAt, start, end};
 ghost use Rattle.eif.specs.Reading.{headerFault, entryFault, sectionFault, positionIn, located, early, section, blankSection, markOf, blankReading, readingOf, readView};
 ghost use Rattle.eif_judge.specs.Kept.{viewFrom};
 use eif::DataLength;
@@ -34,14 +34,14 @@ fn offset_at(header: &[u8], i: usize) -> u64
     requires { ⌜ i < placeCount ⌝ }
     ensures { λ r. ⌜ r ≡ offsetAt (now (header .entry)) i ⌝ }
 {
-    octets::be64(header, Header::OFFSETS_AT + 8 * i)
+    octets::be64(header, Header::OFFSETS_AT + Header::ENTRY_SIZE * i)
 }
 
 fn size_at(header: &[u8], i: usize) -> u64
     requires { ⌜ i < placeCount ⌝ }
     ensures { λ r. ⌜ r ≡ sizeAt (now (header .entry)) i ⌝ }
 {
-    octets::be64(header, Header::SIZES_AT + 8 * i)
+    octets::be64(header, Header::SIZES_AT + Header::ENTRY_SIZE * i)
 }
 
 // The first byte after a section that lies in the file.
@@ -77,22 +77,10 @@ fn section_at(header: &[u8], headers: &[u8], size: u64, i: usize) -> Section
     }
 }
 
-fn blank() -> Section
-    ensures { λ r. ⌜ r ≡ blankSection ⌝ }
-{
-    Section {
-        kind: 0,
-        flags: 0,
-        position: FilePosition(0),
-        length: DataLength(0),
-    }
-}
-
 // A refusal, beside which everything is zero.
 pub fn refused(verdict: Verdict) -> Reading
     ensures { λ r. ⌜ r ≡ blankReading verdict ⌝ }
 {
-    let none = blank();
     Reading {
         verdict,
         version: 0,
@@ -101,7 +89,7 @@ pub fn refused(verdict: Verdict) -> Reading
         default_mem: 0,
         default_cpus: 0,
         count: 0,
-        sections: [none; eif::PLACES],
+        sections: [Section::BLANK; eif::PLACES],
         ramdisk_mark: 0,
     }
 }
@@ -111,9 +99,9 @@ pub fn refused(verdict: Verdict) -> Reading
 // Where the table has a section's offset.
 fn offset_entry(index: u64) -> u64
     requires { ⌜ index < placeCount ⌝ }
-    ensures { λ r. ⌜ r ≡ offsetsAt + 8 * index ⌝ }
+    ensures { λ r. ⌜ r ≡ entryAt offsetsAt index ⌝ }
 {
-    Header::OFFSETS_AT as u64 + 8 * index
+    Header::OFFSETS_AT as u64 + Header::ENTRY_SIZE as u64 * index
 }
 
 // The position of the field at fault, by the answer number: 1 to 12, or 20 at a section.
@@ -301,8 +289,7 @@ fn list(header: &[u8], headers: &[u8], size: u64, count: usize) -> [Section; eif
     requires { ⌜ ((k : ℕ) → k < count → end (viewFrom (now header) (now headers) size) k ≤ size) ⌝ }
     ensures { λ r. ⌜ r ≡ filled (section (viewFrom (now (header .entry)) (now (headers .entry)) size)) blankSection placeCount count ⌝ }
 {
-    let none = blank();
-    let mut sections = [none; eif::PLACES];
+    let mut sections = [Section::BLANK; eif::PLACES];
     let mut i: usize = 0;
     while i < count {
         let section = section_at(header, headers, size, i);
@@ -362,7 +349,7 @@ pub fn read(header: &[u8], headers: &[u8], size: u64, state: u32, rest: &[u8]) -
     let Verdict::Accepted = verdict else {
         return refused(verdict);
     };
-    let computed = crc32::finish(crc32::update(state, rest));
+    let computed = crc32_fold::finish(crc32_fold::update(state, rest));
     if octets::be32(header, Header::CHECKSUM_AT) != computed {
         return refused(Verdict::refuse_at(
             Refusal::CHECKSUM_DIFFERS,

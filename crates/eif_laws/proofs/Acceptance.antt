@@ -17,8 +17,8 @@ use Rattle.eif.specs.Layout.{viewOf, versionOf, countOf, kindAt, startAt}
 use Rattle.eif.specs.Reading.{sectionFault, checksumOf, verdictOf}
 use Rattle.eif.specs.Acceptance.{AllowedType, Present, MeetsRules}
 use Rattle.eif.specs.declared.Verdict.the-variants.{Accepted}
-use Rattle.eif_lemmas.proofs.Logic.{choose-zero, both-true, not-both, either-false, equal-or-not}
-use Rattle.eif_lemmas.proofs.View.{Header, Sound, sound-of, order-of, no-fault, fault-order}
+use Rattle.octets.proofs.Logic.{choose-zero, both-true, not-both, either-false, equal-or-not}
+use Rattle.eif_lemmas.proofs.View.{SoundHeader, Sound, sound-of, order-of, no-fault, fault-order}
 use Rattle.eif_lemmas.proofs.Accept.{Passes, passes, →accepted, file-ends}
 
 -- ---- a test and the fact it stands for
@@ -173,7 +173,7 @@ module _ (s : List ℕ) where
       p : Passes (viewOf s) (checksumOf s)
       p = passes s e
 
-      h : Header (viewOf s)
+      h : SoundHeader (viewOf s)
       h = p .head
 
       entry : (i : ℕ) → i < countOf s → Sound (viewOf s) i

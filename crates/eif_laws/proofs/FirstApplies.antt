@@ -1,24 +1,25 @@
 -- Demand 1 (PROMISES.md): a refusal carries the number, the index and the position of the first rule that applies, in the order
 -- that FORMAT.md gives for the call.
 -- Assumes nothing.
-use Prim.Native.Nat.{ℕ, zero, suc, _+_, _*_}
+use Prim.Native.Nat.{ℕ, zero, suc, _+_}
 use mathlib.Core.Path.{_≡_, refl, sym, ap, ap₂, _∙_}
 use mathlib.Core.Bool.{Bool, true, false, not}
 use mathlib.Core.List.{List, [], _∷_, _++_}
 use borrow.Author.Tests.{eq-eqb}
 use lib.Dec.{ltb, leb, eqb}
 use lib.ListN.{length}
+use Rattle.eif.specs.Table.{joinFrom}
 use Rattle.octets.specs.Bytes.{leField}
 use Rattle.eif.specs.Numbers.{sizeLimit, placeCount, kernel, ramdisk, sectionMissing, checksumDiffers, notPacked, outputTooShort, pastStreamEnd, imageTooLong, imageTooShort, wrongMagic, wrongVersion, wrongCount, startsEarly, endsLate, sizesDiffer, typeNotAllowed, ramdiskBeforeKernel, typeRepeated, dataLengthDiffers, recordCut, recordTypeWrong, bytesAfterEnd}
 use Rattle.octets.specs.Logic.{both, either, choose}
 use Rattle.eif.specs.Answers.{refuse, refuseAt, andThen, wholeAt, wholeVerdict}
 use Rattle.eif.specs.Rules.{versionKnown, countKnown, allowedIn, seen, orderFault, typeFault, bootMissing, missing, firstFault, fieldFault}
-use Rattle.eif.specs.Layout.{magicNumber, headerSize, offsetsAt, versionAt, countAt, checksumAt, View, viewOf, magic, version, count, offsetEntry, offset, size, checksum, end, start}
+use Rattle.eif.specs.Layout.{magicNumber, headerSize, offsetsAt, versionAt, countAt, checksumAt, View, viewOf, magic, version, count, offsetEntry, entryAt, offset, tableSize, checksum, end, start}
 use Rattle.eif.specs.Reading.{headerFault, entryFault, sectionFault, hasTail, missingFault, tailFault, checksumFault, positionIn, located, judged, early, verdictIn, checksumOf, verdictOf}
 use Rattle.eif.specs.Plan.{plannedKind, plainSize, dataBefore, sizeFault, planFault, planVerdict, writeVerdict, planLength}
 use Rattle.eif.specs.Stream.{streamOf, copyVerdict, copyListedAnswer, lengthAnswer}
 use Rattle.eif.specs.Roll.{recordHeadSize, recordTypeAt, flagsType, flagsLength, flagsRecordSize, flagsFault, rollFlags, restOf, recordAt, recordStart, recordSize, recordKind, isEnd, sizeAsImage, rollBytes, rollVerdict, rollLength, Ending, ended, stopped, stopVerdict, endVerdict, headFault, bodyFault, rollFault, endFrom, refusedRoll, rollAnswerFor, readRest, readRoll}
-use Rattle.eif.specs.Order.{Rule, rule, firstThatApplies, orderRules, typeRules, rulesFrom, headerRules, sectionRules, viewRules, imageRules, planRules, writeRules, copyRules, copyListedRules, rollWriteRules, flagsRules, headRules, bodyRules, endRules, rollRulesFrom, rollRules}
+use Rattle.eif.specs.Order.{Rule, rule, firstThatApplies, orderRules, typeRules, headerRules, sectionRules, viewRules, imageRules, planRules, writeRules, copyRules, copyListedRules, rollWriteRules, flagsRules, headRules, bodyRules, endRules, rollRulesFrom, rollRules}
 use Rattle.eif.specs.declared.Plan.{Plan}
 use Rattle.eif.specs.declared.RollReading.{RollReading}
 use Rattle.eif.specs.declared.Stream.{Stream}
@@ -51,11 +52,11 @@ then-at n i false w = refl
 -- rules at each place answer as the walk over the places does, as it is or with the positions
 walk-first : (f : Verdict → Verdict) → f Accepted ≡ Accepted → ((v w : Verdict) → f (andThen v w) ≡ andThen (f v) (f w))
     → (rules : ℕ → List Rule) (fault : ℕ → ℕ) → ((i : ℕ) → firstThatApplies (rules i) ≡ f (at (fault i) i 0))
-    → (n i : ℕ) → firstThatApplies (rulesFrom rules n i) ≡ f (firstFault fault n i)
-unfolding rulesFrom firstFault firstThatApplies
+    → (n i : ℕ) → firstThatApplies (joinFrom rules n i) ≡ f (firstFault fault n i)
+unfolding joinFrom firstFault firstThatApplies
 walk-first f none split rules fault h zero i = sym none
 walk-first f none split rules fault h (suc n) i =
-    first-append (rules i) (rulesFrom rules n (suc i))
+    first-append (rules i) (joinFrom rules n (suc i))
     ∙ ap₂ andThen (h i) (walk-first f none split rules fault h n (suc i))
     ∙ sym (split (at (fault i) i 0) (firstFault fault n (suc i)))
     ∙ ap f (then-at (fault i) i (eqb (fault i) 0) (firstFault fault n (suc i)))
@@ -118,7 +119,7 @@ module _ (h : ℕ → ℕ → ℕ) where
   entry a p b c d = choose a startsEarly (choose p notPacked (choose b endsLate (choose c sizesDiffer (choose d typeNotAllowed 0))))
 
   entry-by : (a p b c d : Bool) (fault i : ℕ) → at fault i (offsetEntry h i) ≡ located h (at fault i 0)
-      → choose a (refuseAt startsEarly i (offsetsAt + 8 * i)) (choose p (refuseAt notPacked i (offsetsAt + 8 * i)) (choose b (refuseAt endsLate i (offsetsAt + 8 * i)) (choose c (refuseAt sizesDiffer i (offsetEntry h i)) (at (choose d typeNotAllowed fault) i (offsetEntry h i)))))
+      → choose a (refuseAt startsEarly i (entryAt offsetsAt i)) (choose p (refuseAt notPacked i (entryAt offsetsAt i)) (choose b (refuseAt endsLate i (entryAt offsetsAt i)) (choose c (refuseAt sizesDiffer i (offsetEntry h i)) (at (choose d typeNotAllowed fault) i (offsetEntry h i)))))
       ≡ located h (at (choose (eqb (entry a p b c d) 0) fault (entry a p b c d)) i 0)
   unfolding positionIn
   entry-by true p b c d fault i e = refl
@@ -148,10 +149,10 @@ section-first v i =
     let a : Bool = ltb (offset v i) (start v i) in
     let p : Bool = not (eqb (offset v i) (start v i)) in
     let b : Bool = ltb (v .size) (end v i) in
-    let c : Bool = not (eqb (v .ownSize i) (size v i)) in
+    let c : Bool = not (eqb (v .ownSize i) (tableSize v i)) in
     let d : Bool = not (allowedIn (version v) (v .kind i)) in
     let own = order-own (v .header) (eqb (v .kind i) ramdisk) (seen (v .kind) kernel i) (seen (v .kind) (v .kind i) i) i in
-    let entry : ℕ = offsetsAt + 8 * i in
+    let entry : ℕ = entryAt offsetsAt i in
     ap (λ (x : Verdict). choose a (refuseAt startsEarly i entry) (choose p (refuseAt notPacked i entry) (choose b (refuseAt endsLate i entry) (choose c (refuseAt sizesDiffer i (offset v i)) x)))) (type-first (version v) (v .kind) i (offset v i))
     ∙ entry-by (v .header) a p b c d (orderFault (v .kind) (v .kind i) i) i own
 
@@ -173,7 +174,7 @@ view-first v computed =
     let t : Bool = hasTail v in
     let past : ℕ = start v (count v) in
     let last : List Rule = rule m sectionMissing 0 countAt ∷ rule t notPacked 0 past ∷ rule c checksumDiffers 0 checksumAt ∷ [] in
-    let sections : List Rule = rulesFrom (sectionRules v) (count v) 0 in
+    let sections : List Rule = joinFrom (sectionRules v) (count v) 0 in
     let head : Verdict = wholeVerdict (headerFault v) in
     let walk : Verdict = firstFault (sectionFault v) (count v) 0 in
     let lack : Verdict = wholeVerdict (choose m sectionMissing 0) in
@@ -255,7 +256,7 @@ module _ (p : Plan) where
       let l : Bool = ltb sizeLimit (plainSize p) in
       let last : List Rule = rule m sectionMissing 0 0 ∷ rule l imageTooLong 0 0 ∷ [] in
       let types : ℕ → List Rule = λ i. typeRules (p .version) kinds i 0 in
-      let sections : List Rule = rulesFrom types (p .count) 0 in
+      let sections : List Rule = joinFrom types (p .count) 0 in
       let walk : Verdict = firstFault (typeFault (p .version) kinds) (p .count) 0 in
       let v : Bool = not (versionKnown (p .version)) in
       let n : Bool = not (countKnown (p .count)) in

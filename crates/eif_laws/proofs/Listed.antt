@@ -19,17 +19,14 @@ module _ (s : List ℕ) (meets : MeetsRules s) where
   accepted : verdictOf s ≡ Accepted
   accepted = accepted-exactly-when s .1 meets
 
-  abbrev place : ℕ → Section
-  place i = getD (readImage s .sections) i blankSection
-
-  listed-as : (i : ℕ) (x : Section) → getD (sectionsOf s) i blankSection ≡ x → place i ≡ x
+  listed-as : (i : ℕ) (x : Section) → getD (sectionsOf s) i blankSection ≡ x → getD (readImage s .sections) i blankSection ≡ x
   listed-as i x e = ap (λ (r : Reading). getD (r .sections) i blankSection) (reading-accepted s accepted) ∙ e
 
   -- a used place holds what the file says of that section
-  pub used-place : (i : ℕ) → i < countOf s → place i ≡ sectionAt s i
+  pub used-place : (i : ℕ) → i < countOf s → getD (readImage s .sections) i blankSection ≡ sectionAt s i
   used-place i h =
       listed-as i (sectionAt s i) (filled-at (sectionAt s) blankSection blankSection placeCount (countOf s) i h (meets .known-count .1))
 
   -- and an unused one nothing
-  pub unused-place : (i : ℕ) → countOf s ≤ i → place i ≡ blankSection
+  pub unused-place : (i : ℕ) → countOf s ≤ i → getD (readImage s .sections) i blankSection ≡ blankSection
   unused-place i h = listed-as i blankSection (filled-past (sectionAt s) blankSection placeCount (countOf s) i h)

@@ -14,15 +14,15 @@ use Rattle.eif.specs.Layout.{View, viewOf, version, count, checksum, versionOf,
 use Rattle.eif.specs.Reading.{sectionFault, hasTail, missingFault, tailFault, checksumFault, judged, early, verdictIn, checksumOf, verdictOf, sectionAt, blankSection, sectionsOf, dataOf}
 use Rattle.eif.specs.declared.Section.{Section}
 use Rattle.eif.specs.declared.Verdict.the-variants.{Accepted}
-use Rattle.eif_lemmas.proofs.Logic.{choose-zero}
+use Rattle.octets.proofs.Logic.{choose-zero}
 use Rattle.eif_lemmas.proofs.Verdicts.{then-accepted, whole-zero, whole-at-zero, all-accepted, walk-accepted, walk-all}
 use Rattle.eif_lemmas.proofs.Table.{All, all-filled}
 use Rattle.eif_lemmas.proofs.Position.{located-accepted}
-use Rattle.eif_lemmas.proofs.View.{Header, header, header-fields, sound-of, order-of}
+use Rattle.eif_lemmas.proofs.View.{SoundHeader, header, header-fields, sound-of, order-of}
 use Rattle.eif_lemmas.proofs.Fields.{fields-fine}
 
 pub record Passes (v : View) (computed : ℕ) : Type 0 where
-  pub head : Header v
+  pub head : SoundHeader v
   pub sections : (i : ℕ) → i < count v → sectionFault v i ≡ 0
   pub complete : missing (v .kind) (version v) (count v) ≡ false
   pub no-tail : hasTail v ≡ false

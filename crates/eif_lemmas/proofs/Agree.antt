@@ -1,6 +1,6 @@
 -- Two views that agree on what the rules look at have the same reading.
 -- Assumes nothing.
-use Prim.Native.Nat.{ℕ, zero, suc, _+_, _*_, _<_, _≤_}
+use Prim.Native.Nat.{ℕ, zero, suc, _+_, _<_, _≤_}
 use mathlib.Core.Path.{_≡_, refl, sym, ap, ap₂, _∙_}
 use mathlib.Core.Bool.{not}
 use mathlib.Core.Logic.{⊎-elim}
@@ -12,12 +12,12 @@ use Rattle.octets.specs.Logic.{choose}
 use Rattle.eif.specs.Answers.{refuse, indexOf, wholeAt, wholeVerdict}
 use Rattle.eif.specs.Rules.{fieldFault, firstFault}
 use Rattle.eif.specs.Table.{filled}
-use Rattle.eif.specs.Layout.{headerSize, sectionHeaderSize, checksumAt, View, version, count, offset, size, end, start}
+use Rattle.eif.specs.Layout.{headerSize, sectionHeaderSize, entrySize, offsetsAt, sizesAt, entryAt, checksumAt, View, version, count, offset, tableSize, end, start}
 use Rattle.eif.specs.Reading.{headerFault, entryFault, sectionFault, missingFault, tailFault, checksumFault, positionIn, located, judged, early, verdictIn, blankSection, section, sections, readingOf, readView}
 use Rattle.eif.specs.declared.Verdict.{Verdict}
 use Rattle.eif.specs.declared.Verdict.the-variants.{Accepted, Refused}
 use Rattle.octets.proofs.Over.{le-or-lt}
-use Rattle.eif_lemmas.proofs.Logic.{equal-or-not}
+use Rattle.octets.proofs.Logic.{equal-or-not}
 use Rattle.eif_lemmas.proofs.Verdicts.{then-accepted, then-same, whole-zero, walk-accepted, walk-same}
 use Rattle.eif_lemmas.proofs.Types.{order-same, missing-same}
 use Rattle.eif_lemmas.proofs.Table.{filled-same}
@@ -80,10 +80,10 @@ module _ (v w : View) (same : Agree v w) where
     count-same = same .headers whole 2 26 (omega arith)
 
     offset-same : (i : ℕ) → i < placeCount → offset v i ≡ offset w i
-    offset-same i h = same .headers whole 8 (28 + 8 * i) (omega arith)
+    offset-same i h = same .headers whole entrySize (entryAt offsetsAt i) (omega arith)
 
-    size-same : (i : ℕ) → i < placeCount → size v i ≡ size w i
-    size-same i h = same .headers whole 8 (284 + 8 * i) (omega arith)
+    size-same : (i : ℕ) → i < placeCount → tableSize v i ≡ tableSize w i
+    size-same i h = same .headers whole entrySize (entryAt sizesAt i) (omega arith)
 
     end-same : (i : ℕ) → i < placeCount → end v i ≡ end w i
     end-same i h = ap₂ (λ (a b : ℕ). a + sectionHeaderSize + b) (offset-same i h) (size-same i h)

@@ -6,7 +6,7 @@ use mathlib.Core.Bool.{not}
 use borrow.Author.Tests.{le-leb, lt-leb, leb-true, not-false}
 use Rattle.eif.specs.Numbers.{placeCount, fewestSections, oldestVersion, newestVersion, wrongVersion, wrongCount}
 use Rattle.eif.specs.Rules.{versionKnown, countKnown, fieldFault}
-use Rattle.eif_lemmas.proofs.Logic.{choose-zero, both-true}
+use Rattle.octets.proofs.Logic.{choose-zero, both-true}
 
 module _ (version count : ℕ) where
   pub version-old : version < oldestVersion → wrongVersion ≡ fieldFault version count

@@ -11,7 +11,7 @@ use lib.ListN.{length}
 use Rattle.octets.specs.Bytes.{leField}
 use Rattle.octets.specs.Logic.{either}
 use Rattle.eif.specs.Roll.{recordHeadSize, headOf, flagsType, flagsLength, flagsRecordSize, flagsRecord, flagsFault}
-use Rattle.eif_lemmas.proofs.Logic.{choose-zero, either-false}
+use Rattle.octets.proofs.Logic.{choose-zero, either-false}
 
 pub length-flags : (f : ℕ) → length (flagsRecord f) ≡ flagsRecordSize
 unfolding flagsRecord headOf

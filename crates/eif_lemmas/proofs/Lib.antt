@@ -1,4 +1,3 @@
-pub mod Logic
 pub mod Verdicts
 pub mod Types
 pub mod Table
@@ -10,4 +9,3 @@ pub mod Accept
 pub mod Agree
 pub mod Mark
 pub mod Flags
-pub mod Same

@@ -15,7 +15,7 @@ use Rattle.eif.specs.Rules.{firstFault}
 use Rattle.eif.specs.declared.Refusal.{Refusal}
 use Rattle.eif.specs.declared.Verdict.{Verdict}
 use Rattle.eif.specs.declared.Verdict.the-variants.{Accepted, Refused}
-use Rattle.eif_lemmas.proofs.Logic.{zero-or}
+use Rattle.octets.proofs.Logic.{zero-or}
 use Rattle.octets.proofs.Over.{le-or-lt}
 
 pub never {ℓ} : {A : Type ℓ} (r : Refusal) → Refused r ≡ Accepted → A
@@ -32,6 +32,11 @@ then-accepted (Refused r) w e = never r e
 pub then-same : (a b x y : Verdict) → a ≡ b → (b ≡ Accepted → x ≡ y) → andThen a x ≡ andThen b y
 then-same a Accepted x y e h = ap (λ (v : Verdict). andThen v x) e ∙ h refl
 then-same a (Refused r) x y e h = ap (λ (v : Verdict). andThen v x) e
+
+-- where a test would refuse, what is accepted fails it
+pub refused-not : (b : Bool) (r : Refusal) (v : Verdict) → choose b (Refused r) v ≡ Accepted → (b ≡ false) × (v ≡ Accepted)
+refused-not true r v e = never r e
+refused-not false r v e = (refl, e)
 
 pub whole-at-zero : (n p : ℕ) → wholeAt n p ≡ Accepted → n ≡ 0
 whole-at-zero n p e = eqb-true _ _ (choose-accepted Accepted _ (eqb n 0) e .0)

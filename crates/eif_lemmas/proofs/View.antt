@@ -7,21 +7,21 @@ use mathlib.Core.Logic.{⊎-elim}
 use native.Mathlib.Omega.{arith}
 use borrow.Author.Tests.{lt-ltb, le-ltb, eq-eqb, ne-eqb, ltb-false, eqb-true, not-false}
 use lib.Dec.{eqb, ltb}
-use Rattle.eif.specs.Numbers.{sizeLimit, placeCount, fewestSections, oldestVersion, newestVersion}
+use Rattle.eif.specs.Numbers.{sizeLimit, placeCount, fewestSections, oldestVersion, newestVersion, imageTooLong, imageTooShort, wrongMagic, startsEarly, endsLate, sizesDiffer, typeNotAllowed, notPacked}
 use Rattle.eif.specs.Rules.{fieldFault, allowedIn, orderFault}
-use Rattle.eif.specs.Layout.{magicNumber, headerSize, View, magic, version, count, offset, size, end, start}
+use Rattle.eif.specs.Layout.{magicNumber, headerSize, View, magic, version, count, offset, tableSize, end, start}
 use Rattle.eif.specs.Reading.{headerFault, entryFault, sectionFault}
-use Rattle.eif_lemmas.proofs.Logic.{choose-zero, zero-or}
+use Rattle.octets.proofs.Logic.{choose-zero, zero-or}
 use Rattle.eif_lemmas.proofs.Fields.{fields}
 
 -- ---- the rules 6, 20 and 7 to 11
 
 module _ (v : View) (i : ℕ) where
-  pub fault6 : offset v i < start v i → entryFault v i ≡ 6
+  pub fault6 : offset v i < start v i → entryFault v i ≡ startsEarly
   unfolding entryFault
   fault6 h = simp (lt-ltb _ _ h)
 
-  pub fault20 : start v i ≤ offset v i → (offset v i ≡ start v i → ⊥) → entryFault v i ≡ 20
+  pub fault20 : start v i ≤ offset v i → (offset v i ≡ start v i → ⊥) → entryFault v i ≡ notPacked
   unfolding entryFault
   fault20 l h = simp (le-ltb _ _ l, ne-eqb _ _ h)
 
@@ -29,17 +29,17 @@ module _ (v : View) (i : ℕ) where
     not-early : start v i ≤ offset v i
     not-early = omega arith
 
-    pub fault7 : v .size < end v i → entryFault v i ≡ 7
+    pub fault7 : v .size < end v i → entryFault v i ≡ endsLate
     unfolding entryFault
     fault7 h = simp (le-ltb _ _ not-early, eq-eqb _ _ starts, lt-ltb _ _ h)
 
     module _ (ends : end v i ≤ v .size) where
-      pub fault8 : (v .ownSize i ≡ size v i → ⊥) → entryFault v i ≡ 8
+      pub fault8 : (v .ownSize i ≡ tableSize v i → ⊥) → entryFault v i ≡ sizesDiffer
       unfolding entryFault
       fault8 h = simp (le-ltb _ _ not-early, eq-eqb _ _ starts, le-ltb _ _ ends, ne-eqb _ _ h)
 
-      module _ (same : v .ownSize i ≡ size v i) where
-        pub fault9 : allowedIn (version v) (v .kind i) ≡ false → entryFault v i ≡ 9
+      module _ (same : v .ownSize i ≡ tableSize v i) where
+        pub fault9 : allowedIn (version v) (v .kind i) ≡ false → entryFault v i ≡ typeNotAllowed
         unfolding entryFault
         fault9 h = simp (le-ltb _ _ not-early, eq-eqb _ _ starts, le-ltb _ _ ends, eq-eqb _ _ same, h)
 
@@ -51,7 +51,7 @@ module _ (v : View) (i : ℕ) where
 pub record Sound (v : View) (i : ℕ) : Type 0 where
   pub starts : offset v i ≡ start v i
   pub ends : end v i ≤ v .size
-  pub same : v .ownSize i ≡ size v i
+  pub same : v .ownSize i ≡ tableSize v i
   pub known : allowedIn (version v) (v .kind i) ≡ true
 
 pub sound : (v : View) (i : ℕ) → entryFault v i ≡ 0 → Sound v i
@@ -60,7 +60,7 @@ sound v i e =
     let a = choose-zero (ltb (offset v i) (start v i)) 5 _ e in
     let p = choose-zero (not (eqb (offset v i) (start v i))) 19 _ (a .1) in
     let b = choose-zero (ltb (v .size) (end v i)) 6 _ (p .1) in
-    let d = choose-zero (not (eqb (v .ownSize i) (size v i))) 7 _ (b .1) in
+    let d = choose-zero (not (eqb (v .ownSize i) (tableSize v i))) 7 _ (b .1) in
     let f = choose-zero (not (allowedIn (version v) (v .kind i))) 8 _ (d .1) in
     record {
       starts = eqb-true _ _ (not-false _ (p .0));
@@ -79,17 +79,17 @@ module _ (v : View) (i : ℕ) where
   fault-order e = simp e
 
 module _ (v : View) where
-  pub header1 : sizeLimit < v .size → 1 ≡ headerFault v
+  pub header1 : sizeLimit < v .size → imageTooLong ≡ headerFault v
   unfolding headerFault
   header1 h = simp (lt-ltb _ _ h)
 
   module _ (small : v .size ≤ sizeLimit) where
-    pub header2 : v .size < headerSize → 2 ≡ headerFault v
+    pub header2 : v .size < headerSize → imageTooShort ≡ headerFault v
     unfolding headerFault
     header2 h = simp (le-ltb _ _ small, lt-ltb _ _ h)
 
     module _ (whole : headerSize ≤ v .size) where
-      pub header3 : (magic v ≡ magicNumber → ⊥) → 3 ≡ headerFault v
+      pub header3 : (magic v ≡ magicNumber → ⊥) → wrongMagic ≡ headerFault v
       unfolding headerFault
       header3 h = simp (le-ltb _ _ small, le-ltb _ _ whole, ne-eqb _ _ h)
 
@@ -100,7 +100,7 @@ module _ (v : View) where
         header-fields = simp (le-ltb _ _ small, le-ltb _ _ whole, eq-eqb _ _ magic)
 
 -- what an image that none of them refuses has
-pub record Header (v : View) : Type 0 where
+pub record SoundHeader (v : View) : Type 0 where
   pub small : v .size ≤ sizeLimit
   pub whole : headerSize ≤ v .size
   pub magic : magic v ≡ magicNumber
@@ -109,7 +109,7 @@ pub record Header (v : View) : Type 0 where
   pub some : fewestSections ≤ count v
   pub few : count v ≤ placeCount
 
-pub header : (v : View) → headerFault v ≡ 0 → Header v
+pub header : (v : View) → headerFault v ≡ 0 → SoundHeader v
 unfolding headerFault
 header v e =
     let a = choose-zero (ltb sizeLimit (v .size)) 0 _ e in

@@ -9,26 +9,19 @@ use eif::Header;
 use eif::Reading;
 use eif::SectionHeader;
 
-// Twelve bytes for each place of the section table.
-const HEADERS: usize = SectionHeader::SIZE * eif::PLACES;
-
 // The places of the table that are used: as many as the header counts, and no more than there are.
 fn used(image: &[u8]) -> usize
     ensures { λ r. ⌜ r ≡ min placeCount (countOf (now (image .entry))) ⌝ }
 {
-    let count = octets::be16(image, Header::COUNT_AT) as usize;
-    if eif::PLACES < count {
-        return eif::PLACES;
-    }
-    count
+    octets::lesser(eif::PLACES, octets::be16(image, Header::COUNT_AT) as usize)
 }
 
 // The sections' own headers, one after the other: of each used place of the table whose offset points at twelve bytes of the
 // image. Nothing looks at the others.
-fn gather(image: &[u8]) -> [u8; HEADERS]
+fn gather(image: &[u8]) -> [u8; SectionHeader::ALL_SIZE]
     ensures { λ r. ⌜ Gathered (now (image .entry)) r (min placeCount (countOf (now (image .entry)))) ⌝ }
 {
-    let mut headers = [0u8; HEADERS];
+    let mut headers = [0u8; SectionHeader::ALL_SIZE];
     if image.len() < SectionHeader::SIZE {
         return headers;
     }
@@ -36,7 +29,7 @@ fn gather(image: &[u8]) -> [u8; HEADERS]
     let count = used(image);
     let mut i: usize = 0;
     while i < count {
-        let offset = octets::be64(image, Header::OFFSETS_AT + 8 * i) as usize;
+        let offset = octets::be64(image, Header::OFFSETS_AT + Header::ENTRY_SIZE * i) as usize;
         if offset <= last {
             octets::copy(
                 &mut headers,
@@ -54,7 +47,7 @@ pub fn read(image: &[u8]) -> Reading
     ensures { λ r. ⌜ r ≡ readImage (now (image .entry)) ⌝ }
 {
     let headers = gather(image);
-    let before = crc32::update(crc32::START, eif_checksum::front(image));
+    let before = crc32_fold::update(crc32_fold::START, eif_checksum::front(image));
     eif_judge::read(
         image,
         &headers,

@@ -21,7 +21,7 @@ use Rattle.eif_lemmas.proofs.Accept.{passes}
 use Rattle.eif_lemmas.proofs.Reading.{reading-accepted}
 use Rattle.staged.proofs.Same.{joined-in}
 use Rattle.sha384_block.specs.Fips.{sha384}
-use Rattle.eif_registers.specs.Rule.{registerFrom, registerOf, imageRegisters, noRegisters, registersFor, registersAnswer, stepRegister, stepRegisters}
+use Rattle.eif_registers.specs.Registers.{registerFrom, registerOf, imageRegisters, noRegisters, registersFor, registersAnswer, stepRegister, stepRegisters}
 use Rattle.eif_registers.specs.declared.Measurement.{Measurement}
 use Rattle.eif_registers.proofs.Hashed.{digest-joined, stream-fits}
 

@@ -2,7 +2,7 @@
 -- Assumes nothing.
 use Prim.Native.Nat.{ℕ, _≤_}
 use mathlib.Core.Path.{_≡_, ap, _∙_}
-use mathlib.Core.List.{List, [], _∷_}
+use mathlib.Core.List.{List, []}
 use native.Mathlib.Omega.{arith}
 use lib.ListN.{length}
 use Rattle.eif.specs.Numbers.{sizeLimit, placeCount}
@@ -23,7 +23,7 @@ use Rattle.staged.proofs.Afresh.{parts, changedPlan, afresh-is, changed-planned
 use Rattle.staged.proofs.Held.{held-alone, within, stagedList, stream-is}
 use Rattle.sha384_block.specs.Fips.{sha384}
 use Rattle.sha384.specs.State.{totalLimit}
-use Rattle.eif_registers.specs.Rule.{registerFrom, registerOf, imageRegisters, noRegisters, registersFor, stepRegister, stepRegisters, stagedRegisters}
+use Rattle.eif_registers.specs.Registers.{registerFrom, registerOf, imageRegisters, noRegisters, registersFor, stepRegister, stepRegisters, stagedRegisters}
 use Rattle.eif_registers.proofs.Hashed.{digest-joined, stream-fits}
 
 -- with nothing replaced the step is that over the image

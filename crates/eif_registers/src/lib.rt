@@ -5,7 +5,7 @@
 // once for both. Of a staged view a section lies in the base or in the replacement; with nothing replaced the view is the image.
 ghost use mathlib.Core.Path.{_≡_};
 ghost use mathlib.Core.Bool.{true};
-ghost use Prim.Native.Nat.{_≤_, min};
+ghost use Prim.Native.Nat.{_≤_};
 ghost use mathlib.Core.List.{[], _∷_};
 ghost use lib.ListN.{take, getD};
 ghost use lib.Seq.{slice};
@@ -13,7 +13,7 @@ ghost use Rattle.eif.specs.Numbers.{placeCount};
 ghost use Rattle.sha384.specs.State.{initialState, digestFrom};
 ghost use Rattle.eif.specs.Reading.{dataOf};
 ghost use Rattle.staged.specs.View.{heldBy};
-ghost use Rattle.eif_registers.specs.Rule.{registerFrom, noRegisters, registersFor, registersAnswer, stagedRegisters, hashed, stepRegisters};
+ghost use Rattle.eif_registers.specs.Registers.{registerFrom, noRegisters, registersFor, registersAnswer, stagedRegisters, hashed, stepRegisters};
 use eif::PLACES;
 use eif::Reading;
 use eif::Section;
@@ -21,20 +21,15 @@ use eif::Stream;
 use eif::StreamSections;
 use eif::Verdict;
 use sha384::State;
+use sha384_block::DIGEST_SIZE;
 
 #[repr(C)]
-pub struct Digest(pub [u8; 48]);
+pub struct Digest(pub [u8; DIGEST_SIZE]);
 
 // An image's verdict and its registers 0, 1 and 2.
 pub struct Measurement {
     pub verdict: Verdict,
     pub registers: [Digest; 3],
-}
-
-fn lesser(a: u64, b: u64) -> u64
-    ensures { λ r. ⌜ r ≡ min a b ⌝ }
-{
-    if a < b { a } else { b }
 }
 
 // ---- hashing sections where they lie
@@ -113,7 +108,11 @@ fn hash_both<'a>(
 {
     let a = whole.sections;
     let b = boot.sections;
-    let shared = alike(a, b, lesser(whole.count, boot.count) as usize);
+    let shared = alike(
+        a,
+        b,
+        octets::lesser(whole.count as usize, boot.count as usize),
+    );
     let start = take_sections(sha384::new(), base, replacement, a, 0, shared);
     let whole_end = take_sections(start, base, replacement, a, shared, whole.count as usize);
     let boot_end = take_sections(start, base, replacement, b, shared, boot.count as usize);
@@ -126,19 +125,23 @@ fn hash_both<'a>(
 // ---- the registers
 
 // The register that a stream's state stands for.
-fn register(state: State) -> [u8; 48]
+fn register(state: State) -> [u8; DIGEST_SIZE]
     ensures { λ r. ⌜ r ≡ registerFrom (digestFrom state) ⌝ }
 {
     let digest = sha384::finish(state);
-    let mut both = [0u8; 96];
-    octets::copy(&mut both, 48, &digest);
+    let mut both = [0u8; 2 * DIGEST_SIZE];
+    octets::copy(&mut both, DIGEST_SIZE, &digest);
     let updated = sha384::update(sha384::new(), &both);
     let last = updated.state;
     sha384::finish(last)
 }
 
 // The registers 0, 1 and 2 of sections of a base, or of a replacement.
-fn step_over<'a>(base: &'a [u8], replacement: &'a [u8], all: [Section; PLACES]) -> [[u8; 48]; 3]
+fn step_over<'a>(
+    base: &'a [u8],
+    replacement: &'a [u8],
+    all: [Section; PLACES],
+) -> [[u8; DIGEST_SIZE]; 3]
     ensures { λ r. ⌜ r ≡ stepRegisters (heldBy (now (base .entry)) (now (replacement .entry))) all ⌝ }
 {
     let whole = stream_reader::sections(all, Stream::Whole);
@@ -163,7 +166,7 @@ fn step_over<'a>(base: &'a [u8], replacement: &'a [u8], all: [Section; PLACES]) 
 }
 
 // The registers 0, 1 and 2 from an image already read.
-pub fn step(image: &[u8], reading: Reading) -> [[u8; 48]; 3]
+pub fn step(image: &[u8], reading: Reading) -> [[u8; DIGEST_SIZE]; 3]
     ensures { λ r. ⌜ r ≡ stepRegisters (dataOf (now (image .entry))) (reading .sections) ⌝ }
 {
     let all = reading.sections;
@@ -171,7 +174,7 @@ pub fn step(image: &[u8], reading: Reading) -> [[u8; 48]; 3]
 }
 
 // An answer with these three.
-fn measured(all: [[u8; 48]; 3]) -> Measurement
+fn measured(all: [[u8; DIGEST_SIZE]; 3]) -> Measurement
     ensures { λ r. ⌜ r ≡ registersFor Verdict.Accepted (getD all 0 [] ∷ getD all 1 [] ∷ getD all 2 [] ∷ []) ⌝ }
 {
     let zeroth = all[0];
@@ -187,7 +190,7 @@ fn measured(all: [[u8; 48]; 3]) -> Measurement
 fn refused(verdict: Verdict) -> Measurement
     ensures { λ r. ⌜ r ≡ registersFor verdict noRegisters ⌝ }
 {
-    let none = [0u8; 48];
+    let none = [0u8; DIGEST_SIZE];
     Measurement {
         verdict,
         registers: [Digest(none), Digest(none), Digest(none)],

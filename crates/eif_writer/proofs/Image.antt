@@ -13,7 +13,7 @@ use Rattle.octets.specs.Over.{over}
 use Rattle.octets.proofs.Over.{over-parts, over-start, over-own, over-joined, length-over}
 use Rattle.crc32.specs.Crc.{crc32}
 use Rattle.eif.specs.Numbers.{outputTooShort}
-use Rattle.eif.specs.Layout.{headerSize, checksumAt}
+use Rattle.eif.specs.Layout.{headerSize, checksumAt, offsetsAt, reservedAfterAt, sizesAt}
 use Rattle.eif.specs.Answers.{refuse}
 use Rattle.eif.specs.Reading.{checksumOf}
 use Rattle.eif.specs.Plan.{dataBefore, plainSize, entries, fixedFields, offsetTable, sizeTable, headerBytes, bodyBytes, plainImage, planVerdict, writeVerdict, writeAnswer, writeOutput, offsetsOf, sizesOf}
@@ -53,12 +53,12 @@ module _ (p : Plan) where
   unfolding headerBytes fixedFields offsetTable sizeTable firstFields nextFields
   header-parts = simp append-assoc
 
-  pub header-over : (d d₁ d₂ d₃ d₄ d₅ : List ℕ) → d₁ ≡ over d 0 (firstFields p) → d₂ ≡ over d₁ 8 (nextFields p) → d₃ ≡ over d₂ 28 offsets
-      → d₄ ≡ over d₃ 284 sizes → d₅ ≡ over d₄ 540 (beBytes 4 0) → d₅ ≡ over d 0 (headerBytes p)
+  pub header-over : (d d₁ d₂ d₃ d₄ d₅ : List ℕ) → d₁ ≡ over d 0 (firstFields p) → d₂ ≡ over d₁ 8 (nextFields p) → d₃ ≡ over d₂ offsetsAt offsets
+      → d₄ ≡ over d₃ sizesAt sizes → d₅ ≡ over d₄ reservedAfterAt (beBytes 4 0) → d₅ ≡ over d 0 (headerBytes p)
   header-over d d₁ d₂ d₃ d₄ d₅ e₁ e₂ e₃ e₄ e₅ =
       over-joined _ _ _ _ e₁
       (over-joined _ _ _ _ e₂
-      (over-joined _ _ _ _ e₃ (over-joined _ _ _ _ e₄ e₅ (ap (λ (n : ℕ). 284 + n) length-size-entries)) (ap (λ (n : ℕ). 28 + n) length-offset-entries))
+      (over-joined _ _ _ _ e₃ (over-joined _ _ _ _ e₄ e₅ (ap (λ (n : ℕ). sizesAt + n) length-size-entries)) (ap (λ (n : ℕ). offsetsAt + n) length-offset-entries))
       (ap (λ (n : ℕ). 8 + n) length-next))
       (ap (λ (n : ℕ). 0 + n) length-first)
       ∙ ap (over d 0) header-parts
@@ -119,9 +119,9 @@ module _ (p : Plan) (given d a b : List ℕ) (sized : length given ≡ dataBefor
         (ap (take checksumAt) (append-assoc head gap body) ∙ take-at head (gap ++ body) checksumAt (length-header p))
         (drop-at (head ++ gap) body headerSize length-front)
 
-    pub sealed-plain : withChecksum b (plainSize p) ≡ over d 0 (plainImage p given)
+    pub with-checksum-plain : withChecksum b (plainSize p) ≡ over d 0 (plainImage p given)
     unfolding withChecksum plainImage
-    sealed-plain =
+    with-checksum-plain =
         let l = length-body in
         let w : length (head ++ (sum ++ body)) ≡ plainSize p =
         length-append head (sum ++ body) ∙ ap₂ (λ (m n : ℕ). m + n) (length-header p) (length-append sum body) ∙ (omega arith) in

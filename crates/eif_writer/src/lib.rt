@@ -57,7 +57,7 @@ fn put_table(out: &mut [u8], at: usize, table: [u64; PLACES])
 {
     let mut i: usize = 0;
     while i < PLACES {
-        octets::put_be64(out, at + 8 * i, table[i]);
+        octets::put_be64(out, at + Header::ENTRY_SIZE * i, table[i]);
         i += 1;
     }
 }

@@ -9,7 +9,7 @@ ghost use mathlib.Core.Path.{_≡_};
 ghost use Prim.Native.Nat.{_<_, _≤_};
 ghost use Rattle.json.specs.Verdict.{IsVerdict};
 ghost use Rattle.json_machine.specs.Table.{classes, rows, joined};
-ghost use Rattle.json_machine.specs.Machine.{afterOf, actOf, kindOf, turnMode, turnStack, endsOf, jsonVerdict};
+ghost use Rattle.json_machine.specs.Machine.{faultEntry, afterOf, actOf, kindOf, turnMode, turnStack, endsOf, jsonVerdict};
 use json::JsonVerdict;
 
 // With a stack below this, one more array or object may be opened: a bit for each of those open, and one in front.
@@ -59,8 +59,14 @@ const OPEN_OBJECT: u8 = 55;
 
 const CLOSE: u8 = 56;
 
+// How many values a byte has, each of one class.
+const BYTES: usize = 256;
+
 // The entries of a mode, one for each class of bytes.
 const CLASSES: usize = 40;
+
+// How many modes there are: each has a number below the one that is none.
+const MODES: usize = FAULT as usize;
 
 fn wide(x: u8) -> usize
     ensures { λ r. ⌜ r ≡ x ⌝ }
@@ -70,7 +76,7 @@ fn wide(x: u8) -> usize
 
 // The mode after a value: with nothing open, in an array, in an object.
 fn after(stack: u64) -> u8
-    ensures { λ r. ⌜ (r ≡ afterOf stack) × (r < 51) ⌝ }
+    ensures { λ r. ⌜ (r ≡ afterOf stack) × (r < faultEntry) ⌝ }
 {
     if stack == NOTHING_OPEN {
         return AFTER_TEXT;
@@ -82,8 +88,14 @@ fn after(stack: u64) -> u8
 }
 
 // What the tables say at a byte: where a number ended before it, what they say after a value.
-fn act<'a>(class: &'a [u8; 256], next: &'a [u8; 2040], mode: u8, stack: u64, b: u8) -> u8
-    requires { ⌜ (now class ≡ classes) × (now next ≡ joined rows) × (mode < 51) ⌝ }
+fn act<'a>(
+    class: &'a [u8; BYTES],
+    next: &'a [u8; MODES * CLASSES],
+    mode: u8,
+    stack: u64,
+    b: u8,
+) -> u8
+    requires { ⌜ (now class ≡ classes) × (now next ≡ joined rows) × (mode < faultEntry) ⌝ }
     ensures { λ r. ⌜ r ≡ actOf mode stack b ⌝ }
 {
     let c = wide(class[wide(b)]);
@@ -97,7 +109,7 @@ fn act<'a>(class: &'a [u8; 256], next: &'a [u8; 2040], mode: u8, stack: u64, b: 
 
 // Where an entry of the tables leads: to a mode, or where it says one of the others; any that is none of these is a fault.
 fn turn(act: u8, stack: u64) -> State
-    ensures { λ r. ⌜ (r .mode ≡ turnMode (kindOf act) act stack) × (r .stack ≡ turnStack (kindOf act) stack) × (r .mode ≤ 51) ⌝ }
+    ensures { λ r. ⌜ (r .mode ≡ turnMode (kindOf act) act stack) × (r .stack ≡ turnStack (kindOf act) stack) × (r .mode ≤ faultEntry) ⌝ }
 {
     if act < FAULT {
         return State { mode: act, stack };
@@ -159,7 +171,7 @@ fn ends(mode: u8, stack: u64) -> bool
 }
 
 // The walk over the bytes.
-fn walk<'a>(class: &'a [u8; 256], next: &'a [u8; 2040], text: &'a [u8]) -> JsonVerdict
+fn walk<'a>(class: &'a [u8; BYTES], next: &'a [u8; MODES * CLASSES], text: &'a [u8]) -> JsonVerdict
     requires { ⌜ (now class ≡ classes) × (now next ≡ joined rows) ⌝ }
     ensures { λ r. ⌜ r ≡ jsonVerdict (now (text .entry)) ⌝ }
 {

@@ -1,25 +1,25 @@
 -- The machine in numbers does what the machine of modes and lists does.
 -- Assumes nothing.
-use Prim.Native.Nat.{ℕ, zero, suc, _+_, _*_, _/_, _%_, _^_, _<_, _≤_}
-use mathlib.Core.Path.{_≡_, refl, ap, ap₂, sym, _∙_, subst}
+use Prim.Native.Nat.{ℕ, zero, suc, _+_, _*_, _/_, _%_, _<_, _≤_}
+use mathlib.Core.Path.{_≡_, refl, ap, sym, _∙_, subst}
 use mathlib.Core.Bool.{Bool, true, false}
-use mathlib.Core.List.{List, [], _∷_, _++_, tail}
+use mathlib.Core.List.{List, [], _∷_, tail}
 use mathlib.Core.Logic.{⊎-elim}
 use native.Mathlib.Omega.{arith}
-use native.Mathlib.Nat.{not-suc-le-zero, le-of-suc-le-suc, eq-or-lt-of-le, add-zero, zero-add, suc-add, add-suc}
+use native.Mathlib.Nat.{not-suc-le-zero, le-of-suc-le-suc, eq-or-lt-of-le, zero-add, suc-add, add-suc}
 use lib.Dec.{eqb, ltb}
 use lib.ListN.{length, getD, List·getD-append}
 use lib.Seq.{getD-append-add}
-use borrow.Author.Tests.{lt-ltb, le-ltb, eq-eqb, ne-eqb, ltb-true, eqb-true}
+use borrow.Author.Tests.{eq-eqb, ne-eqb, ltb-true, eqb-true}
 use Rattle.json.specs.Verdict.{depthLimit}
 use Rattle.json_machine.specs.Table.{classes, rows, joined}
 use Rattle.octets.specs.Logic.{both, choose}
-use Rattle.json_machine.specs.Machine.{stackLimit, afterOf, entryOf, Kind, goes, stops, closes, faults, opens, kindOf, bit}
-use Rattle.json_machine.proofs.Derive.{canEnd, and-true}
+use Rattle.json_machine.specs.Machine.{faultEntry, stackLimit, afterOf, entryOf, Kind, goes, stops, closes, faults, opens, kindOf, bit}
+use Rattle.octets.proofs.Logic.{both-true}
 use Rattle.json_machine.proofs.Modes.{Token, Str, Mode, m-value, m-after, m-firstItem, m-firstMember, m-key, m-colon, m-token, m-string, m-name, tokenNumber, stringNumber, nameNumber}
 use Rattle.json_machine.proofs.Modes as T
 use Rattle.json_machine.proofs.Classes.{class-below}
-use Rattle.json_machine.proofs.Step.{actAt, Next, refused, at, step, still, modeNumber, frames, afterNumber}
+use Rattle.json_machine.proofs.Step.{actAt, Next, refused, at, step, modeNumber, frames, afterNumber}
 
 -- ---- a stack of bits
 
@@ -97,14 +97,14 @@ sized (r ∷ rs) = both (eqb (length r) 40) (sized rs)
 in-row : (rs : List (List ℕ)) (n c : ℕ) → sized rs ≡ true → n < length rs → c < 40 → getD (joined rs) (n * 40 + c) 0 ≡ getD (getD rs n []) c 0
 in-row [] n c e h l = absurd (not-suc-le-zero h)
 in-row (r ∷ rs) zero c e h l =
-    let p : length r ≡ 40 = eqb-true _ _ (and-true (eqb (length r) 40) (sized rs) e .0) in
+    let p : length r ≡ 40 = eqb-true _ _ (both-true (eqb (length r) 40) (sized rs) e .0) in
     let q : c < length r = omega arith in
     let z : zero * 40 + c ≡ c = omega arith in
     rw z (List·getD-append r (joined rs) 0 c q)
 in-row (r ∷ rs) (suc n) c e h l =
-    let p : length r ≡ 40 = eqb-true _ _ (and-true (eqb (length r) 40) (sized rs) e .0) in
+    let p : length r ≡ 40 = eqb-true _ _ (both-true (eqb (length r) 40) (sized rs) e .0) in
     let z : suc n * 40 + c ≡ length r + (n * 40 + c) = omega arith in
-    rw z (getD-append-add r (joined rs) (n * 40 + c) 0 ∙ in-row rs n c (and-true (eqb (length r) 40) (sized rs) e .1) (le-of-suc-le-suc h) l)
+    rw z (getD-append-add r (joined rs) (n * 40 + c) 0 ∙ in-row rs n c (both-true (eqb (length r) 40) (sized rs) e .1) (le-of-suc-le-suc h) l)
 
 unfoldable pub cell : ℕ → ℕ → ℕ
 cell n b = getD (getD rows n []) (getD classes b 0) 0
@@ -113,20 +113,20 @@ rows-sized : sized rows ≡ true
 unfolding rows
 rows-sized = refl
 
-rows-length : length rows ≡ 51
+rows-length : length rows ≡ faultEntry
 unfolding rows
 rows-length = refl
 
-pub entry-cell : (n b : ℕ) → n < 51 → entryOf n b ≡ cell n b
+pub entry-cell : (n b : ℕ) → n < faultEntry → entryOf n b ≡ cell n b
 unfolding entryOf cell
 entry-cell n b h = in-row rows n (getD classes b 0) rows-sized (subst (λ (k : ℕ). n < k) (sym rows-length) h) (class-below b)
 
-pub after-below : (fs : List Bool) → afterNumber fs < 51
+pub after-below : (fs : List Bool) → afterNumber fs < faultEntry
 after-below [] = omega arith
 after-below (false ∷ fs) = omega arith
 after-below (true ∷ fs) = omega arith
 
-token-below : (t : Token) → ltb (tokenNumber t) 51 ≡ true
+token-below : (t : Token) → ltb (tokenNumber t) faultEntry ≡ true
 token-below T.t-minus = refl
 token-below T.t-zero = refl
 token-below T.t-whole = refl
@@ -145,7 +145,7 @@ token-below T.t-l = refl
 token-below T.t-rue = refl
 token-below T.t-ue = refl
 
-string-below : (s : Str) → ltb (stringNumber s) 51 ≡ true
+string-below : (s : Str) → ltb (stringNumber s) faultEntry ≡ true
 string-below T.s-char = refl
 string-below T.s-escape = refl
 string-below T.s-hex4 = refl
@@ -160,7 +160,7 @@ string-below T.s-afterED = refl
 string-below T.s-afterF0 = refl
 string-below T.s-afterF4 = refl
 
-name-below : (s : Str) → ltb (nameNumber s) 51 ≡ true
+name-below : (s : Str) → ltb (nameNumber s) faultEntry ≡ true
 name-below T.s-char = refl
 name-below T.s-escape = refl
 name-below T.s-hex4 = refl
@@ -175,7 +175,7 @@ name-below T.s-afterED = refl
 name-below T.s-afterF0 = refl
 name-below T.s-afterF4 = refl
 
-pub number-below : (m : Mode) (fs : List Bool) → modeNumber m fs < 51
+pub number-below : (m : Mode) (fs : List Bool) → modeNumber m fs < faultEntry
 number-below m-value fs = omega arith
 number-below m-after fs = after-below fs
 number-below m-firstItem fs = omega arith

@@ -1,31 +1,31 @@
 -- A turn of the machine in numbers.
 -- Assumes nothing.
-use Prim.Native.Nat.{ℕ, zero, suc, _+_, _*_, _/_, _%_, _<_, _≤_}
+use Prim.Native.Nat.{ℕ, zero, suc, _+_, _*_, _<_, _≤_}
 use mathlib.Core.Path.{_≡_, refl, ap, ap₂, sym, _∙_, subst}
 use mathlib.Core.Bool.{Bool, true, false}
 use mathlib.Core.List.{List, [], _∷_}
 use mathlib.Core.Logic.{⊎-elim}
 use native.Mathlib.Omega.{arith}
-use lib.Dec.{eqb, ltb}
-use lib.ListN.{length, getD}
-use borrow.Author.Tests.{lt-ltb, le-ltb, eq-eqb, ne-eqb}
+use lib.Dec.{eqb}
+use lib.ListN.{length}
+use borrow.Author.Tests.{lt-ltb, le-ltb, ne-eqb}
+use Rattle.octets.proofs.Logic.{both-none}
 use Rattle.json.specs.Verdict.{depthLimit}
-use Rattle.octets.specs.Logic.{both}
-use Rattle.json_machine.specs.Machine.{stackLimit, afterOf, entryOf, actOf, Kind, goes, stops, closes, faults, opens, kindOf, bit, turnMode, turnStack, endsOf}
+use Rattle.json_machine.specs.Machine.{faultEntry, afterOf, entryOf, actOf, Kind, goes, stops, closes, faults, opens, kindOf, bit, turnMode, turnStack, endsOf}
 use Rattle.octets.proofs.Over.{le-or-lt}
 use Rattle.json_machine.proofs.Derive.{canEnd}
 use Rattle.json_machine.proofs.Modes.{Token, Str, Mode, m-value, m-after, m-firstItem, m-firstMember, m-key, m-colon, m-token, m-string, m-name}
 use Rattle.json_machine.proofs.Modes as T
 use Rattle.json_machine.proofs.Step.{Next, refused, at, step, still, modeNumber, frames, afterNumber}
 use Rattle.json_machine.proofs.Within.{class-past, step-past}
-use Rattle.json_laws.proofs.Coded.{stackOf, stack-pos, stack-after, stack-up, stack-full, stack-room, cell, entry-cell, after-below, number-below, Spot, stopped, impossible, spot, spotOf, turnSpot, does, turnAt, each, coded-same}
+use Rattle.json_laws.proofs.Coded.{stackOf, stack-pos, stack-after, stack-up, stack-full, stack-room, entry-cell, after-below, number-below, Spot, stopped, impossible, spot, spotOf, turnSpot, does, turnAt, each, coded-same}
 
 abbrev pub CodedSpot : Spot → ℕ → ℕ → Type 0
-CodedSpot stopped mo st = mo ≡ 51
+CodedSpot stopped mo st = mo ≡ faultEntry
 CodedSpot impossible mo st = ⊥
 CodedSpot (spot n d fs) mo st = (mo ≡ n) × (st ≡ stackOf fs) × (d + length fs ≡ depthLimit)
 
--- the mode and the stack of a state; the mode 51 where there is none
+-- the mode and the stack of a state; the fault where there is none
 abbrev pub Coded : Next → ℕ → ℕ → Type 0
 Coded n mo st = CodedSpot (spotOf n) mo st
 
@@ -82,10 +82,6 @@ onward m d fs b mo st c = ⊎-elim past (λ (l : b < 256). onward-below m d fs b
 
 -- ---- the end
 
-not-final : (x : Bool) → both x false ≡ false
-not-final true = refl
-not-final false = refl
-
 ends-open : (n : ℕ) (f : Bool) (fs : List Bool) → endsOf n (stackOf (f ∷ fs)) ≡ false
 unfolding endsOf stackOf
 ends-open n f fs =
@@ -95,68 +91,68 @@ ends-open n f fs =
 
 ends-token : (t : Token) (d : ℕ) (fs : List Bool) → endsOf (modeNumber (m-token t) fs) (stackOf fs) ≡ canEnd (still (m-token t) d fs)
 unfolding endsOf stackOf
-ends-token T.t-minus d fs = not-final (eqb (stackOf fs) 1)
+ends-token T.t-minus d fs = both-none (eqb (stackOf fs) 1)
 ends-token T.t-zero d [] = refl
 ends-token T.t-zero d (false ∷ fs) = ends-open 9 false fs
 ends-token T.t-zero d (true ∷ fs) = ends-open 9 true fs
 ends-token T.t-whole d [] = refl
 ends-token T.t-whole d (false ∷ fs) = ends-open 10 false fs
 ends-token T.t-whole d (true ∷ fs) = ends-open 10 true fs
-ends-token T.t-point d fs = not-final (eqb (stackOf fs) 1)
+ends-token T.t-point d fs = both-none (eqb (stackOf fs) 1)
 ends-token T.t-frac d [] = refl
 ends-token T.t-frac d (false ∷ fs) = ends-open 12 false fs
 ends-token T.t-frac d (true ∷ fs) = ends-open 12 true fs
-ends-token T.t-exp d fs = not-final (eqb (stackOf fs) 1)
-ends-token T.t-sign d fs = not-final (eqb (stackOf fs) 1)
+ends-token T.t-exp d fs = both-none (eqb (stackOf fs) 1)
+ends-token T.t-sign d fs = both-none (eqb (stackOf fs) 1)
 ends-token T.t-power d [] = refl
 ends-token T.t-power d (false ∷ fs) = ends-open 15 false fs
 ends-token T.t-power d (true ∷ fs) = ends-open 15 true fs
-ends-token T.t-alse d fs = not-final (eqb (stackOf fs) 1)
-ends-token T.t-lse d fs = not-final (eqb (stackOf fs) 1)
-ends-token T.t-se d fs = not-final (eqb (stackOf fs) 1)
-ends-token T.t-e d fs = not-final (eqb (stackOf fs) 1)
-ends-token T.t-ull d fs = not-final (eqb (stackOf fs) 1)
-ends-token T.t-ll d fs = not-final (eqb (stackOf fs) 1)
-ends-token T.t-l d fs = not-final (eqb (stackOf fs) 1)
-ends-token T.t-rue d fs = not-final (eqb (stackOf fs) 1)
-ends-token T.t-ue d fs = not-final (eqb (stackOf fs) 1)
+ends-token T.t-alse d fs = both-none (eqb (stackOf fs) 1)
+ends-token T.t-lse d fs = both-none (eqb (stackOf fs) 1)
+ends-token T.t-se d fs = both-none (eqb (stackOf fs) 1)
+ends-token T.t-e d fs = both-none (eqb (stackOf fs) 1)
+ends-token T.t-ull d fs = both-none (eqb (stackOf fs) 1)
+ends-token T.t-ll d fs = both-none (eqb (stackOf fs) 1)
+ends-token T.t-l d fs = both-none (eqb (stackOf fs) 1)
+ends-token T.t-rue d fs = both-none (eqb (stackOf fs) 1)
+ends-token T.t-ue d fs = both-none (eqb (stackOf fs) 1)
 
 ends-string : (s : Str) (d : ℕ) (fs : List Bool) → endsOf (modeNumber (m-string s) fs) (stackOf fs) ≡ canEnd (still (m-string s) d fs)
 unfolding endsOf
-ends-string T.s-char d fs = not-final (eqb (stackOf fs) 1)
-ends-string T.s-escape d fs = not-final (eqb (stackOf fs) 1)
-ends-string T.s-hex4 d fs = not-final (eqb (stackOf fs) 1)
-ends-string T.s-hex3 d fs = not-final (eqb (stackOf fs) 1)
-ends-string T.s-hex2 d fs = not-final (eqb (stackOf fs) 1)
-ends-string T.s-hex1 d fs = not-final (eqb (stackOf fs) 1)
-ends-string T.s-tail1 d fs = not-final (eqb (stackOf fs) 1)
-ends-string T.s-tail2 d fs = not-final (eqb (stackOf fs) 1)
-ends-string T.s-tail3 d fs = not-final (eqb (stackOf fs) 1)
-ends-string T.s-afterE0 d fs = not-final (eqb (stackOf fs) 1)
-ends-string T.s-afterED d fs = not-final (eqb (stackOf fs) 1)
-ends-string T.s-afterF0 d fs = not-final (eqb (stackOf fs) 1)
-ends-string T.s-afterF4 d fs = not-final (eqb (stackOf fs) 1)
+ends-string T.s-char d fs = both-none (eqb (stackOf fs) 1)
+ends-string T.s-escape d fs = both-none (eqb (stackOf fs) 1)
+ends-string T.s-hex4 d fs = both-none (eqb (stackOf fs) 1)
+ends-string T.s-hex3 d fs = both-none (eqb (stackOf fs) 1)
+ends-string T.s-hex2 d fs = both-none (eqb (stackOf fs) 1)
+ends-string T.s-hex1 d fs = both-none (eqb (stackOf fs) 1)
+ends-string T.s-tail1 d fs = both-none (eqb (stackOf fs) 1)
+ends-string T.s-tail2 d fs = both-none (eqb (stackOf fs) 1)
+ends-string T.s-tail3 d fs = both-none (eqb (stackOf fs) 1)
+ends-string T.s-afterE0 d fs = both-none (eqb (stackOf fs) 1)
+ends-string T.s-afterED d fs = both-none (eqb (stackOf fs) 1)
+ends-string T.s-afterF0 d fs = both-none (eqb (stackOf fs) 1)
+ends-string T.s-afterF4 d fs = both-none (eqb (stackOf fs) 1)
 
 ends-name : (s : Str) (d : ℕ) (fs : List Bool) → endsOf (modeNumber (m-name s) fs) (stackOf (true ∷ fs)) ≡ canEnd (still (m-name s) d fs)
 unfolding endsOf
-ends-name T.s-char d fs = not-final (eqb (stackOf (true ∷ fs)) 1)
-ends-name T.s-escape d fs = not-final (eqb (stackOf (true ∷ fs)) 1)
-ends-name T.s-hex4 d fs = not-final (eqb (stackOf (true ∷ fs)) 1)
-ends-name T.s-hex3 d fs = not-final (eqb (stackOf (true ∷ fs)) 1)
-ends-name T.s-hex2 d fs = not-final (eqb (stackOf (true ∷ fs)) 1)
-ends-name T.s-hex1 d fs = not-final (eqb (stackOf (true ∷ fs)) 1)
-ends-name T.s-tail1 d fs = not-final (eqb (stackOf (true ∷ fs)) 1)
-ends-name T.s-tail2 d fs = not-final (eqb (stackOf (true ∷ fs)) 1)
-ends-name T.s-tail3 d fs = not-final (eqb (stackOf (true ∷ fs)) 1)
-ends-name T.s-afterE0 d fs = not-final (eqb (stackOf (true ∷ fs)) 1)
-ends-name T.s-afterED d fs = not-final (eqb (stackOf (true ∷ fs)) 1)
-ends-name T.s-afterF0 d fs = not-final (eqb (stackOf (true ∷ fs)) 1)
-ends-name T.s-afterF4 d fs = not-final (eqb (stackOf (true ∷ fs)) 1)
+ends-name T.s-char d fs = both-none (eqb (stackOf (true ∷ fs)) 1)
+ends-name T.s-escape d fs = both-none (eqb (stackOf (true ∷ fs)) 1)
+ends-name T.s-hex4 d fs = both-none (eqb (stackOf (true ∷ fs)) 1)
+ends-name T.s-hex3 d fs = both-none (eqb (stackOf (true ∷ fs)) 1)
+ends-name T.s-hex2 d fs = both-none (eqb (stackOf (true ∷ fs)) 1)
+ends-name T.s-hex1 d fs = both-none (eqb (stackOf (true ∷ fs)) 1)
+ends-name T.s-tail1 d fs = both-none (eqb (stackOf (true ∷ fs)) 1)
+ends-name T.s-tail2 d fs = both-none (eqb (stackOf (true ∷ fs)) 1)
+ends-name T.s-tail3 d fs = both-none (eqb (stackOf (true ∷ fs)) 1)
+ends-name T.s-afterE0 d fs = both-none (eqb (stackOf (true ∷ fs)) 1)
+ends-name T.s-afterED d fs = both-none (eqb (stackOf (true ∷ fs)) 1)
+ends-name T.s-afterF0 d fs = both-none (eqb (stackOf (true ∷ fs)) 1)
+ends-name T.s-afterF4 d fs = both-none (eqb (stackOf (true ∷ fs)) 1)
 
 pub coded-end : (m : Mode) (d : ℕ) (fs : List Bool) → endsOf (modeNumber m fs) (stackOf (frames m fs)) ≡ canEnd (still m d fs)
 unfolding endsOf stackOf
-coded-end m-value zero fs = not-final (eqb (stackOf fs) 1)
-coded-end m-value (suc d) fs = not-final (eqb (stackOf fs) 1)
+coded-end m-value zero fs = both-none (eqb (stackOf fs) 1)
+coded-end m-value (suc d) fs = both-none (eqb (stackOf fs) 1)
 coded-end m-after d [] = refl
 coded-end m-after d (false ∷ fs) = ends-open 6 false fs
 coded-end m-after d (true ∷ fs) = ends-open 7 true fs

@@ -1,6 +1,6 @@
 -- The walk over the bytes gives the right verdict, from wherever the machine stands.
 -- Assumes nothing.
-use Prim.Native.Nat.{ℕ, zero, suc, _+_, _<_, _≤_}
+use Prim.Native.Nat.{ℕ, suc, _+_, _<_}
 use mathlib.Core.Path.{_≡_, refl, ap, ap₂, sym, _∙_, subst}
 use mathlib.Core.Bool.{Bool, true, false, false≢true}
 use mathlib.Core.List.{List, [], _∷_, _++_, append-nil, append-assoc}
@@ -13,7 +13,7 @@ use Rattle.json.specs.Verdict.{IsText, CanBegin, FirstFault, IsVerdict}
 use Rattle.json.specs.declared.JsonVerdict.{JsonVerdict}
 use Rattle.json.specs.declared.JsonVerdict.the-variants.{Text, Fault}
 use Rattle.octets.specs.Logic.{choose}
-use Rattle.json_machine.specs.Machine.{actOf, kindOf, turnMode, turnStack, endsOf, walkFrom}
+use Rattle.json_machine.specs.Machine.{faultEntry, actOf, kindOf, turnMode, turnStack, endsOf, walkFrom}
 use Rattle.json_machine.proofs.Step.{Next, refused, at, step}
 use Rattle.json_machine.proofs.Law.{runOver, begin, accepts, accepted, accepting, can-begin, cannot-begin}
 use Rattle.json_laws.proofs.Coded.{number-below}
@@ -34,29 +34,29 @@ text-begins n s t = (drop n s, subst (λ (l : List ℕ). IsText l) (sym (take-ap
 
 -- ---- what the numbers say of where the machine stands
 
-coded-below : (n : Next) (mo st : ℕ) → Coded n mo st → (mo ≡ 51 → ⊥) → mo < 51
+coded-below : (n : Next) (mo st : ℕ) → Coded n mo st → (mo ≡ faultEntry → ⊥) → mo < faultEntry
 coded-below refused mo st c h = absurd (h c)
 coded-below (at m d fs) mo st c h = let l = number-below m fs in let e = c .0 in omega arith
 
-coded-refused : (n : Next) (mo st : ℕ) → Coded n mo st → mo ≡ 51 → n ≡ refused
+coded-refused : (n : Next) (mo st : ℕ) → Coded n mo st → mo ≡ faultEntry → n ≡ refused
 coded-refused refused mo st c h = refl
 coded-refused (at m d fs) mo st c h = let l = number-below m fs in let e = c .0 in absurd (omega arith)
 
-coded-turn : (n : Next) (mo st b : ℕ) → mo < 51 → Coded n mo st → Onward (runOver n (b ∷ [])) (actOf mo st b) st
+coded-turn : (n : Next) (mo st b : ℕ) → mo < faultEntry → Coded n mo st → Onward (runOver n (b ∷ [])) (actOf mo st b) st
 coded-turn refused mo st b h c = absurd (omega arith)
 coded-turn (at m d fs) mo st b h c = onward m d fs b mo st c
 
-coded-begins : (p : List ℕ) (n : Next) → runOver begin p ≡ n → (mo st : ℕ) → mo < 51 → Coded n mo st → CanBegin p
+coded-begins : (p : List ℕ) (n : Next) → runOver begin p ≡ n → (mo st : ℕ) → mo < faultEntry → Coded n mo st → CanBegin p
 coded-begins p refused e mo st l c = absurd (omega arith)
 coded-begins p (at m d fs) e mo st l c = can-begin p m d fs e
 
-coded-ends : (n : Next) (mo st : ℕ) → mo < 51 → Coded n mo st → endsOf mo st ≡ accepts n
+coded-ends : (n : Next) (mo st : ℕ) → mo < faultEntry → Coded n mo st → endsOf mo st ≡ accepts n
 coded-ends refused mo st l c = absurd (omega arith)
 coded-ends (at m d fs) mo st l c = ap₂ endsOf (c .0) (c .1) ∙ coded-end m d fs
 
 -- ---- the walk, after the bytes p
 
-module _ (p : List ℕ) (mo st : ℕ) (small : mo < 51) (coded : Coded (runOver begin p) mo st) where
+module _ (p : List ℕ) (mo st : ℕ) (small : mo < faultEntry) (coded : Coded (runOver begin p) mo st) where
   begins : CanBegin p
   begins = coded-begins p (runOver begin p) refl mo st small coded
 
@@ -89,7 +89,7 @@ module _ (p : List ℕ) (mo st : ℕ) (small : mo < 51) (coded : Coded (runOver 
     coded-more =
         subst (λ (n : Next). Onward n (actOf mo st b) st) (sym (run-append p begin (b ∷ []))) (coded-turn (runOver begin p) mo st b small coded)
 
-    right-fault : turnMode (kindOf (actOf mo st b)) (actOf mo st b) st ≡ 51 → FirstFault (p ++ (b ∷ t)) (length p)
+    right-fault : turnMode (kindOf (actOf mo st b)) (actOf mo st b) st ≡ faultEntry → FirstFault (p ++ (b ∷ t)) (length p)
     right-fault e =
         let no : CanBegin more → ⊥ = cannot-begin more (coded-refused (runOver begin more) _ _ coded-more e) in
         let cut : take (suc (length p)) (p ++ (b ∷ t)) ≡ more =
@@ -106,7 +106,7 @@ by-test : (s : List ℕ) (e : Bool) (v w : JsonVerdict) → (e ≡ true → IsVe
 by-test s true v w f g = f refl
 by-test s false v w f g = g refl
 
-pub right-from : (t p : List ℕ) (mo st : ℕ) → mo < 51 → Coded (runOver begin p) mo st → IsVerdict (p ++ t) (walkFrom mo st (length p) t)
+pub right-from : (t p : List ℕ) (mo st : ℕ) → mo < faultEntry → Coded (runOver begin p) mo st → IsVerdict (p ++ t) (walkFrom mo st (length p) t)
 unfolding walkFrom
 right-from [] p mo st small coded =
     subst (λ (l : List ℕ). IsVerdict l (choose (endsOf mo st) Text (Fault (length p)))) (sym (append-nil p))
@@ -116,9 +116,9 @@ right-from (b ∷ t) p mo st small coded =
     let st′ : ℕ = turnStack (kindOf (actOf mo st b)) st in
     let more : List ℕ = p ++ (b ∷ []) in
     let c : Coded (runOver begin more) mo′ st′ = coded-more p mo st small coded b t in
-    by-test (p ++ (b ∷ t)) (eqb mo′ 51) (Fault (length p)) (walkFrom mo′ st′ (suc (length p)) t)
-    (λ e. right-fault p mo st small coded b t (eqb-true mo′ 51 e))
+    by-test (p ++ (b ∷ t)) (eqb mo′ faultEntry) (Fault (length p)) (walkFrom mo′ st′ (suc (length p)) t)
+    (λ e. right-fault p mo st small coded b t (eqb-true mo′ faultEntry e))
     (λ e.
-    let r = right-from t more mo′ st′ (coded-below (runOver begin more) mo′ st′ c (eqb-false mo′ 51 e)) c in
+    let r = right-from t more mo′ st′ (coded-below (runOver begin more) mo′ st′ c (eqb-false mo′ faultEntry e)) c in
     subst (λ (l : List ℕ). IsVerdict l (walkFrom mo′ st′ (suc (length p)) t)) (append-assoc p (b ∷ []) t)
     (subst (λ (k : ℕ). IsVerdict (more ++ t) (walkFrom mo′ st′ k t)) (one-more p mo st small coded b t) r))

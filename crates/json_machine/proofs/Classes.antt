@@ -7,9 +7,9 @@ use native.Mathlib.Omega.{arith}
 use borrow.Author.Tests.{ltb-true}
 use lib.Dec.{ltb}
 use lib.ListN.{getD}
+use Rattle.octets.proofs.Logic.{both-true}
 use Rattle.json_machine.specs.Table.{classes}
 use Rattle.octets.specs.Logic.{both}
-use Rattle.json_machine.proofs.Derive.{and-true}
 
 abbrev below : List ℕ → ℕ → Bool
 below [] n = true
@@ -17,8 +17,8 @@ below (x ∷ l) n = both (ltb x n) (below l n)
 
 getD-below : (l : List ℕ) (n i : ℕ) → below l n ≡ true → 0 < n → getD l i 0 < n
 getD-below [] n i e z = z
-getD-below (x ∷ l) n zero e z = ltb-true _ _ (and-true (ltb x n) (below l n) e .0)
-getD-below (x ∷ l) n (suc i) e z = getD-below l n i (and-true (ltb x n) (below l n) e .1) z
+getD-below (x ∷ l) n zero e z = ltb-true _ _ (both-true (ltb x n) (below l n) e .0)
+getD-below (x ∷ l) n (suc i) e z = getD-below l n i (both-true (ltb x n) (below l n) e .1) z
 
 pub class-below : (b : ℕ) → getD classes b 0 < 40
 unfolding classes

@@ -1,13 +1,14 @@
 -- Rules one after the other, without `++`: what is left of them after a byte, and what they need to end.
 -- Assumes nothing.
-use Prim.Native.Nat.{ℕ, zero, suc, _≤_, _<_}
-use mathlib.Core.Path.{_≡_, refl, sym, ap, ap₂, _∙_, subst}
+use Prim.Native.Nat.{ℕ, _≤_}
+use mathlib.Core.Path.{_≡_, refl}
 use mathlib.Core.Bool.{Bool, true, false, false≢true}
 use mathlib.Core.List.{List, [], _∷_, _++_, append-assoc, append-nil}
 use mathlib.Core.Logic.{_⊎_, inl, inr, ⊎-elim}
 use lib.Dec.{leb}
 use native.Mathlib.Nat.{le-refl}
 use borrow.Author.Tests.{le-leb, leb-true}
+use Rattle.octets.proofs.Logic.{both-true}
 use Rattle.octets.specs.Logic.{both, either}
 use Rattle.json.specs.Abnf.{Abnf, range, _·_, _or_, empty, many, Is, is-range, is-both, is-left, is-right, is-empty, is-none, is-more}
 
@@ -24,7 +25,7 @@ pub data Run : List Abnf → List ℕ → Type 0 where
 
 -- ---- `Is` and `Run` say the same
 
-regroup : {k : List Abnf} (u v t : List ℕ) → Run k (u ++ (v ++ t)) → Run k ((u ++ v) ++ t)
+pub regroup : {k : List Abnf} (u v t : List ℕ) → Run k (u ++ (v ++ t)) → Run k ((u ++ v) ++ t)
 regroup u v t r = rw append-assoc r
 
 pub run-is : {x : Abnf} {s t : List ℕ} {k : List Abnf} → Is x s → Run k t → Run (x ∷ k) (s ++ t)
@@ -101,10 +102,6 @@ some-cases [] r = inr r
 some-cases (k ∷ l) (here r) = inl (here r)
 some-cases (k ∷ l) (there r) = ⊎-elim (λ a. inl (there a)) (λ b. inr b) (some-cases l r)
 
-pub and-true : (a b : Bool) → both a b ≡ true → (a ≡ true) × (b ≡ true)
-and-true true b e = (refl, e)
-and-true false b e = absurd (false≢true e)
-
 or-true : (a b : Bool) → either a b ≡ true → (a ≡ true) ⊎ (b ≡ true)
 or-true true b e = inl refl
 or-true false b e = inr e
@@ -118,7 +115,7 @@ or-left true b c e = e
 or-left false b c e = absurd (false≢true e)
 
 or-right : (a b c : Bool) → both b c ≡ true → both (either a b) c ≡ true
-or-right true b c e = and-true b c e .1
+or-right true b c e = both-true b c e .1
 or-right false b c e = e
 
 pub none-left : {s : List ℕ} → Some [] s → ⊥
@@ -132,7 +129,7 @@ module _ (b : ℕ) (t : List ℕ) where
   pub sound : (x : Abnf) (k : List Abnf) (r : List (List Abnf)) → (Some r t → Run k (b ∷ t)) → Some (rest b x k r) t → Run (x ∷ k) (b ∷ t)
   sound (range lo hi) k r f h =
       let p = picked (both (leb lo b) (leb b hi)) h in
-      let q = and-true (leb lo b) (leb b hi) (p .0) in
+      let q = both-true (leb lo b) (leb b hi) (p .0) in
       one (leb-true lo b (q .0)) (leb-true b hi (q .1)) (p .1)
   sound (x · y) k r f h = seq (sound x (y ∷ k) (rest b y k r) (sound y k r f) h)
   sound (x or y) k r f h = ⊎-elim (λ a. left (sound x k r f a)) (λ a. right (sound y k r f a)) (some-cases (rest b x k r) h)
@@ -204,7 +201,7 @@ canEnd (x ∷ k) = both (ends x) (canEnd k)
 run-ends : (x : Abnf) (k : List Abnf) → ends x ≡ true → Run k [] → Run (x ∷ k) []
 run-ends (range lo hi) k e r = absurd (false≢true e)
 run-ends (x · y) k e r =
-    let p = and-true (ends x) (ends y) e in
+    let p = both-true (ends x) (ends y) e in
     seq (run-ends x (y ∷ k) (p .0) (run-ends y k (p .1) r))
 run-ends (x or y) k e r = ⊎-elim (λ p. left (run-ends x k p r)) (λ p. right (run-ends y k p r)) (or-true (ends x) (ends y) e)
 run-ends empty k e r = skip r
@@ -213,7 +210,7 @@ run-ends (many x) k e r = done r
 pub run-end : (k : List Abnf) → canEnd k ≡ true → Run k []
 run-end [] e = stop
 run-end (x ∷ k) e =
-    let p = and-true (ends x) (canEnd k) e in
+    let p = both-true (ends x) (canEnd k) e in
     run-ends x k (p .0) (run-end k (p .1))
 
 pub end-run : {k : List Abnf} → Run k [] → canEnd k ≡ true
@@ -223,7 +220,7 @@ end-run (left {x = x} {y = y} {k = k} r) = or-left (ends x) (ends y) (canEnd k) 
 end-run (right {x = x} {y = y} {k = k} r) = or-right (ends x) (ends y) (canEnd k) (end-run r)
 end-run (skip r) = end-run r
 end-run (done r) = end-run r
-end-run (more {x = x} {k = k} r) = and-true (ends x) (canEnd k) (end-run r) .1
+end-run (more {x = x} {k = k} r) = both-true (ends x) (canEnd k) (end-run r) .1
 
 -- ---- every rule whose ranges are not empty has a text; of a choice the first is taken
 
@@ -241,7 +238,7 @@ productive (x ∷ k) = both (isProductive x) (productive k)
 run-isProductive : (x : Abnf) (k : List Abnf) → isProductive x ≡ true → (s : List ℕ) × Run k s → (s : List ℕ) × Run (x ∷ k) s
 run-isProductive (range lo hi) k e (s, r) = (lo ∷ s, one {b = lo} (le-refl lo) (leb-true lo hi e) r)
 run-isProductive (x · y) k e r =
-    let p = and-true (isProductive x) (isProductive y) e in
+    let p = both-true (isProductive x) (isProductive y) e in
     let q = run-isProductive x (y ∷ k) (p .0) (run-isProductive y k (p .1) r) in
     (q .0, seq (q .1))
 run-isProductive (x or y) k e r = let q = run-isProductive x k e r in (q .0, left (q .1))
@@ -251,5 +248,5 @@ run-isProductive (many x) k e (s, r) = (s, done r)
 pub run-productive : (k : List Abnf) → productive k ≡ true → (s : List ℕ) × Run k s
 run-productive [] e = ([], stop)
 run-productive (x ∷ k) e =
-    let p = and-true (isProductive x) (productive k) e in
+    let p = both-true (isProductive x) (productive k) e in
     run-isProductive x k (p .0) (run-productive k (p .1))

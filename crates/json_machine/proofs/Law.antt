@@ -5,10 +5,9 @@ use mathlib.Core.Path.{_≡_, refl, sym, subst}
 use mathlib.Core.Bool.{Bool, true, false, false≢true}
 use mathlib.Core.List.{List, [], _∷_, _++_, append-nil}
 use Rattle.json.specs.Abnf.{Abnf, _·_}
-use Rattle.json.specs.Grammar.{ws, value, json-text}
+use Rattle.json.specs.Grammar.{json-text}
 use Rattle.json.specs.Verdict.{depthLimit, IsText, CanBegin}
-use Rattle.json_machine.proofs.Derive.{Run, stop, seq, rests, Some, here, sounds, complete, run-is, is-run, canEnd, run-end, end-run, productive, run-productive, none-left}
-use Rattle.json_machine.proofs.Plain.{plainValue}
+use Rattle.json_machine.proofs.Derive.{Run, stop, seq, Some, here, sounds, complete, run-is, is-run, canEnd, run-end, end-run, productive, run-productive, none-left}
 use Rattle.json_machine.proofs.Spaces.{to-value, from-value}
 use Rattle.json_machine.proofs.Modes.{Token, Str, Mode, m-value, m-after, m-firstItem, m-firstMember, m-key, m-colon, m-token, m-string, m-name}
 use Rattle.json_machine.proofs.Modes as T

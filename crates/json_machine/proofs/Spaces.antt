@@ -6,7 +6,7 @@ use mathlib.Core.List.{List, [], _∷_, _++_, append-assoc, append-nil}
 use mathlib.Core.Logic.{_⊎_, inl, inr, ⊎-elim}
 use Rattle.json.specs.Abnf.{Abnf, _·_, _or_, many, Is, is-none, is-more, byte, opt}
 use Rattle.json.specs.Grammar.{ws, string, array, member, object, value}
-use Rattle.json_machine.proofs.Derive.{Run, stop, seq, left, right, skip, done, more, run-is, Parts, last, part, parts}
+use Rattle.json_machine.proofs.Derive.{Run, stop, seq, left, right, skip, done, more, run-is, Parts, last, part, parts, regroup}
 use Rattle.json_machine.proofs.Plain.{items, arrayRest, plainArray, plainMember, members, objectRest, plainObject, plainValue}
 
 -- the RFC's structural characters, and its arrays and objects as lists between two of them
@@ -39,9 +39,6 @@ under {k} {l} x f s r = go (cut-of (parts r))
   where
     go : {s : List ℕ} → Cut x k s → Run (x ∷ l) s
     go (cut {v = v} i r) = run-is i (f v r)
-
-regroup : {k : List Abnf} (u v t : List ℕ) → Run k (u ++ (v ++ t)) → Run k ((u ++ v) ++ t)
-regroup u v t r = rw append-assoc r
 
 -- spaces twice are spaces
 again : {x : Abnf} {k : List Abnf} {u v : List ℕ} → Is (many x) u → Run (many x ∷ k) v → Run (many x ∷ k) (u ++ v)

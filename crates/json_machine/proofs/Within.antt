@@ -9,16 +9,17 @@ use mathlib.Core.Logic.{_⊎_, inl, inr, ⊎-elim}
 use native.Mathlib.Omega.{arith}
 use borrow.Author.Tests.{lt-leb, ltb-true}
 use lib.Dec.{ltb, leb}
-use lib.ListN.{getD, length, List·getD-eq-default}
+use lib.ListN.{getD, List·getD-eq-default}
+use Rattle.octets.proofs.Logic.{both-true, both-none}
 use Rattle.octets.proofs.Over.{le-or-lt}
 use Rattle.json.specs.Abnf.{Abnf, range, _·_, _or_, empty, many}
 use Rattle.json_machine.specs.Table.{classes}
 use Rattle.octets.specs.Logic.{both}
-use Rattle.json_machine.proofs.Derive.{rest, rests, and-true}
+use Rattle.json_machine.proofs.Derive.{rest, rests}
 use Rattle.json_machine.proofs.Plain.{plainValue}
 use Rattle.json_machine.proofs.Modes.{Token, Str, Mode, m-value, m-after, m-firstItem, m-firstMember, m-key, m-colon, m-token, m-string, m-name, Act}
 use Rattle.json_machine.proofs.Modes as T
-use Rattle.json_machine.proofs.Step.{Next, still, step, stills, act, actAt, modeNumber, frames, afterNumber, afterValue, colon, token, str, refused}
+use Rattle.json_machine.proofs.Step.{still, step, stills, act, actAt, modeNumber, frames, afterNumber, afterValue, colon, token, str, refused}
 use Rattle.json_machine.proofs.Right.{each, right}
 
 -- each range is one of 1 to 255
@@ -35,30 +36,26 @@ allWithin (x ∷ k) = both (within x) (allWithin k)
 
 -- ---- nothing is left after such a number
 
-and-false : (a : Bool) → both a false ≡ false
-and-false true = refl
-and-false false = refl
-
 module _ (b : ℕ) (outside : (b ≡ 0) ⊎ (256 ≤ b)) where
   not-in : (lo hi : ℕ) → 0 < lo → hi < 256 → both (leb lo b) (leb b hi) ≡ false
   not-in lo hi l h =
       ⊎-elim
       (λ (e : b ≡ 0). let z : b < lo = omega arith in rw (lt-leb lo b z) refl)
-      (λ (e : 256 ≤ b). let z : hi < b = omega arith in rw (lt-leb b hi z) (and-false (leb lo b)))
+      (λ (e : 256 ≤ b). let z : hi < b = omega arith in rw (lt-leb b hi z) (both-none (leb lo b)))
       outside
 
   none : (x : Abnf) (k : List Abnf) → within x ≡ true → rest b x k [] ≡ []
   none (range lo hi) k e =
-      let w = and-true (ltb 0 lo) (ltb hi 256) e in
+      let w = both-true (ltb 0 lo) (ltb hi 256) e in
       rw (not-in lo hi (ltb-true 0 lo (w .0)) (ltb-true hi 256 (w .1))) refl
-  none (x · y) k e = let w = and-true (within x) (within y) e in ap (rest b x (y ∷ k)) (none y k (w .1)) ∙ none x (y ∷ k) (w .0)
-  none (x or y) k e = let w = and-true (within x) (within y) e in ap₂ (λ (l m : List (List Abnf)). l ++ m) (none x k (w .0)) (none y k (w .1))
+  none (x · y) k e = let w = both-true (within x) (within y) e in ap (rest b x (y ∷ k)) (none y k (w .1)) ∙ none x (y ∷ k) (w .0)
+  none (x or y) k e = let w = both-true (within x) (within y) e in ap₂ (λ (l m : List (List Abnf)). l ++ m) (none x k (w .0)) (none y k (w .1))
   none empty k e = refl
   none (many x) k e = ap (λ (l : List (List Abnf)). l ++ []) (none x (many x ∷ k) e)
 
   rests-none : (k : List Abnf) → allWithin k ≡ true → rests b k ≡ []
   rests-none [] e = refl
-  rests-none (x ∷ k) e = let w = and-true (within x) (allWithin k) e in ap (rest b x k) (rests-none k (w .1)) ∙ none x k (w .0)
+  rests-none (x ∷ k) e = let w = both-true (within x) (allWithin k) e in ap (rest b x k) (rests-none k (w .1)) ∙ none x k (w .0)
 
 -- ---- of whatever may still come
 

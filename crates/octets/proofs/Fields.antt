@@ -1,32 +1,31 @@
 -- Numbers read in either byte order, byte by byte from the one that counts most; and the bytes of a number by their place. Each law is stated once, over the order and the width. Assumes nothing.
-use Prim.Native.Nat.{ℕ, zero, suc, _+_, _-_, _*_, _/_, _%_, _^_, _<_, _≤_}
-use mathlib.Core.Path.{_≡_, refl, sym, ap, ap₂, _∙_}
+use Prim.Native.Nat.{ℕ, zero, suc, _+_, _-_, _*_, _/_, _%_, _^_, _<_}
+use mathlib.Core.Path.{_≡_, refl, sym, ap, _∙_}
 use mathlib.Core.List.{List, [], _∷_, _++_}
 use native.Mathlib.Omega.{arith}
-use native.Mathlib.Nat.{add-assoc, zero-add, add-zero, mul-assoc, mul-comm, mul-one, pow-suc, pow-succ', add-mul, div-one, div-div-eq-div-mul, mul-le-mul}
+use native.Mathlib.Nat.{pow-succ', div-one, div-div-eq-div-mul}
 use native.Mathlib.Numerals.{add-one}
-use lib.Arith.{digits-lt}
-use lib.ListN.{length, getD, take, drop, length-take, length-drop, drop-of-length-le}
-use lib.Seq.{drop-cons, drop-drop, take-suc, take-all, take-add, getD-take, getD-drop}
+use lib.ListN.{length, getD, take, drop, drop-of-length-le}
+use lib.Seq.{drop-cons, take-suc, take-all, getD-take, getD-drop}
 use Rattle.octets.specs.Bytes.{beFrom, beValue, leValue, beBytes, leBytes, field, leField}
-use Rattle.octets.specs.Order.{valueOf, bytesOf, fieldOf, bytePlace, soFar}
-use Rattle.octets.specs.declared.Order.{Order}
-use Rattle.octets.specs.declared.Order.the-variants.{Big, Little}
+use Rattle.octets.specs.ByteOrder.{valueOf, bytesOf, fieldOf, bytePlace, soFar}
+use Rattle.octets.specs.declared.ByteOrder.{ByteOrder}
+use Rattle.octets.specs.declared.ByteOrder.the-variants.{Big, Little}
 use Rattle.octets.proofs.Value.{length-beBytes, length-leBytes}
 
-pub field-is : (order : Order) (w at : ℕ) (s : List ℕ) → fieldOf order w at s ≡ valueOf order (take w (drop at s))
+pub field-is : (order : ByteOrder) (w at : ℕ) (s : List ℕ) → fieldOf order w at s ≡ valueOf order (take w (drop at s))
 unfolding field leField
 field-is Big w at s = refl
 field-is Little w at s = refl
 
 -- ---- byte by byte
 
-pub none-so-far : (order : Order) (t : List ℕ) → 0 ≡ soFar order t 0
+pub none-so-far : (order : ByteOrder) (t : List ℕ) → 0 ≡ soFar order t 0
 unfolding beValue
 none-so-far Big t = refl
 none-so-far Little t = rw (drop-of-length-le t {i = length t - 0} (omega arith)) refl
 
-pub all-so-far : (order : Order) (t : List ℕ) (k : ℕ) → k ≡ length t → soFar order t k ≡ valueOf order t
+pub all-so-far : (order : ByteOrder) (t : List ℕ) (k : ℕ) → k ≡ length t → soFar order t k ≡ valueOf order t
 all-so-far Big t k e = ap beValue (take-all k t (omega arith))
 all-so-far Little t k e = let z : length t - k ≡ 0 = omega arith in ap (λ (n : ℕ). leValue (drop n t)) z
 
@@ -34,7 +33,7 @@ be-snoc : (a : ℕ) (x : List ℕ) (b : ℕ) → beFrom a (x ++ (b ∷ [])) ≡ 
 be-snoc a [] b = refl
 be-snoc a (u ∷ x) b = be-snoc (a * 256 + u) x b
 
-pub one-more : (order : Order) (t : List ℕ) (k : ℕ) → k < length t
+pub one-more : (order : ByteOrder) (t : List ℕ) (k : ℕ) → k < length t
     → soFar order t (k + 1) ≡ soFar order t k * 256 + getD t (bytePlace order (length t) k) 0
 unfolding beValue
 one-more Big t k h = rw (add-one, take-suc t k 0 h) (be-snoc 0 (take k t) (getD t k 0))
@@ -52,7 +51,7 @@ part-byte w at i s h = rw (getD-take, getD-drop)
 
 -- ---- the bytes of a number, by their place
 
-pub length-bytes : (order : Order) (w n : ℕ) → length (bytesOf order w n) ≡ w
+pub length-bytes : (order : ByteOrder) (w n : ℕ) → length (bytesOf order w n) ≡ w
 length-bytes Big w n = length-beBytes w n
 length-bytes Little w n = length-leBytes w n
 
@@ -68,6 +67,6 @@ le-byte (suc w) n (suc k) h =
     le-byte w (n / 256) k (omega arith)
     ∙ ap (λ (i : ℕ). i % 256) (div-div-eq-div-mul n 256 (256 ^ k) ∙ ap (λ (i : ℕ). n / i) (sym (pow-succ' 256 k)))
 
-pub byte-at : (order : Order) (w n k : ℕ) → k < w → getD (bytesOf order w n) k 0 ≡ n / 256 ^ (w - 1 - bytePlace order w k) % 256
+pub byte-at : (order : ByteOrder) (w n k : ℕ) → k < w → getD (bytesOf order w n) k 0 ≡ n / 256 ^ (w - 1 - bytePlace order w k) % 256
 byte-at Big w n k h = be-byte w n k h
 byte-at Little w n k h = let e : k ≡ w - 1 - (w - 1 - k) = omega arith in le-byte w n k h ∙ ap (λ (i : ℕ). n / 256 ^ i % 256) e

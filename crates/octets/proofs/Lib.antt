@@ -1,3 +1,6 @@
 pub mod Value
 pub mod Over
 pub mod Fields
+pub mod Logic
+pub mod Lists
+pub mod Same

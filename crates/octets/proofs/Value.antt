@@ -54,10 +54,6 @@ pub bytes-be : (w n : ℕ) → AreBytes (beBytes w n)
 bytes-be zero n = tt
 bytes-be (suc w) n = (omega arith, bytes-be w n)
 
-pub bytes-le : (w n : ℕ) → AreBytes (leBytes w n)
-bytes-le zero n = tt
-bytes-le (suc w) n = (omega arith, bytes-le w (n / 256))
-
 pub length-beBytes : (w n : ℕ) → length (beBytes w n) ≡ w
 length-beBytes zero n = refl
 length-beBytes (suc w) n = ap suc (length-beBytes w n)

@@ -1,5 +1,5 @@
 pub mod Logic
 pub mod Bytes
 pub mod Over
-pub mod Order
+pub mod ByteOrder
 pub mod Same

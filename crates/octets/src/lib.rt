@@ -6,13 +6,20 @@ ghost use mathlib.Core.Path.{_≡_};
 ghost use Prim.Native.Nat.{_+_, _-_, _*_, _^_, _<_, _≤_, min};
 ghost use lib.ListN.{length, take, drop};
 ghost use Rattle.octets.specs.Bytes.{beBytes, leBytes, field, leField};
-ghost use Rattle.octets.specs.Order.{bytesOf, fieldOf, bytePlace, soFar};
+ghost use Rattle.octets.specs.ByteOrder.{bytesOf, fieldOf, bytePlace, soFar};
 ghost use Rattle.octets.specs.Over.{over};
 
 fn wide(b: u8) -> u64
     ensures { λ r. ⌜ r ≡ b ⌝ }
 {
     b as u64
+}
+
+// The lesser of two numbers.
+pub fn lesser(a: usize, b: usize) -> usize
+    ensures { λ r. ⌜ r ≡ min a b ⌝ }
+{
+    if a < b { a } else { b }
 }
 
 // How many of `count` bytes lie within `len` bytes when the first stands at `at`.
@@ -29,7 +36,7 @@ fn room(len: usize, at: usize, count: usize) -> usize
 }
 
 // Which byte of a number counts most: the first, or the last.
-enum Order {
+enum ByteOrder {
     Big,
     Little,
 }
@@ -37,19 +44,19 @@ enum Order {
 // ---- a number that a slice has only a part of, byte by byte
 
 // Where the byte stands, of `count`, that counts most after k others.
-fn place(order: Order, count: usize, k: usize) -> usize
+fn place(order: ByteOrder, count: usize, k: usize) -> usize
     requires { ⌜ k < count ⌝ }
     ensures { λ r. ⌜ r ≡ bytePlace order count k ⌝ }
     ensures { λ r. ⌜ r < count ⌝ }
 {
     match order {
-        Order::Big => k,
-        Order::Little => count - 1 - k,
+        ByteOrder::Big => k,
+        ByteOrder::Little => count - 1 - k,
     }
 }
 
 // The number of the bytes of a field that there are.
-fn part_value(s: &[u8], at: usize, width: usize, order: Order) -> u64
+fn part_value(s: &[u8], at: usize, width: usize, order: ByteOrder) -> u64
     requires { ⌜ width ≤ 8 ⌝ }
     ensures { λ r. ⌜ r ≡ fieldOf order width at (now (s .entry)) ⌝ }
     ensures { λ r. ⌜ r < 256 ^ width ⌝ }
@@ -68,7 +75,7 @@ fn part_value(s: &[u8], at: usize, width: usize, order: Order) -> u64
 // ---- a number that a slice has whole: the same with no loop, which compiles to one load
 
 // The number of one byte more, in the order in which they count, of `count` bytes at a position.
-fn next(value: u64, s: &[u8], at: usize, count: usize, order: Order, k: usize) -> u64
+fn next(value: u64, s: &[u8], at: usize, count: usize, order: ByteOrder, k: usize) -> u64
     requires { ⌜ (k < count) × (count ≤ 8) × (at + count ≤ length (now s)) × (value < 256 ^ k) × (value ≡ soFar order (take count (drop at (now s))) k) ⌝ }
     ensures { λ r. ⌜ (r < 256 ^ (k + 1)) × (r ≡ soFar order (take count (drop at (now (s .entry)))) (k + 1)) ⌝ }
 {
@@ -76,7 +83,7 @@ fn next(value: u64, s: &[u8], at: usize, count: usize, order: Order, k: usize) -
     value * 256 + wide(s[at + i])
 }
 
-fn two(s: &[u8], at: usize, order: Order) -> u64
+fn two(s: &[u8], at: usize, order: ByteOrder) -> u64
     requires { ⌜ at + 2 ≤ length (now s) ⌝ }
     ensures { λ r. ⌜ r ≡ fieldOf order 2 at (now (s .entry)) ⌝ }
     ensures { λ r. ⌜ r < 256 ^ 2 ⌝ }
@@ -85,7 +92,7 @@ fn two(s: &[u8], at: usize, order: Order) -> u64
     next(a, s, at, 2, order, 1)
 }
 
-fn four(s: &[u8], at: usize, order: Order) -> u64
+fn four(s: &[u8], at: usize, order: ByteOrder) -> u64
     requires { ⌜ at + 4 ≤ length (now s) ⌝ }
     ensures { λ r. ⌜ r ≡ fieldOf order 4 at (now (s .entry)) ⌝ }
     ensures { λ r. ⌜ r < 256 ^ 4 ⌝ }
@@ -96,7 +103,7 @@ fn four(s: &[u8], at: usize, order: Order) -> u64
     next(c, s, at, 4, order, 3)
 }
 
-fn eight(s: &[u8], at: usize, order: Order) -> u64
+fn eight(s: &[u8], at: usize, order: ByteOrder) -> u64
     requires { ⌜ at + 8 ≤ length (now s) ⌝ }
     ensures { λ r. ⌜ r ≡ fieldOf order 8 at (now (s .entry)) ⌝ }
     ensures { λ r. ⌜ r < 256 ^ 8 ⌝ }
@@ -117,60 +124,60 @@ pub fn be16(s: &[u8], at: usize) -> u16
     ensures { λ r. ⌜ r ≡ field 2 at (now (s .entry)) ⌝ }
 {
     if room(s.len(), at, 2) < 2 {
-        return part_value(s, at, 2, Order::Big) as u16;
+        return part_value(s, at, 2, ByteOrder::Big) as u16;
     }
-    two(s, at, Order::Big) as u16
+    two(s, at, ByteOrder::Big) as u16
 }
 
 pub fn be32(s: &[u8], at: usize) -> u32
     ensures { λ r. ⌜ r ≡ field 4 at (now (s .entry)) ⌝ }
 {
     if room(s.len(), at, 4) < 4 {
-        return part_value(s, at, 4, Order::Big) as u32;
+        return part_value(s, at, 4, ByteOrder::Big) as u32;
     }
-    four(s, at, Order::Big) as u32
+    four(s, at, ByteOrder::Big) as u32
 }
 
 pub fn be64(s: &[u8], at: usize) -> u64
     ensures { λ r. ⌜ r ≡ field 8 at (now (s .entry)) ⌝ }
 {
     if room(s.len(), at, 8) < 8 {
-        return part_value(s, at, 8, Order::Big);
+        return part_value(s, at, 8, ByteOrder::Big);
     }
-    eight(s, at, Order::Big)
+    eight(s, at, ByteOrder::Big)
 }
 
 pub fn le16(s: &[u8], at: usize) -> u16
     ensures { λ r. ⌜ r ≡ leField 2 at (now (s .entry)) ⌝ }
 {
     if room(s.len(), at, 2) < 2 {
-        return part_value(s, at, 2, Order::Little) as u16;
+        return part_value(s, at, 2, ByteOrder::Little) as u16;
     }
-    two(s, at, Order::Little) as u16
+    two(s, at, ByteOrder::Little) as u16
 }
 
 pub fn le32(s: &[u8], at: usize) -> u32
     ensures { λ r. ⌜ r ≡ leField 4 at (now (s .entry)) ⌝ }
 {
     if room(s.len(), at, 4) < 4 {
-        return part_value(s, at, 4, Order::Little) as u32;
+        return part_value(s, at, 4, ByteOrder::Little) as u32;
     }
-    four(s, at, Order::Little) as u32
+    four(s, at, ByteOrder::Little) as u32
 }
 
 pub fn le64(s: &[u8], at: usize) -> u64
     ensures { λ r. ⌜ r ≡ leField 8 at (now (s .entry)) ⌝ }
 {
     if room(s.len(), at, 8) < 8 {
-        return part_value(s, at, 8, Order::Little);
+        return part_value(s, at, 8, ByteOrder::Little);
     }
-    eight(s, at, Order::Little)
+    eight(s, at, ByteOrder::Little)
 }
 
 // ---- writing
 
 // The `width` low bytes of `n`: each is shifted down by the bytes that count less.
-fn put(out: &mut [u8], at: usize, width: usize, n: u64, order: Order)
+fn put(out: &mut [u8], at: usize, width: usize, n: u64, order: ByteOrder)
     requires { ⌜ width ≤ 8 ⌝ }
     ensures { λ _. ⌜ now (out .exit) ≡ over (now (out .entry)) at (bytesOf order width n) ⌝ }
 {
@@ -186,37 +193,37 @@ fn put(out: &mut [u8], at: usize, width: usize, n: u64, order: Order)
 pub fn put_be16(out: &mut [u8], at: usize, n: u16)
     ensures { λ _. ⌜ now (out .exit) ≡ over (now (out .entry)) at (beBytes 2 n) ⌝ }
 {
-    put(out, at, 2, n as u64, Order::Big);
+    put(out, at, 2, n as u64, ByteOrder::Big);
 }
 
 pub fn put_be32(out: &mut [u8], at: usize, n: u32)
     ensures { λ _. ⌜ now (out .exit) ≡ over (now (out .entry)) at (beBytes 4 n) ⌝ }
 {
-    put(out, at, 4, n as u64, Order::Big);
+    put(out, at, 4, n as u64, ByteOrder::Big);
 }
 
 pub fn put_be64(out: &mut [u8], at: usize, n: u64)
     ensures { λ _. ⌜ now (out .exit) ≡ over (now (out .entry)) at (beBytes 8 n) ⌝ }
 {
-    put(out, at, 8, n, Order::Big);
+    put(out, at, 8, n, ByteOrder::Big);
 }
 
 pub fn put_le16(out: &mut [u8], at: usize, n: u16)
     ensures { λ _. ⌜ now (out .exit) ≡ over (now (out .entry)) at (leBytes 2 n) ⌝ }
 {
-    put(out, at, 2, n as u64, Order::Little);
+    put(out, at, 2, n as u64, ByteOrder::Little);
 }
 
 pub fn put_le32(out: &mut [u8], at: usize, n: u32)
     ensures { λ _. ⌜ now (out .exit) ≡ over (now (out .entry)) at (leBytes 4 n) ⌝ }
 {
-    put(out, at, 4, n as u64, Order::Little);
+    put(out, at, 4, n as u64, ByteOrder::Little);
 }
 
 pub fn put_le64(out: &mut [u8], at: usize, n: u64)
     ensures { λ _. ⌜ now (out .exit) ≡ over (now (out .entry)) at (leBytes 8 n) ⌝ }
 {
-    put(out, at, 8, n, Order::Little);
+    put(out, at, 8, n, ByteOrder::Little);
 }
 
 // The bytes of `s` over what stands from `at` on. The count is clipped once, so that the loop has no other test and can move blocks of bytes.

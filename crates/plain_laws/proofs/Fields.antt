@@ -5,8 +5,8 @@ use mathlib.Core.Path.{_≡_, refl, ap, _∙_}
 use mathlib.Core.List.{List, [], _∷_, _++_, append-assoc}
 use native.Mathlib.Omega.{arith}
 use lib.ListN.{length, getD, replicate, length-append}
-use Rattle.octets.specs.Bytes.{AreBytes, beBytes, leBytes, field}
-use Rattle.octets.proofs.Value.{field-at, field-past, bytes-append, bytes-be, bytes-le}
+use Rattle.octets.specs.Bytes.{AreBytes, beBytes, field}
+use Rattle.octets.proofs.Value.{field-at, field-past, bytes-append, bytes-be}
 use Rattle.eif.specs.Table.{filled}
 use Rattle.eif.specs.Plan.{entries}
 
@@ -59,9 +59,6 @@ pub record Bytes (s : List ℕ) : Type 0 where
 
 pub be : (w n : ℕ) → Bytes (beBytes w n)
 be w n = record { are = bytes-be w n }
-
-pub le : (w n : ℕ) → Bytes (leBytes w n)
-le w n = record { are = bytes-le w n }
 
 pub join : {x y : List ℕ} → Bytes x → Bytes y → Bytes (x ++ y)
 join {x} {y} a b = record { are = bytes-append x y (a .are) (b .are) }

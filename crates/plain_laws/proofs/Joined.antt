@@ -7,9 +7,10 @@ use native.Mathlib.Omega.{arith}
 use native.Mathlib.Nat.{add-zero, sub-zero}
 use lib.ListN.{length, take, drop, length-append, take-append-drop}
 use lib.Seq.{take-at, drop-at, drop-drop, drop-length}
+use Rattle.eif.specs.Table.{joinFrom}
 use Rattle.octets.specs.Bytes.{AreBytes}
 use Rattle.octets.proofs.Value.{bytes-append}
-use Rattle.eif.specs.Plan.{plannedSize, dataBefore, pieceAt, joinFrom}
+use Rattle.eif.specs.Plan.{plannedSize, dataBefore, pieceAt}
 use Rattle.eif.specs.declared.Place.{Place}
 use Rattle.plain_laws.proofs.Shape.{before-zero, before-suc}
 

@@ -37,10 +37,13 @@ module _ (p : Plan) (d : List ℕ) (a : Planned p (length d)) where
       let n = read-count p d a in
       record {
         accepted = plain-accepted p d a w;
-        reserved-zero = read-reserved p d a;
-        reserved-after-zero = read-reserved-after p d a;
-        unused-offset = λ i k h. offset-entry p d a i h ∙ filled-past (packedAt l) 0 placeCount (p .count) i (omega arith);
-        unused-size = λ i k h. size-entry p d a i h ∙ filled-past (plannedSize l) 0 placeCount (p .count) i (omega arith);
+        unused =
+            record {
+              reserved-zero = read-reserved p d a;
+              reserved-after-zero = read-reserved-after p d a;
+              unused-offset = λ i k h. offset-entry p d a i h ∙ filled-past (packedAt l) 0 placeCount (p .count) i (omega arith);
+              unused-size = λ i k h. size-entry p d a i h ∙ filled-past (plannedSize l) 0 placeCount (p .count) i (omega arith);
+            };
       }
 
 -- ---- the plan of an accepted image is accepted

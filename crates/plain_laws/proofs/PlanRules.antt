@@ -13,7 +13,7 @@ use Rattle.eif.specs.Plan.{plannedKind, plainSize, dataBefore, sizeFault, planF
 use Rattle.eif.specs.declared.Place.{Place}
 use Rattle.eif.specs.declared.Plan.{Plan}
 use Rattle.eif.specs.declared.Verdict.the-variants.{Accepted}
-use Rattle.eif_lemmas.proofs.Logic.{choose-zero, both-true}
+use Rattle.octets.proofs.Logic.{choose-zero, both-true}
 use Rattle.eif_lemmas.proofs.Fields.{fields, fields-fine}
 use Rattle.eif_lemmas.proofs.Verdicts.{then-accepted, whole-zero, all-accepted, walk-accepted, walk-all}
 

@@ -17,7 +17,7 @@ use Rattle.octets.specs.Logic.{choose}
 use Rattle.eif.specs.Answers.{refuse, andThen}
 use Rattle.eif.specs.Output.{outputFor}
 use Rattle.eif.specs.Reading.{verdictOf, blankSection, readImage, dataOf}
-use Rattle.eif.specs.Plan.{placeAt, dataBefore, plainSize, pieceAt, planVerdict, writeVerdict, plainImage, writtenFor, writeAnswer, planLength, writeOutput, Plain, placeOf, planOf, dataJoined}
+use Rattle.eif.specs.Plan.{placeAt, dataBefore, plainSize, pieceAt, planVerdict, writeVerdict, plainImage, writtenFor, writeAnswer, planLength, writeOutput, UnusedZero, Plain, placeOf, planOf, dataJoined}
 use Rattle.eif.specs.declared.Plan.{Plan}
 use Rattle.eif.specs.declared.Verdict.{Verdict}
 use Rattle.eif.specs.declared.Verdict.the-variants.{Accepted}
@@ -26,7 +26,7 @@ use Rattle.eif_lemmas.proofs.Verdicts.{then-none}
 use Rattle.eif_lemmas.proofs.Reading.{reading-accepted}
 use Rattle.plain_laws.specs.Packed.{packedSection, packedReading, SamePlan}
 use Rattle.plain_laws.proofs.PlanRules.{Planned, planned→}
-use Rattle.plain_laws.specs.RoundTrip.{Fits, ReadsBack, Writes, WrittenFrom, UnusedZero, SameWriting}
+use Rattle.plain_laws.specs.RoundTrip.{Fits, ReadsBack, Writes, WrittenFrom, SameWriting}
 use Rattle.plain_laws.proofs.Written.{read-data}
 use Rattle.plain_laws.proofs.ReadBack.{plain-accepted, reads-back, long}
 use Rattle.plain_laws.proofs.Joined.{join-same, pieces-joined}
@@ -138,23 +138,8 @@ plain-exactly-when s w = (
 -- An accepted image is one that the writer gives exactly when its reserved fields and unused entries are zero.
 pub accepted-plain-when : (s : List ℕ) → AreBytes s → verdictOf s ≡ Accepted → (WrittenFrom s → UnusedZero s) × (UnusedZero s → WrittenFrom s)
 accepted-plain-when s w e = (
-  λ f.
-      let pl = plain-exactly-when s w .1 f in
-      record {
-        reserved-zero = pl .reserved-zero;
-        reserved-after-zero = pl .reserved-after-zero;
-        unused-offset = pl .unused-offset;
-        unused-size = pl .unused-size;
-      },
-  λ z.
-      plain-exactly-when s w .0
-      (record {
-        accepted = e;
-        reserved-zero = z .reserved-zero;
-        reserved-after-zero = z .reserved-after-zero;
-        unused-offset = z .unused-offset;
-        unused-size = z .unused-size;
-      }),
+  λ f. plain-exactly-when s w .1 f .unused,
+  λ z. plain-exactly-when s w .0 (record { accepted = e; unused = z }),
 )
 
 -- ---- the one plain image
@@ -162,12 +147,6 @@ accepted-plain-when s w e = (
 -- Plans that agree in version, flags, default_mem, default_cpus, count and used places have the same verdict, length and plain image.
 pub one-plain-image : (p q : Plan) → SamePlan p q → SameWriting p q
 one-plain-image p q e = record { verdict = verdict-of-same p q e; size = size-of-same p q e; image = image-of-same p q e }
-
--- ---- any accepted image
-
--- The plan of any accepted image is not refused, and its plain image is read back with the same fields, its sections packed.
-pub read-again : (s : List ℕ) → AreBytes s → verdictOf s ≡ Accepted → ReadsBack (plan s) (given s)
-read-again s w ok = read-plain (plan s) (given s) (plan-accepted s ok) (plan-fits s ok w) (bytes-given s ok w)
 
 -- The plain image of a plan and its data is the only one: a plain image whose reading gives the plan's fields and used places back, and whose
 -- sections' data joined is that data, is this image.

@@ -13,7 +13,7 @@ use Rattle.octets.proofs.Value.{bytes-append, bytes-take, bytes-drop}
 use Rattle.crc32.specs.Crc.{crc32}
 use Rattle.eif.specs.Numbers.{placeCount}
 use Rattle.eif.specs.Table.{filled}
-use Rattle.eif.specs.Layout.{magicNumber, headerSize, sectionHeaderSize, checksumAt}
+use Rattle.eif.specs.Layout.{magicNumber, headerSize, sectionHeaderSize, checksumAt, offsetsAt}
 use Rattle.eif.specs.Plan.{entries, placeAt, plannedSize, packedAt, dataBefore, plainSize, pieceAt, fixedFields, offsetTable, sizeTable, headerBytes, sectionHeader, sectionBytes, bodyBytes, plainImage}
 use Rattle.eif.specs.declared.Plan.{Plan}
 use Rattle.eif.specs.declared.Place.{Place}
@@ -67,7 +67,7 @@ module _ (l : List Place) (count : ℕ) where
   length-sizes = length-entries (filled (plannedSize l) 0 placeCount count) ∙ ap (λ (n : ℕ). 8 * n) (length-filled (plannedSize l) 0 placeCount count)
 
 module _ (p : Plan) where
-  pub length-fixed : length (fixedFields p) ≡ 28
+  pub length-fixed : length (fixedFields p) ≡ offsetsAt
   unfolding fixedFields
   length-fixed = refl
 

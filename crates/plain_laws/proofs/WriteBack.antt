@@ -6,17 +6,18 @@ use mathlib.Core.List.{List, _++_, append-assoc}
 use native.Mathlib.Omega.{arith}
 use lib.ListN.{length, take, drop, getD, take-append-drop, length-take, length-drop, List·getD-map}
 use lib.Seq.{take-at, drop-drop, drop-length}
+use Rattle.eif.specs.Table.{joinFrom}
 use Rattle.octets.specs.Bytes.{AreBytes, beBytes, field}
 use Rattle.crc32.specs.Crc.{crc32}
 use Rattle.eif.specs.Numbers.{placeCount}
-use Rattle.eif.specs.Layout.{magicNumber, headerSize, sectionHeaderSize, checksumAt, viewOf, headerFlags, defaultMem, defaultCpus, checksum, versionOf, countOf, offsetAt, sizeAt, startAt, kindAt, flagsAt}
+use Rattle.eif.specs.Layout.{magicNumber, headerSize, sectionHeaderSize, checksumAt, viewOf, headerFlags, defaultMem, defaultCpus, checksum, versionOf, countOf, offsetAt, sizeAt, startAt, kindAt, flagsAt, offsetsAt, reservedAfterAt, sizesAt}
 use Rattle.eif.specs.Reading.{checksumOf, verdictOf, sectionAt, blankSection, sectionsOf, readingOf, dataOf}
-use Rattle.eif.specs.Plan.{entries, placeAt, plannedKind, plannedSize, packedAt, pieceAt, fixedFields, offsetTable, sizeTable, headerBytes, sectionHeader, sectionBytes, bodyBytes, plainImage, Plain, placeOf, planOf, joinFrom, dataJoined}
+use Rattle.eif.specs.Plan.{entries, placeAt, plannedKind, plannedSize, packedAt, pieceAt, fixedFields, offsetTable, sizeTable, headerBytes, sectionHeader, sectionBytes, bodyBytes, plainImage, Plain, placeOf, planOf, dataJoined}
 use Rattle.eif.specs.declared.Place.{Place}
 use Rattle.eif.specs.declared.Plan.{Plan}
 use Rattle.eif.specs.declared.Verdict.the-variants.{Accepted}
 use Rattle.eif_lemmas.proofs.Table.{filled-at}
-use Rattle.eif_lemmas.proofs.View.{Header, Sound, sound-of}
+use Rattle.eif_lemmas.proofs.View.{SoundHeader, Sound, sound-of}
 use Rattle.eif_lemmas.proofs.Accept.{passes, sum-of, file-ends}
 use Rattle.plain_laws.proofs.Shape.{packed-suc, packed-zero, length-header}
 use Rattle.plain_laws.proofs.Split.{split, table-split, filled-full}
@@ -45,7 +46,7 @@ module _ (s : List ℕ) where
   given = joinFrom piece (countOf s) 0
 
   module _ (ok : verdictOf s ≡ Accepted) where
-    abbrev pub head : Header (viewOf s)
+    abbrev pub head : SoundHeader (viewOf s)
     head = passes s ok .head
 
     pub entry : (i : ℕ) → i < countOf s → Sound (viewOf s) i
@@ -120,7 +121,7 @@ module _ (s : List ℕ) (w : AreBytes s) (pl : Plain s) where
   abbrev b7 : List ℕ
   b7 = beBytes 2 (countOf s)
 
-  fixed-split : s ≡ fixedFields p ++ drop 28 s
+  fixed-split : s ≡ fixedFields p ++ drop offsetsAt s
   unfolding fixedFields
   fixed-split =
       let q = whole in
@@ -129,35 +130,35 @@ module _ (s : List ℕ) (w : AreBytes s) (pl : Plain s) where
       ∙ ap (λ (r : List ℕ). b2 ++ r) (split s w 2 (headerFlags (viewOf s)) 6 refl (omega arith)
       ∙ ap (λ (r : List ℕ). b3 ++ r) (split s w 8 (defaultMem (viewOf s)) 8 refl (omega arith)
       ∙ ap (λ (r : List ℕ). b4 ++ r) (split s w 8 (defaultCpus (viewOf s)) 16 refl (omega arith)
-      ∙ ap (λ (r : List ℕ). b5 ++ r) (split s w 2 0 24 (pl .reserved-zero) (omega arith)
+      ∙ ap (λ (r : List ℕ). b5 ++ r) (split s w 2 0 24 (pl .unused .reserved-zero) (omega arith)
       ∙ ap (λ (r : List ℕ). b6 ++ r) (split s w 2 (countOf s) 26 refl (omega arith)))))))
-      ∙ regroup7 b1 b2 b3 b4 b5 b6 b7 (drop 28 s)
+      ∙ regroup7 b1 b2 b3 b4 b5 b6 b7 (drop offsetsAt s)
 
-  offsets-split : drop 28 s ≡ offsetTable l (countOf s) ++ drop 284 s
+  offsets-split : drop offsetsAt s ≡ offsetTable l (countOf s) ++ drop sizesAt s
   unfolding offsetTable
   offsets-split =
       let q = whole in
-      table-split s w placeCount 28 (offsetAt s) (λ i h. refl) (omega arith)
-      ∙ ap (λ (t : List ℕ). entries t ++ drop 284 s)
-      (filled-full (packedAt l) (offsetAt s) placeCount (countOf s) few (λ i h. entry s ok i h .starts ∙ sym (packed-is i (omega arith))) (pl .unused-offset))
+      table-split s w placeCount offsetsAt (offsetAt s) (λ i h. refl) (omega arith)
+      ∙ ap (λ (t : List ℕ). entries t ++ drop sizesAt s)
+      (filled-full (packedAt l) (offsetAt s) placeCount (countOf s) few (λ i h. entry s ok i h .starts ∙ sym (packed-is i (omega arith))) (pl .unused .unused-offset))
 
-  sizes-split : drop 284 s ≡ sizeTable l (countOf s) ++ drop 540 s
+  sizes-split : drop sizesAt s ≡ sizeTable l (countOf s) ++ drop reservedAfterAt s
   unfolding sizeTable
   sizes-split =
       let q = whole in
-      table-split s w placeCount 284 (sizeAt s) (λ i h. refl) (omega arith)
-      ∙ ap (λ (t : List ℕ). entries t ++ drop 540 s)
-      (filled-full (plannedSize l) (sizeAt s) placeCount (countOf s) few (λ i h. sym (size-is s ok i h)) (pl .unused-size))
+      table-split s w placeCount sizesAt (sizeAt s) (λ i h. refl) (omega arith)
+      ∙ ap (λ (t : List ℕ). entries t ++ drop reservedAfterAt s)
+      (filled-full (plannedSize l) (sizeAt s) placeCount (countOf s) few (λ i h. sym (size-is s ok i h)) (pl .unused .unused-size))
 
-  header-split : s ≡ headerBytes p ++ drop 544 s
+  header-split : s ≡ headerBytes p ++ drop checksumAt s
   unfolding headerBytes
   header-split =
       let q = whole in
       fixed-split
       ∙ ap (λ (r : List ℕ). fixedFields p ++ r) (offsets-split
       ∙ ap (λ (r : List ℕ). offsetTable l (countOf s) ++ r) (sizes-split
-      ∙ ap (λ (r : List ℕ). sizeTable l (countOf s) ++ r) (split s w 4 0 540 (pl .reserved-after-zero) (omega arith))))
-      ∙ regroup4 (fixedFields p) (offsetTable l (countOf s)) (sizeTable l (countOf s)) (beBytes 4 0) (drop 544 s)
+      ∙ ap (λ (r : List ℕ). sizeTable l (countOf s) ++ r) (split s w 4 0 reservedAfterAt (pl .unused .reserved-after-zero) (omega arith))))
+      ∙ regroup4 (fixedFields p) (offsetTable l (countOf s)) (sizeTable l (countOf s)) (beBytes 4 0) (drop checksumAt s)
 
   section-split : (i : ℕ) → i < countOf s → drop (startAt s i) s ≡ sectionHeader (placeAt l i) ++ (pieceAt l d i ++ drop (startAt s (suc i)) s)
   unfolding sectionHeader

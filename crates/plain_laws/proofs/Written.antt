@@ -12,7 +12,7 @@ use Rattle.crc32.specs.Crc.{crc32}
 use Rattle.crc32.proofs.Bounds.{crc32-lt}
 use Rattle.eif.specs.Numbers.{sizeLimit, placeCount}
 use Rattle.eif.specs.Table.{filled}
-use Rattle.eif.specs.Layout.{magicNumber, viewOf, magic, headerFlags, defaultMem, defaultCpus, reserved, reservedAfter, checksum, versionOf, countOf, offsetAt, sizeAt, endAt, startAt, kindAt, flagsAt, ownSizeAt}
+use Rattle.eif.specs.Layout.{magicNumber, magicAt, versionAt, headerFlagsAt, defaultMemAt, defaultCpusAt, reservedAt, countAt, offsetsAt, sizesAt, reservedAfterAt, entrySize, entryAt, viewOf, magic, headerFlags, defaultMem, defaultCpus, reserved, reservedAfter, checksum, versionOf, countOf, offsetAt, sizeAt, endAt, startAt, kindAt, flagsAt, ownSizeAt, checksumAt}
 use Rattle.eif.specs.Reading.{checksumOf}
 use Rattle.eif.specs.Plan.{placeAt, plannedKind, plannedSize, packedAt, pieceAt, fixedFields, offsetTable, sizeTable, headerBytes, sectionHeader, bodyBytes, plainImage}
 use Rattle.eif.specs.declared.Plan.{Plan}
@@ -130,11 +130,11 @@ module _ (p : Plan) (d : List ℕ) where
       ∙ ap (λ (r : List ℕ). fixedFields p ++ r)
       (append-assoc offsets (sizes ++ beBytes 4 0) from-sum ∙ ap (λ (r : List ℕ). offsets ++ r) (append-assoc sizes (beBytes 4 0) from-sum))
 
-  length-to-sizes : length (fixedFields p ++ offsets) ≡ 284
+  length-to-sizes : length (fixedFields p ++ offsets) ≡ sizesAt
   length-to-sizes =
       length-append (fixedFields p) offsets ∙ ap₂ (λ (x y : ℕ). x + y) (length-fixed p) (length-offsets (p .places) (p .count))
 
-  length-to-reserved : length ((fixedFields p ++ offsets) ++ sizes) ≡ 540
+  length-to-reserved : length ((fixedFields p ++ offsets) ++ sizes) ≡ reservedAfterAt
   length-to-reserved =
       length-append (fixedFields p ++ offsets) sizes ∙ ap₂ (λ (x y : ℕ). x + y) length-to-sizes (length-sizes (p .places) (p .count))
 
@@ -158,33 +158,33 @@ module _ (p : Plan) (d : List ℕ) (a : Planned p (length d)) where
   size-small i h = let q = packed-small (suc i) h in let e = packed-suc l i in omega arith
 
   pub read-magic : magic (viewOf image) ≡ magicNumber
-  read-magic = ap (field 4 0) (parts p d) ∙ fixed-magic p rest
+  read-magic = ap (field 4 magicAt) (parts p d) ∙ fixed-magic p rest
 
   pub read-version : versionOf image ≡ p .version
-  read-version = let h = a .high in ap (field 2 4) (parts p d) ∙ fixed-version p rest (omega arith)
+  read-version = let h = a .high in ap (field 2 versionAt) (parts p d) ∙ fixed-version p rest (omega arith)
 
   pub read-flags : p .flags < 2 ^ 16 → headerFlags (viewOf image) ≡ p .flags
-  read-flags h = ap (field 2 6) (parts p d) ∙ fixed-flags p rest h
+  read-flags h = ap (field 2 headerFlagsAt) (parts p d) ∙ fixed-flags p rest h
 
   pub read-default-mem : p .«default_mem» < 2 ^ 64 → defaultMem (viewOf image) ≡ p .«default_mem»
-  read-default-mem h = ap (field 8 8) (parts p d) ∙ fixed-default-mem p rest h
+  read-default-mem h = ap (field 8 defaultMemAt) (parts p d) ∙ fixed-default-mem p rest h
 
   pub read-default-cpus : p .«default_cpus» < 2 ^ 64 → defaultCpus (viewOf image) ≡ p .«default_cpus»
-  read-default-cpus h = ap (field 8 16) (parts p d) ∙ fixed-default-cpus p rest h
+  read-default-cpus h = ap (field 8 defaultCpusAt) (parts p d) ∙ fixed-default-cpus p rest h
 
   pub read-reserved : reserved (viewOf image) ≡ 0
-  read-reserved = ap (field 2 24) (parts p d) ∙ fixed-reserved p rest
+  read-reserved = ap (field 2 reservedAt) (parts p d) ∙ fixed-reserved p rest
 
   pub read-count : countOf image ≡ p .count
-  read-count = let h = a .few in ap (field 2 26) (parts p d) ∙ fixed-count p rest (omega arith)
+  read-count = let h = a .few in ap (field 2 countAt) (parts p d) ∙ fixed-count p rest (omega arith)
 
   pub offset-entry : (i : ℕ) → i < placeCount → offsetAt image i ≡ getD (filled (packedAt l) 0 placeCount (p .count)) i 0
   unfolding offsetTable
   offset-entry i h =
       let t : List ℕ = filled (packedAt l) 0 placeCount (p .count) in
       let n : length t ≡ placeCount = length-filled (packedAt l) 0 placeCount (p .count) in
-      ap (field 8 (28 + 8 * i)) (parts p d)
-      ∙ field-past 8 (8 * i) 28 (fixedFields p) rest (length-fixed p)
+      ap (field entrySize (entryAt offsetsAt i)) (parts p d)
+      ∙ field-past entrySize (entrySize * i) offsetsAt (fixedFields p) rest (length-fixed p)
       ∙ entry-at i t (sizes p d ++ after-sizes p d) (omega arith)
       (below-filled (256 ^ 8) (packedAt l) placeCount (p .count) (omega arith) (λ j q. let m = packed-small j (omega arith) in omega arith))
 
@@ -196,8 +196,8 @@ module _ (p : Plan) (d : List ℕ) (a : Planned p (length d)) where
   size-entry i h =
       let t : List ℕ = filled (plannedSize l) 0 placeCount (p .count) in
       let n : length t ≡ placeCount = length-filled (plannedSize l) 0 placeCount (p .count) in
-      ap (field 8 (284 + 8 * i)) (parts p d ∙ sym (append-assoc (fixedFields p) (offsets p d) (sizes p d ++ after-sizes p d)))
-      ∙ field-past 8 (8 * i) 284 (fixedFields p ++ offsets p d) (sizes p d ++ after-sizes p d) (length-to-sizes p d)
+      ap (field entrySize (entryAt sizesAt i)) (parts p d ∙ sym (append-assoc (fixedFields p) (offsets p d) (sizes p d ++ after-sizes p d)))
+      ∙ field-past entrySize (entrySize * i) sizesAt (fixedFields p ++ offsets p d) (sizes p d ++ after-sizes p d) (length-to-sizes p d)
       ∙ entry-at i t (after-sizes p d) (omega arith)
       (below-filled (256 ^ 8) (plannedSize l) placeCount (p .count) (omega arith) (λ j q. let m = size-small j q in omega arith))
 
@@ -206,15 +206,15 @@ module _ (p : Plan) (d : List ℕ) (a : Planned p (length d)) where
 
   pub read-reserved-after : reservedAfter (viewOf image) ≡ 0
   read-reserved-after =
-      ap (field 4 540)
+      ap (field 4 reservedAfterAt)
       (parts p d ∙ sym (append-assoc (fixedFields p) (offsets p d) (sizes p d ++ after-sizes p d))
       ∙ sym (append-assoc (fixedFields p ++ offsets p d) (sizes p d) (after-sizes p d)))
-      ∙ field-at 4 0 540 ((fixedFields p ++ offsets p d) ++ sizes p d) (from-sum p d) (length-to-reserved p d) (omega arith)
+      ∙ field-at 4 0 reservedAfterAt ((fixedFields p ++ offsets p d) ++ sizes p d) (from-sum p d) (length-to-reserved p d) (omega arith)
 
   pub read-sum : AreBytes d → checksum (viewOf image) ≡ checksumOf image
   unfolding plainImage checksumOf
   read-sum w =
-      field-at 4 (crc32 (headerBytes p ++ bodyBytes p d)) 544 (headerBytes p) (bodyBytes p d) (length-header p)
+      field-at 4 (crc32 (headerBytes p ++ bodyBytes p d)) checksumAt (headerBytes p) (bodyBytes p d) (length-header p)
       (crc32-lt (headerBytes p ++ bodyBytes p d) (bytes-append (headerBytes p) (bodyBytes p d) (bytes-header p) (bytes-sections l d (p .count) 0 w)))
       ∙ ap crc32 (sym (ap₂ (λ (x y : List ℕ). x ++ y) (before-sum p d) (past-header p d)))
 

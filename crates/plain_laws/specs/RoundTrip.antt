@@ -4,12 +4,11 @@ use Prim.Native.Nat.{ℕ, _^_, _<_, _≤_}
 use mathlib.Core.Path.{_≡_}
 use mathlib.Core.List.{List}
 use lib.ListN.{length}
+use Rattle.eif.specs.Table.{joinFrom}
 use Rattle.octets.specs.Bytes.{AreBytes}
 use Rattle.octets.specs.Over.{over}
-use Rattle.eif.specs.Numbers.{placeCount}
-use Rattle.eif.specs.Layout.{viewOf, reserved, reservedAfter, countOf, offsetAt, sizeAt}
 use Rattle.eif.specs.Reading.{verdictOf, readImage, dataOf}
-use Rattle.eif.specs.Plan.{placeAt, plainSize, pieceAt, planVerdict, plainImage, writeAnswer, writeOutput, planOf, joinFrom, dataJoined}
+use Rattle.eif.specs.Plan.{placeAt, plainSize, pieceAt, planVerdict, plainImage, writeAnswer, writeOutput, planOf, dataJoined}
 use Rattle.eif.specs.declared.Plan.{Plan}
 use Rattle.eif.specs.declared.Verdict.the-variants.{Accepted}
 use Rattle.plain_laws.specs.Packed.{packedSection, packedReading, SamePlan}
@@ -58,13 +57,6 @@ pub record WrittenFrom (s : List ℕ) : Type 0 where
   pub bytes : AreBytes given
   pub not-refused : planVerdict plan (length given) ≡ Accepted
   pub image : plainImage plan given ≡ s
-
--- every reserved field and unused entry is zero
-pub record UnusedZero (s : List ℕ) : Type 0 where
-  pub reserved-zero : reserved (viewOf s) ≡ 0
-  pub reserved-after-zero : reservedAfter (viewOf s) ≡ 0
-  pub unused-offset : (i : ℕ) → countOf s ≤ i → i < placeCount → offsetAt s i ≡ 0
-  pub unused-size : (i : ℕ) → countOf s ≤ i → i < placeCount → sizeAt s i ≡ 0
 
 -- ---- the one plain image
 

@@ -5,6 +5,7 @@ use eif::Refusal;
 use eif::SectionType;
 use eif::Verdict;
 use eif_registers::Digest;
+use sha384_block::DIGEST_SIZE;
 
 // ---- lines
 
@@ -32,9 +33,9 @@ fn answer(verdict: Verdict) {
     }
 }
 
-fn register(name: &[u8], bytes: [u8; 48]) {
+fn register(name: &[u8], bytes: [u8; DIGEST_SIZE]) {
     text(name);
-    for i in 0..48 {
+    for i in 0..DIGEST_SIZE {
         io::print_hex(libc::STDOUT_FILENO, bytes[i] as u64, 2);
     }
     text(b"\n");
@@ -87,7 +88,7 @@ fn put_small(image: &mut [u8], count: u16) {
     put(image, 1, 561, SectionType::COMMAND_LINE, b"a");
 }
 
-// Kernel, command line and three ramdisks, not sealed; 633 bytes.
+// Kernel, command line and three ramdisks, without its checksum; 633 bytes.
 fn put_ordinary(image: &mut [u8]) {
     case_images::put_header(image, 2, 0, 5);
     put(image, 0, 548, SectionType::KERNEL, b"kernel");

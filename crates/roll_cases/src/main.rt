@@ -476,7 +476,7 @@ fn rooms() {
     write(b"the worked image, room 55", &image, &mut long);
 }
 
-fn not_sealed() {
+fn wrong_checksum() {
     let mut image = worked_image();
     octets::put_be16(&mut image, Header::FLAGS_AT, 1);
     let mut out = [0xeeu8; 54];
@@ -661,7 +661,7 @@ fn main() {
     kernels_cut();
     rooms();
     planned();
-    not_sealed();
+    wrong_checksum();
     before_kernel();
     ramdisks_exchanged();
     differ_elsewhere();

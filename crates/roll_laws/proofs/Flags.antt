@@ -14,7 +14,6 @@ use Rattle.octets.proofs.Value.{leField-at}
 use Rattle.octets.specs.Logic.{choose}
 use Rattle.eif.specs.Answers.{refuse}
 use Rattle.eif.specs.Roll.{headOf, flagsType, flagsLength, flagsRecordSize, flagsRecord, flagsFault, rollFlags, restOf, refusedRoll, readRest, readRoll}
-use Rattle.eif.specs.declared.RollReading.{RollReading}
 use Rattle.eif.specs.declared.Verdict.the-variants.{Accepted}
 use Rattle.eif_lemmas.proofs.Verdicts.{never}
 use Rattle.eif_lemmas.proofs.Flags.{length-flags, flags-zero, zero-flags}

@@ -15,15 +15,15 @@ use Rattle.octets.proofs.Value.{bytes-take, bytes-drop, leField-lt}
 use Rattle.eif.specs.Numbers.{placeCount, oldestVersion, kernel, commandLine, ramdisk}
 use Rattle.octets.specs.Logic.{choose, either}
 use Rattle.eif.specs.Rules.{allowedIn, seen, bootType, orderFault, bootMissing, missing}
-use Rattle.eif.specs.Table.{filled}
+use Rattle.eif.specs.Table.{filled, joinFrom}
 use Rattle.eif.specs.Reading.{verdictOf, blankSection, dataOf}
-use Rattle.eif.specs.Plan.{blankPlace, placeAt, plannedKind, plannedSize, packedAt, plainImage, joinFrom}
+use Rattle.eif.specs.Plan.{blankPlace, placeAt, plannedKind, plannedSize, packedAt, plainImage}
 use Rattle.eif.specs.Roll.{Record, recordHeadSize, headOf, flagsRecordSize, flagsRecord, rollOf, recordFor, recordsIn, recordsOf, rollBytes, rollFlags, restOf, recordAt, recordSize, recordKind, sizeAsImage, readRest, readRoll}
 use Rattle.eif.specs.declared.Plan.{Plan}
 use Rattle.eif.specs.declared.Place.{Place}
 use Rattle.eif.specs.declared.Section.{Section}
 use Rattle.eif.specs.declared.Verdict.the-variants.{Accepted}
-use Rattle.eif_lemmas.proofs.Logic.{not-both, either-false}
+use Rattle.octets.proofs.Logic.{not-both, either-false}
 use Rattle.eif_lemmas.proofs.Types.{order-same, missing-same}
 use Rattle.eif_lemmas.proofs.Table.{filled-at, filled-none}
 use Rattle.plain_laws.proofs.Shape.{packed-suc, packed-zero, bytes-plain}

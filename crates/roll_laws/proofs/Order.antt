@@ -15,7 +15,7 @@ use Rattle.eif.specs.Table.{filled}
 use Rattle.eif.specs.Reading.{blankSection}
 use Rattle.eif.specs.Roll.{Record, recordFor, recordsIn}
 use Rattle.eif.specs.declared.Section.{Section}
-use Rattle.eif_lemmas.proofs.Logic.{not-both}
+use Rattle.octets.proofs.Logic.{not-both}
 use Rattle.eif_lemmas.proofs.Table.{filled-none}
 use Rattle.roll_laws.proofs.Positions.{blank}
 use Rattle.roll_laws.proofs.ImageOfRoll.{none-in}
@@ -74,11 +74,11 @@ pub record Follows (kinds : ℕ → ℕ) (i : ℕ) (e : List ℕ) (rs : List Rec
   pub ordered : Ordered e rs
   pub knows : Knows kinds i (kindsAfter e rs)
 
-module _ (s : List ℕ) (kinds : ℕ → ℕ) where
-  -- the records of the later of m places
-  abbrev later : (ℕ → Section) → ℕ → ℕ → List Record
-  later f m n = recordsIn s (filled (λ j. f (suc j)) blankSection m n)
+-- the records of the later of m places
+abbrev pub laterRecords : List ℕ → (ℕ → Section) → ℕ → ℕ → List Record
+laterRecords s f m n = recordsIn s (filled (λ j. f (suc j)) blankSection m n)
 
+module _ (s : List ℕ) (kinds : ℕ → ℕ) where
   follow : (x : Section) (rest : List Record) (i n : ℕ) (e : List ℕ) → x .kind ≡ kinds i → orderFault kinds (kinds i) i ≡ 0 → Knows kinds i e
       → ((e : List ℕ) → Knows kinds (suc i) e → Follows kinds n e rest)
       → (b : Bool) → bootType (x .kind) ≡ b → Follows kinds n e (choose b (recordFor s x ∷ rest) rest)
@@ -99,13 +99,13 @@ module _ (s : List ℕ) (kinds : ℕ → ℕ) where
   order-of-sections (suc m) (suc n) i f e h q o k =
       let z : i + 0 ≡ i = omega arith in
       let y : suc i + n ≡ i + suc n = omega arith in
-      let again : (e : List ℕ) → Knows kinds (suc i) e → Follows kinds (suc i + n) e (later f m n) =
+      let again : (e : List ℕ) → Knows kinds (suc i) e → Follows kinds (suc i + n) e (laterRecords s f m n) =
       λ e k.
       order-of-sections m n (suc i) (λ j. f (suc j)) e (omega arith)
       (λ j l. let r : i + suc j ≡ suc i + j = omega arith in q (suc j) (omega arith) ∙ ap kinds r)
       (λ j l. let r : i + suc j ≡ suc i + j = omega arith in subst (λ (a : ℕ). orderFault kinds (kinds a) a ≡ 0) r (o (suc j) (omega arith))) k in
-      subst (λ (a : ℕ). Follows kinds a e (choose (bootType (f 0 .kind)) (recordFor s (f 0) ∷ later f m n) (later f m n))) y
-      (follow (f 0) (later f m n) i (suc i + n) e (q 0 (omega arith) ∙ ap kinds z)
+      subst (λ (a : ℕ). Follows kinds a e (choose (bootType (f 0 .kind)) (recordFor s (f 0) ∷ laterRecords s f m n) (laterRecords s f m n))) y
+      (follow (f 0) (laterRecords s f m n) i (suc i + n) e (q 0 (omega arith) ∙ ap kinds z)
       (subst (λ (a : ℕ). orderFault kinds (kinds a) a ≡ 0) z (o 0 (omega arith))) k again (bootType (f 0 .kind)) refl)
 
 -- ---- from records to their places in a roll

@@ -21,7 +21,7 @@ use Rattle.eif.specs.Reading.{verdictOf, sectionAt, blankSection, sectionsOf, d
 use Rattle.eif.specs.Roll.{Record, headOf, flagsRecord, rollOf, recordFor, recordsIn, recordsOf, rollBytes, recordAt, recordSize, recordKind, sizeAsImage}
 use Rattle.eif.specs.declared.Section.{Section}
 use Rattle.eif.specs.declared.Verdict.the-variants.{Accepted}
-use Rattle.eif_lemmas.proofs.Logic.{both-true, either-false}
+use Rattle.octets.proofs.Logic.{both-true, either-false}
 use Rattle.eif_lemmas.proofs.Table.{filled-none, length-filled}
 use Rattle.eif_lemmas.proofs.Accept.{none-missing-of, order-at}
 use Rattle.eif_lemmas.proofs.Flags.{length-flags}
@@ -31,7 +31,7 @@ use Rattle.roll_laws.proofs.RollRules.{WholeRoll}
 use Rattle.roll_laws.proofs.Prefix.{Fit}
 use Rattle.roll_laws.proofs.Positions.{first-size, next-size, blank, suffix, sizes, kinds}
 use Rattle.roll_laws.proofs.ImageOfRoll.{boot-there, none-in, known-in-roll}
-use Rattle.roll_laws.proofs.Order.{AllInRoll, Types, Follows, knows-none, knows-both, knows-after, order-of-sections, order-of-records}
+use Rattle.roll_laws.proofs.Order.{laterRecords, AllInRoll, Types, Follows, knows-none, knows-both, knows-after, order-of-sections, order-of-records}
 
 -- ---- records that an image can hold
 
@@ -89,28 +89,24 @@ records-few s (x ∷ xs) = one (records-few s xs) (bootType (x .kind))
 -- ---- sizes
 
 -- what records would take in an image
-unfoldable sumOf : List Record → ℕ
-sumOf [] = 0
-sumOf (r ∷ rs) = sectionHeaderSize + length (r .bytes) + sumOf rs
+unfoldable recordsSum : List Record → ℕ
+recordsSum [] = 0
+recordsSum (r ∷ rs) = sectionHeaderSize + length (r .bytes) + recordsSum rs
 
-sum-cons : (r : Record) (rs : List Record) → sumOf (r ∷ rs) ≡ sectionHeaderSize + length (r .bytes) + sumOf rs
-unfolding sumOf
+sum-cons : (r : Record) (rs : List Record) → recordsSum (r ∷ rs) ≡ sectionHeaderSize + length (r .bytes) + recordsSum rs
+unfolding recordsSum
 sum-cons r rs = refl
 
 module _ (s : List ℕ) (ok : verdictOf s ≡ Accepted) where
-  -- the records of the later of m places
-  abbrev later : (ℕ → Section) → ℕ → ℕ → List Record
-  later f m n = recordsIn s (filled (λ j. f (suc j)) blankSection m n)
-
   sum-one : (x : Section) (rest : List Record) (i top : ℕ) → length (dataOf s x) ≤ sizeAt s i → offsetAt s i ≡ startAt s i
-      → startAt s (suc i) + sumOf rest ≤ top → (b : Bool) → startAt s i + sumOf (choose b (recordFor s x ∷ rest) rest) ≤ top
-  unfolding sumOf
+      → startAt s (suc i) + recordsSum rest ≤ top → (b : Bool) → startAt s i + recordsSum (choose b (recordFor s x ∷ rest) rest) ≤ top
+  unfolding recordsSum
   sum-one x rest i top e b r true = le-trans (omega arith) r
   sum-one x rest i top e b r false = le-trans (omega arith) r
 
   sum-le : (m n i : ℕ) (f : ℕ → Section) → n ≤ m → i + n ≤ countOf s → ((j : ℕ) → j < n → f j ≡ sectionAt s (i + j))
-      → startAt s i + sumOf (recordsIn s (filled f blankSection m n)) ≤ startAt s (i + n)
-  unfolding recordsIn sumOf
+      → startAt s i + recordsSum (recordsIn s (filled f blankSection m n)) ≤ startAt s (i + n)
+  unfolding recordsIn recordsSum
   sum-le m zero i f h g q =
       let z : i + 0 ≡ i = omega arith in
       let e : recordsIn s (filled f blankSection m 0) ≡ [] = ap (recordsIn s) (filled-none f blankSection m) ∙ none-in s m in
@@ -121,16 +117,16 @@ module _ (s : List ℕ) (ok : verdictOf s ≡ Accepted) where
       let y : suc i + n ≡ i + suc n = omega arith in
       let r = sum-le m n (suc i) (λ j. f (suc j)) (omega arith) (omega arith) (λ j l. let t : i + suc j ≡ suc i + j = omega arith in q (suc j) (omega arith) ∙ ap (sectionAt s) t) in
       let e : length (dataOf s (f 0)) ≤ sizeAt s i = rw (q 0 (omega arith) ∙ ap (sectionAt s) z) (simp length-take (omega arith)) in
-      subst (λ (a : ℕ). startAt s i + sumOf (choose (bootType (f 0 .kind)) (recordFor s (f 0) ∷ later f m n) (later f m n)) ≤ startAt s a) y
-      (sum-one (f 0) (later f m n) i (startAt s (suc i + n)) e (entry s ok i (omega arith) .starts) r (bootType (f 0 .kind)))
+      subst (λ (a : ℕ). startAt s i + recordsSum (choose (bootType (f 0 .kind)) (recordFor s (f 0) ∷ laterRecords s f m n) (laterRecords s f m n)) ≤ startAt s a) y
+      (sum-one (f 0) (laterRecords s f m n) i (startAt s (suc i + n)) e (entry s ok i (omega arith) .starts) r (bootType (f 0 .kind)))
 
   -- the records fit in the image, after its header
-  sum-small : headerSize + sumOf (recordsOf s) ≤ length s
+  sum-small : headerSize + recordsSum (recordsOf s) ≤ length s
   sum-small =
       let a = sum-le placeCount (countOf s) 0 (sectionAt s) (head s ok .few) (omega arith) (λ j l. let z : j ≡ 0 + j = omega arith in ap (sectionAt s) z) in
       let b = start-inside s ok (countOf s) refl in
       let z : 0 + countOf s ≡ countOf s = omega arith in
-      let c = subst (λ (x : ℕ). headerSize + sumOf (recordsOf s) ≤ startAt s x) z a in
+      let c = subst (λ (x : ℕ). headerSize + recordsSum (recordsOf s) ≤ startAt s x) z a in
       le-trans c b
 
 -- ---- the roll of records
@@ -140,8 +136,8 @@ unfolding rollOf headOf
 length-roll [] = omega arith
 length-roll (r ∷ rs) = omega arith
 
-roll-le : (rs : List Record) → length (rollOf rs) ≤ 10 + sumOf rs
-unfolding rollOf sumOf headOf
+roll-le : (rs : List Record) → length (rollOf rs) ≤ 10 + recordsSum rs
+unfolding rollOf recordsSum headOf
 roll-le [] = omega arith
 roll-le (r ∷ rs) = let e = roll-le rs in simp length-append (omega arith)
 
@@ -196,11 +192,11 @@ module _ (rs : List Record) (held : AllHeld rs) where
   end-kind-is : recordKind t n ≡ 0
   end-kind-is = leField-drop 2 8 (recordAt t n) t ∙ ap (leField 2 8) at-end ∙ end-kind
 
-  sizes-sum : (i : ℕ) → i ≤ n → sizeAsImage t i + sumOf (drop i rs) ≡ headerSize + sumOf rs
-  sizes-sum zero h = ap (λ (x : ℕ). x + sumOf rs) (first-size t)
+  sizes-sum : (i : ℕ) → i ≤ n → sizeAsImage t i + recordsSum (drop i rs) ≡ headerSize + recordsSum rs
+  sizes-sum zero h = ap (λ (x : ℕ). x + recordsSum rs) (first-size t)
   sizes-sum (suc i) h =
       let r = sizes-sum i (omega arith) in
-      let e = ap sumOf (drop-cons rs i blank h) ∙ sum-cons (getD rs i blank) (drop (suc i) rs) in
+      let e = ap recordsSum (drop-cons rs i blank h) ∙ sum-cons (getD rs i blank) (drop (suc i) rs) in
       let z = sizes rs fit i h in
       let q = next-size t i in
       omega arith

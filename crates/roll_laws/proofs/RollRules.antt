@@ -17,7 +17,7 @@ use Rattle.eif.specs.Table.{filled}
 use Rattle.eif.specs.Roll.{recordHeadSize, endType, recordAt, recordSize, recordKind, isEnd, headFault, bodyFault, Ending, ended, stopped, endFrom, sizeAsImage, rollFault, endVerdict, listedAt, blankRecord, acceptedRoll, refusedRoll, rollAnswerFor, readRest}
 use Rattle.eif.specs.declared.RollReading.{RollReading}
 use Rattle.eif.specs.declared.Verdict.the-variants.{Accepted}
-use Rattle.eif_lemmas.proofs.Logic.{choose-zero}
+use Rattle.octets.proofs.Logic.{choose-zero}
 use Rattle.eif_lemmas.proofs.Verdicts.{never}
 
 -- what the accepted rest of a roll has, if it has n records

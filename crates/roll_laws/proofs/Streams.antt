@@ -131,7 +131,7 @@ module _ (s : List ℕ) (ok : verdictOf s ≡ Accepted) where
       ∙ take-at (listFrom flagsRecordSize rs) (replicate (placeCount - length rs) blankRecord) (length rs) (length-list flagsRecordSize rs)
 
   -- Each stream is what it keeps of the image's roll with the heads taken out.
-  pub stream-in-roll : (stream : Stream) → streamOf s stream ≡ streamInRoll stream t
+  pub stream-in-roll : (stream : Stream) → streamOf s stream ≡ streamInRoll stream (rollBytes s)
   unfolding streamOf streamInRoll
   stream-in-roll stream =
       let rs = recordsOf s in
@@ -142,7 +142,7 @@ module _ (s : List ℕ) (ok : verdictOf s ≡ Accepted) where
       ∙ kept-records s stream 0 (sectionsOf s))
 
   -- Whole is the image's roll with the heads taken out.
-  pub whole-is-roll : streamOf s Whole ≡ withoutHeads t
+  pub whole-is-roll : streamOf s Whole ≡ withoutHeads (rollBytes s)
   unfolding withoutHeads streamOf
   whole-is-roll =
       let rs = recordsOf s in

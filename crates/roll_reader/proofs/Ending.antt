@@ -20,7 +20,7 @@ use Rattle.eif.specs.Roll.{recordHeadSize, flagsRecordSize, endType, Ending, en
 use Rattle.eif.specs.declared.Refusal.{Refusal}
 use Rattle.eif.specs.declared.RollRecord.{RollRecord}
 use Rattle.eif.specs.declared.Verdict.the-variants.{Accepted, Refused}
-use Rattle.eif_lemmas.proofs.Logic.{zero-or}
+use Rattle.octets.proofs.Logic.{zero-or}
 use Rattle.eif_lemmas.proofs.Verdicts.{never}
 use Rattle.roll_reader.specs.declared.Walked.{Walked}
 use Rattle.roll_reader.specs.Walk.{recordFault, stoppedWith, stoppedAt, endedAt, walkFor, walkOf}

@@ -13,7 +13,7 @@ use Rattle.eif.specs.Numbers.{placeCount, ramdisk, wrongCount, recordCut, recor
 use Rattle.eif.specs.Table.{filled}
 use Rattle.eif.specs.Rules.{orderFault, bootMissing}
 use Rattle.eif.specs.Roll.{recordHeadSize, flagsRecordSize, endType, recordAt, recordSize, recordKind, listedAt, headFault, bodyFault}
-use Rattle.eif_lemmas.proofs.Logic.{choose-zero, zero-or}
+use Rattle.octets.proofs.Logic.{choose-zero, zero-or}
 use Rattle.eif_lemmas.proofs.Table.{filled-at, length-filled}
 use Rattle.roll_reader.specs.Walk.{recordFault}
 use Rattle.type_judge.specs.Kinds.{listedKind}

@@ -8,8 +8,8 @@ use native.Mathlib.Omega.{arith}
 use lib.ListN.{length}
 use Rattle.eif.specs.Numbers.{sizeLimit, placeCount}
 use Rattle.eif.specs.Layout.{headerFlagsOf, countOf}
-use Rattle.eif.specs.Reading.{verdictOf, blankSection, sectionAt, sectionsOf, dataOf, readImage}
-use Rattle.eif.specs.Roll.{flagsRecordSize, flagsRecord, rollOf, recordsOf, rollBytes}
+use Rattle.eif.specs.Reading.{verdictOf, blankSection, sectionAt, sectionsOf, readImage}
+use Rattle.eif.specs.Roll.{flagsRecordSize, flagsRecord, rollOf, rollBytes}
 use Rattle.eif.specs.declared.Reading.{Reading}
 use Rattle.eif.specs.declared.Section.{Section}
 use Rattle.eif.specs.declared.Verdict.the-variants.{Accepted}

@@ -2,13 +2,13 @@
 -- Assumes nothing.
 use Prim.Native.Nat.{ℕ, zero, suc, _+_, _-_, _*_, _/_, _%_, _^_, _<_, _≤_}
 use mathlib.Core.Path.{_≡_, refl, sym, ap, ap₂, _∙_}
-use mathlib.Core.List.{List, [], _∷_, _++_, append-assoc}
+use mathlib.Core.List.{List, _∷_, _++_, append-assoc}
 use native.Mathlib.Omega.{arith}
 use native.Mathlib.Numerals.{add-one}
 use native.Mathlib.Nat.{zero-add, suc-add, zero-mul, mul-comm, div-div-eq-div-mul}
 use lib.Pow.{pow-add}
-use lib.ListN.{length, take, drop, set, replicate, length-append, length-take, length-replicate}
-use lib.Seq.{take-at, take-length}
+use lib.ListN.{length, take, drop, set, replicate, length-append, length-replicate}
+use lib.Seq.{take-at}
 use Rattle.octets.specs.Bytes.{beFrom, beValue, beBytes}
 use Rattle.octets.specs.Over.{over}
 use Rattle.octets.proofs.Over.{over-append, over-parts}

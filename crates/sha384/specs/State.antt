@@ -9,7 +9,7 @@ use Rattle.eif.specs.Numbers.{messageTooLong}
 use Rattle.octets.specs.Logic.{choose}
 use Rattle.eif.specs.Answers.{refuse}
 use Rattle.eif.specs.declared.Verdict.the-variants.{Accepted}
-use Rattle.sha384_block.specs.Fips.{compress, padding, initialHash, hashBlocks, digestOf}
+use Rattle.sha384_block.specs.Fips.{blockSize, compress, padding, initialHash, hashBlocks, digestOf}
 use Rattle.sha384.specs.declared.Filling.{Filling}
 use Rattle.sha384.specs.declared.State.{State}
 use Rattle.sha384.specs.declared.Updated.{Updated}
@@ -17,7 +17,7 @@ use Rattle.sha384.specs.declared.Updated.{Updated}
 -- ---- a block that is being filled
 
 unfoldable pub noBytes : List ℕ
-noBytes = replicate 128 0
+noBytes = replicate blockSize 0
 
 -- nothing of the next block yet
 unfoldable pub newBlock : List ℕ → Filling
@@ -27,7 +27,7 @@ newBlock words = record { words = words; block = noBytes; used = 0 }
 unfoldable pub takeByte : Filling → ℕ → Filling
 takeByte m b =
     let block = set (m .block) (m .used) b in
-    choose (eqb (m .used) 127)
+    choose (eqb (m .used) (blockSize - 1))
     (newBlock (compress (m .words) block))
     (record { words = m .words; block = block; used = m .used + 1 })
 
@@ -41,7 +41,7 @@ unfoldable pub initialState : State
 initialState = record { words = initialHash; block = noBytes; total = 0 }
 
 abbrev pub fillingOf : State → Filling
-fillingOf st = record { words = st .words; block = st .block; used = st .total % 128 }
+fillingOf st = record { words = st .words; block = st .block; used = st .total % blockSize }
 
 -- the state after bytes
 unfoldable pub absorbed : State → List ℕ → State
@@ -70,7 +70,7 @@ unfoldable pub stateAfter : List ℕ → State
 stateAfter s =
     let n = length s in
     record {
-      words = hashBlocks (n / 128) initialHash s;
-      block = drop (n / 128 * 128) s ++ replicate (128 - n % 128) 0;
+      words = hashBlocks (n / blockSize) initialHash s;
+      block = drop (n / blockSize * blockSize) s ++ replicate (blockSize - n % blockSize) 0;
       total = n;
     }

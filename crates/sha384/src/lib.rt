@@ -4,25 +4,28 @@
 // more than once. Every public function is total: each contract holds for any state, and the laws of a state begun fresh are in
 // sha384_laws.
 ghost use mathlib.Core.Path.{_≡_};
-ghost use Prim.Native.Nat.{_+_, _<_, _≤_, min};
+ghost use Prim.Native.Nat.{_+_, _<_, _≤_};
 ghost use lib.Dec.{ltb};
 ghost use lib.ListN.{length, take};
-ghost use Rattle.sha384_block.specs.Fips.{roundConstants, digestOf, padding, zerosFor};
+ghost use Rattle.sha384_block.specs.Fips.{blockSize, roundConstants, digestOf, padding, zerosFor};
 ghost use Rattle.sha384.specs.State.{noBytes, takeBytes, initialState, totalLimit, updated, digestFrom};
 use eif::Refusal;
 use eif::Verdict;
+use sha384_block::BLOCK_SIZE;
+use sha384_block::DIGEST_SIZE;
 
 // The most bytes that one digest is of.
 pub const TOTAL_LIMIT: u64 = 0x1FFFFFFFFFFFFFFF;
 
-const BLOCK: usize = 128;
+// A block's size, as totals are counted.
+const BLOCK: u64 = BLOCK_SIZE as u64;
 
 // The hash value of the whole blocks so far, the bytes of the block that is being filled (the others zero), and how many bytes were
 // taken in all.
 #[repr(C)]
 pub struct State {
     pub words: [u64; 8],
-    pub block: [u8; BLOCK],
+    pub block: [u8; BLOCK_SIZE],
     pub total: u64,
 }
 
@@ -35,28 +38,22 @@ pub struct Updated {
 // The same as a state, but for the total: how many bytes of the block are there.
 pub struct Filling {
     pub words: [u64; 8],
-    pub block: [u8; BLOCK],
+    pub block: [u8; BLOCK_SIZE],
     pub used: usize,
 }
 
 // ---- pieces
 
-fn lesser(a: usize, b: usize) -> usize
-    ensures { λ r. ⌜ r ≡ min a b ⌝ }
-{
-    if a < b { a } else { b }
-}
-
 // A block before its first byte.
-fn no_bytes() -> [u8; BLOCK]
+fn no_bytes() -> [u8; BLOCK_SIZE]
     ensures { λ r. ⌜ r ≡ noBytes ⌝ }
 {
-    [0u8; BLOCK]
+    [0u8; BLOCK_SIZE]
 }
 
 // Bytes for which the block has room. A whole block is hashed where it lies.
 fn fill(from: Filling, part: &[u8], k: &[u64; 80]) -> Filling
-    requires { ⌜ (0 < length (now part)) × (from .used + length (now part) ≤ 128) ⌝ }
+    requires { ⌜ (0 < length (now part)) × (from .used + length (now part) ≤ blockSize) ⌝ }
     requires { ⌜ now k ≡ roundConstants ⌝ }
     ensures { λ r. ⌜ r ≡ takeBytes from (now (part .entry)) ⌝ }
 {
@@ -64,7 +61,7 @@ fn fill(from: Filling, part: &[u8], k: &[u64; 80]) -> Filling
     let mut block = from.block;
     let used = from.used;
     let size = part.len();
-    if size == BLOCK {
+    if size == BLOCK_SIZE {
         let whole = sha384_block::compress(words, part, k);
         let none = no_bytes();
         return Filling {
@@ -74,7 +71,7 @@ fn fill(from: Filling, part: &[u8], k: &[u64; 80]) -> Filling
         };
     }
     octets::copy(&mut block, used, part);
-    if used + size == BLOCK {
+    if used + size == BLOCK_SIZE {
         let full = sha384_block::compress(words, &block, k);
         let next = no_bytes();
         return Filling {
@@ -91,7 +88,7 @@ fn fill(from: Filling, part: &[u8], k: &[u64; 80]) -> Filling
 }
 
 fn take_bytes(from: Filling, s: &[u8]) -> Filling
-    requires { ⌜ from .used < 128 ⌝ }
+    requires { ⌜ from .used < blockSize ⌝ }
     ensures { λ r. ⌜ r ≡ takeBytes from (now (s .entry)) ⌝ }
 {
     let k = sha384_block::constants();
@@ -99,7 +96,7 @@ fn take_bytes(from: Filling, s: &[u8]) -> Filling
     let mut i: usize = 0;
     while i < s.len() {
         let used = m.used;
-        let size = lesser(BLOCK - used, s.len() - i);
+        let size = octets::lesser(BLOCK_SIZE - used, s.len() - i);
         let end = i + size;
         let next = fill(m, &s[i..end], &k);
         m = next;
@@ -148,7 +145,7 @@ pub fn update(state: State, piece: &[u8]) -> Updated
     let from = Filling {
         words,
         block,
-        used: (total % 128) as usize,
+        used: (total % BLOCK) as usize,
     };
     let after = take_bytes(from, piece);
     let words_after = after.words;
@@ -166,11 +163,11 @@ pub fn update(state: State, piece: &[u8]) -> Updated
 
 // ---- the digest
 
-// The digest of a hash value: its first 48 bytes.
-fn digest(words: [u64; 8]) -> [u8; 48]
+// The digest of a hash value: its first bytes.
+fn digest(words: [u64; 8]) -> [u8; DIGEST_SIZE]
     ensures { λ r. ⌜ r ≡ digestOf words ⌝ }
 {
-    let mut out = [0u8; 48];
+    let mut out = [0u8; DIGEST_SIZE];
     let mut i: usize = 0;
     while i < 6 {
         octets::put_be64(&mut out, 8 * i, words[i]);
@@ -183,7 +180,7 @@ fn digest(words: [u64; 8]) -> [u8; 48]
 fn zeros_for(total: u64) -> usize
     ensures { λ r. ⌜ r ≡ zerosFor total ⌝ }
 {
-    ((239 - total % 128) % 128) as usize
+    ((239 - total % BLOCK) % BLOCK) as usize
 }
 
 // The padding of a message of so many bytes: one byte, as many zeros as it takes, and the length in bits, after which nothing of the
@@ -200,7 +197,7 @@ fn padding_of(total: u64, zeros: usize) -> [u8; 144]
 }
 
 // The digest of all bytes that were taken in.
-pub fn finish(state: State) -> [u8; 48]
+pub fn finish(state: State) -> [u8; DIGEST_SIZE]
     ensures { λ r. ⌜ r ≡ digestFrom state ⌝ }
 {
     let total = state.total;
@@ -209,7 +206,7 @@ pub fn finish(state: State) -> [u8; 48]
     let from = Filling {
         words,
         block,
-        used: (total % 128) as usize,
+        used: (total % BLOCK) as usize,
     };
     let zeros = zeros_for(total);
     let pad = padding_of(total, zeros);

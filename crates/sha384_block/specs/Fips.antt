@@ -8,6 +8,14 @@ use lib.ListN.{length, take, drop, getD, replicate}
 use Rattle.octets.specs.Bytes.{beBytes, field}
 use Rattle.sha384_block.specs.declared.Vars.{Vars}
 
+-- ---- section 1, figure 1: a block is of 1024 bits and a digest of 384, here counted in bytes
+
+abbrev pub blockSize : ℕ
+blockSize = 128
+
+abbrev pub digestSize : ℕ
+digestSize = 48
+
 -- ---- sections 2.2.2 and 3.2: operations on words
 
 -- x shifted right by n, shifted left by n, and rotated right by n
@@ -71,9 +79,9 @@ roundConstants =
 
 -- ---- section 5.1.2: the padding of a message of n bytes: a one bit, zero bits, and the length in bits as a number of 128 bits
 
--- how many zero bytes make the whole a multiple of 128 bytes
+-- how many zero bytes make the whole a multiple of a block
 abbrev pub zerosFor : ℕ → ℕ
-zerosFor n = (239 - n % 128) % 128
+zerosFor n = (239 - n % blockSize) % blockSize
 
 unfoldable pub padding : ℕ → List ℕ
 padding n = 0x80 ∷ (replicate (zerosFor n) 0 ++ beBytes 16 (8 * n))
@@ -156,7 +164,7 @@ nextHash x v =
     (v .a + getD x 0 0) % 2 ^ 64 ∷ (v .b + getD x 1 0) % 2 ^ 64 ∷ (v .c + getD x 2 0) % 2 ^ 64 ∷ (v .d + getD x 3 0) % 2 ^ 64
     ∷ (v .e + getD x 4 0) % 2 ^ 64 ∷ (v .f + getD x 5 0) % 2 ^ 64 ∷ (v .g + getD x 6 0) % 2 ^ 64 ∷ (v .h + getD x 7 0) % 2 ^ 64 ∷ []
 
--- the hash value after a block of 128 bytes, by given round constants, and by the standard's
+-- the hash value after a block, by given round constants, and by the standard's
 unfoldable pub compressBy : List ℕ → List ℕ → List ℕ → List ℕ
 compressBy ks x block = nextHash x (rounds 80 0 ks (schedule block) (varsOf x))
 
@@ -168,7 +176,7 @@ compress x block = compressBy roundConstants x block
 -- the hash value after n blocks
 unfoldable pub hashBlocks : ℕ → List ℕ → List ℕ → List ℕ
 hashBlocks zero x s = x
-hashBlocks (suc n) x s = hashBlocks n (compress x (take 128 s)) (drop 128 s)
+hashBlocks (suc n) x s = hashBlocks n (compress x (take blockSize s)) (drop blockSize s)
 
 -- words as bytes
 unfoldable pub wordBytes : List ℕ → List ℕ
@@ -177,9 +185,9 @@ wordBytes (w ∷ ws) = beBytes 8 w ++ wordBytes ws
 
 -- the first 384 bits of a hash value
 unfoldable pub digestOf : List ℕ → List ℕ
-digestOf x = take 48 (wordBytes x)
+digestOf x = take digestSize (wordBytes x)
 
 unfoldable pub sha384 : List ℕ → List ℕ
 sha384 s =
     let padded = s ++ padding (length s) in
-    digestOf (hashBlocks (length padded / 128) initialHash padded)
+    digestOf (hashBlocks (length padded / blockSize) initialHash padded)

@@ -1,10 +1,14 @@
 // SHA-384's work on one block (FIPS 180-4, section 6.4.2): the hash value after a block of 128 bytes.
 ghost use mathlib.Core.Path.{_≡_};
-ghost use Prim.Native.Nat.{_+_, _*_, _%_, _^_, _≤_};
+ghost use Prim.Native.Nat.{_+_, _*_, _%_, _^_};
 ghost use lib.ListN.{take};
-ghost use Rattle.octets.specs.Bytes.{field};
 ghost use Rattle.sha384_block.specs.Fips.{ch, maj, bigSigma0, bigSigma1, smallSigma0, smallSigma1, roundConstants, initialHash, wordsFrom, extend, round, rounds, varsOf, nextHash, compressBy};
 use std::num::wrapping_add_u64;
+
+// The bytes of a block, and those of a digest.
+pub const BLOCK_SIZE: usize = 128;
+
+pub const DIGEST_SIZE: usize = 48;
 
 // The hash value before the first block (FIPS 180-4, section 5.3.4).
 const INITIAL: [u64; 8] = [

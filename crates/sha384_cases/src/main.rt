@@ -5,6 +5,7 @@ use eif::Refusal;
 use eif::Verdict;
 use libc::STDOUT_FILENO;
 use sha384::State;
+use sha384_block::DIGEST_SIZE;
 
 fn text(bytes: &[u8]) {
     io::write_all(STDOUT_FILENO, bytes);
@@ -19,7 +20,7 @@ fn show(label: &[u8], state: State) {
     let digest = sha384::finish(state);
     text(label);
     text(b" ");
-    for i in 0..48 {
+    for i in 0..DIGEST_SIZE {
         io::print_hex(STDOUT_FILENO, digest[i] as u64, 2);
     }
     text(b"\n");

@@ -2,9 +2,9 @@
 -- Assumes nothing.
 use Prim.Native.Nat.{ℕ, _+_, _-_, _*_, _%_, _≤_}
 use mathlib.Core.Path.{_≡_, refl}
-use mathlib.Core.Bool.{Bool, true, false}
+use mathlib.Core.Bool.{true}
 use native.Mathlib.Omega.{arith}
-use lib.ListN.{length, take, drop}
+use lib.ListN.{take, drop}
 use Rattle.sha384_block.specs.Fips.{roundConstants, initialHash, zerosFor}
 use Rattle.sha384_laws.specs.Roots.{dividedUpTo, primesFrom, fractionOfRoot, fractionsOfRoots}
 

@@ -1,28 +1,20 @@
 -- What a staged view that is not refused says of the base, the two numbers and the image written afresh, and back.
 -- Assumes nothing.
 use Prim.Native.Nat.{ℕ, _<_, _≤_}
-use mathlib.Core.Path.{_≡_, refl, ap}
-use mathlib.Core.Bool.{Bool, true, false}
+use mathlib.Core.Path.{_≡_, ap}
 use mathlib.Core.List.{List}
 use native.Mathlib.Omega.{arith}
 use borrow.Author.Tests.{leb-false, ltb-false, lt-leb, le-ltb}
 use Rattle.eif.specs.Numbers.{sizeLimit}
-use Rattle.octets.specs.Logic.{choose}
 use Rattle.eif.specs.Layout.{countOf}
 use Rattle.eif.specs.Reading.{verdictOf, readImage}
 use Rattle.eif.specs.Plan.{plainSize}
 use Rattle.staged.specs.Staged.{stagedPlan, stagedVerdict}
 use Rattle.eif.specs.declared.Reading.{Reading}
-use Rattle.eif.specs.declared.Refusal.{Refusal}
-use Rattle.eif.specs.declared.Verdict.{Verdict}
-use Rattle.eif.specs.declared.Verdict.the-variants.{Accepted, Refused}
-use Rattle.eif_lemmas.proofs.Logic.{either-false}
+use Rattle.eif.specs.declared.Verdict.the-variants.{Accepted}
+use Rattle.octets.proofs.Logic.{either-false}
 use Rattle.eif_lemmas.proofs.Reading.{reading-accepted}
-use Rattle.eif_lemmas.proofs.Verdicts.{never, then-accepted}
-
-unless-refused : (r : Refusal) (v : Verdict) (b : Bool) → choose b (Refused r) v ≡ Accepted → (b ≡ false) × (v ≡ Accepted)
-unless-refused r v true e = never r e
-unless-refused r v false e = (refl, e)
+use Rattle.eif_lemmas.proofs.Verdicts.{then-accepted, refused-not}
 
 pub record Stages (s : List ℕ) (size k j : ℕ) : Type 0 where
   pub accepted : verdictOf s ≡ Accepted
@@ -40,9 +32,9 @@ module _ (s : List ℕ) (size k j : ℕ) where
   staged→ e =
       let a = then-accepted _ _ e in
       let n = count-is s (a .0) in
-      let b = unless-refused _ _ _ (a .1) in
+      let b = refused-not _ _ _ (a .1) in
       let c = either-false _ _ (b .0) in
-      let d = unless-refused _ _ _ (b .1) in
+      let d = refused-not _ _ _ (b .1) in
       let kc : k < readImage s .count = leb-false _ _ (c .0) in
       let jc : j < readImage s .count = leb-false _ _ (c .1) in
       record { accepted = a .0; replaced = omega arith; shown = omega arith; small = ltb-false _ _ (d .0) }

@@ -9,19 +9,20 @@ use borrow.Author.Tests.{eq-eqb, ne-eqb}
 use lib.Dec.{eqb}
 use lib.ListN.{length, take, drop, getD, set, length-map}
 use lib.Seq.{getD-set-same, getD-set-other}
+use Rattle.eif.specs.Table.{joinFrom}
 use Rattle.eif.specs.Numbers.{sizeLimit, placeCount}
 use Rattle.octets.specs.Logic.{choose}
 use Rattle.eif.specs.Rules.{allowedIn, orderFault}
 use Rattle.eif.specs.Layout.{versionOf, countOf, kindAt, sizeAt, sectionHeaderSize}
 use Rattle.eif.specs.Reading.{verdictOf, blankSection, sectionAt, sectionsOf, dataOf}
-use Rattle.eif.specs.Plan.{blankPlace, placeAt, plannedKind, plannedSize, plainSize, plainImage, placeOf, planOf, joinFrom}
+use Rattle.eif.specs.Plan.{blankPlace, placeAt, plannedKind, plannedSize, plainSize, plainImage, placeOf, planOf}
 use Rattle.staged.specs.Staged.{withLength, withPlace, stagedPlan, stagedPart, stagedJoined, afresh}
 use Rattle.eif.specs.declared.Place.{Place}
 use Rattle.eif.specs.declared.Plan.{Plan}
 use Rattle.eif.specs.declared.Section.{Section}
 use Rattle.eif.specs.declared.Reading.{Reading}
 use Rattle.eif.specs.declared.Verdict.the-variants.{Accepted}
-use Rattle.eif_lemmas.proofs.Logic.{equal-or-not}
+use Rattle.octets.proofs.Logic.{equal-or-not}
 use Rattle.eif_lemmas.proofs.Reading.{reading-accepted}
 use Rattle.eif_lemmas.proofs.Table.{length-filled, filled-at}
 use Rattle.eif_lemmas.proofs.Types.{order-same, missing-same}

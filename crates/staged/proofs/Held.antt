@@ -1,14 +1,14 @@
 -- The sections of a staged view that is not refused: each has the base's type, and its data is the staged part. So their records and
 -- streams are those of the image written afresh.
 -- Assumes nothing.
-use Prim.Native.Nat.{ℕ, _+_, _-_, _^_, _<_, _≤_}
-use mathlib.Core.Path.{_≡_, refl, sym, ap, ap₂, _∙_}
+use Prim.Native.Nat.{ℕ, _+_, _-_, _^_, _<_, _≤_, min}
+use mathlib.Core.Path.{_≡_, sym, ap, ap₂, _∙_}
 use mathlib.Core.Bool.{Bool, true, false}
 use mathlib.Core.List.{List, [], _++_}
 use mathlib.Core.Logic.{⊎-elim}
 use native.Mathlib.Omega.{arith}
 use borrow.Author.Tests.{eq-eqb, ne-eqb, lt-ltb, le-ltb}
-use lib.Dec.{eqb, ltb}
+use lib.Dec.{eqb}
 use lib.ListN.{length, getD, set, take, drop, drop-of-length-le}
 use lib.Seq.{take-length, drop-nil}
 use Rattle.octets.proofs.Over.{le-or-lt}
@@ -18,20 +18,20 @@ use Rattle.eif.specs.Table.{filled}
 use Rattle.eif.specs.Layout.{headerFlagsOf, countOf, kindAt}
 use Rattle.eif.specs.Reading.{verdictOf, blankSection, sectionAt, sectionsOf, readImage, dataOf}
 use Rattle.eif.specs.Plan.{plainSize, plainImage}
-use Rattle.eif.specs.Roll.{Record, flagsRecord, rollOf, recordsIn, recordsOf, rollBytes}
+use Rattle.eif.specs.Roll.{Record, flagsRecord, rollOf, recordsOf, rollBytes}
 use Rattle.eif.specs.Stream.{streamSections, streamOf}
 use Rattle.eif.specs.declared.Reading.{Reading}
 use Rattle.eif.specs.declared.Section.{Section}
 use Rattle.eif.specs.declared.Stream.{Stream}
 use Rattle.eif.specs.declared.Verdict.the-variants.{Accepted}
-use Rattle.eif_lemmas.proofs.Logic.{equal-or-not}
+use Rattle.octets.proofs.Logic.{equal-or-not}
 use Rattle.eif_lemmas.proofs.Reading.{reading-accepted}
 use Rattle.eif_lemmas.proofs.Table.{All, all-filled, filled-at, length-filled}
 use Rattle.eif_lemmas.proofs.Accept.{length-data}
 use Rattle.plain_laws.proofs.Written.{size-small, read-flags}
 use Rattle.plain_laws.proofs.WriteBack.{piece, head, entry}
-use Rattle.staged.specs.Staged.{stagedPlan, afresh}
-use Rattle.staged.specs.View.{moved, stagedSections, heldBy, Holds}
+use Rattle.staged.specs.Staged.{afresh}
+use Rattle.staged.specs.View.{moved, stagedSections, heldBy, heldStart, Holds}
 use Rattle.staged.proofs.Accept.{Stages}
 use Rattle.staged.proofs.Afresh.{part, parts, changedPlan, plan-is, afresh-is, part-replaced, size-kept, changed-planned, fresh-count, fresh-kind, fresh-data}
 use Rattle.staged.proofs.Same.{recordsBy, records-in, same-records, joinedBy, joined-in, same-stream, set-filled}
@@ -46,6 +46,16 @@ module _ (s r : List ℕ) (x : Section) where
   pub held-after : length s ≤ x .position .0 → heldBy s r x ≡ dataOf r (moved x (x .position .0 - length s) (x .length .0))
   unfolding heldBy
   held-after h = simp (le-ltb _ _ h)
+
+  -- and where it stands
+  pub start-base : (base replacement : ℕ × ℕ) → x .position .0 < length s → heldStart s r x base replacement ≡ (base .0, base .1 + min (x .position .0) (length s))
+  unfolding heldStart
+  start-base base replacement h = simp (lt-ltb _ _ h)
+
+  pub start-after : (base replacement : ℕ × ℕ) → length s ≤ x .position .0
+      → heldStart s r x base replacement ≡ (replacement .0, replacement .1 + min (x .position .0 - length s) (length r))
+  unfolding heldStart
+  start-after base replacement h = simp (le-ltb _ _ h)
 
   -- a section that lies in the base
   pub held-inside : x .position .0 + x .length .0 ≤ length s → heldBy s r x ≡ dataOf s x

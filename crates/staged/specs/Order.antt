@@ -1,6 +1,6 @@
 -- The order of the refusals of a staged view and of its roll, as lists: the base's own rules; 27 for the number of the replaced section and of
--- the one to be shown; 1 for the image written afresh; and of the roll 14. That each verdict is that of the first rule that applies is a
--- law of its own. Assumes nothing.
+-- the one to be shown; 1 for the image written afresh; and of the roll 14. That each verdict is that of the first rule that applies:
+-- `staged_laws/Order`. Assumes nothing.
 use Prim.Native.Nat.{ℕ}
 use mathlib.Core.List.{List, [], _∷_, _++_}
 use lib.Dec.{ltb, leb}

@@ -4,13 +4,14 @@
 use Prim.Native.Nat.{ℕ}
 use mathlib.Core.List.{List, []}
 use lib.Dec.{ltb, leb, eqb}
-use lib.ListN.{length, getD, set}
+use lib.ListN.{length, set}
+use Rattle.eif.specs.Table.{joinFrom}
 use Rattle.eif.specs.Numbers.{sizeLimit, imageTooLong, outputTooShort, noSuchSection}
 use Rattle.octets.specs.Logic.{either, choose}
 use Rattle.eif.specs.Answers.{refuse, andThen, beside}
-use Rattle.eif.specs.Reading.{verdictOf, blankSection, dataOf, readImage}
+use Rattle.eif.specs.Reading.{verdictOf, dataOf, readImage, sectionIn}
 use Rattle.eif.specs.Output.{outputFor}
-use Rattle.eif.specs.Plan.{placeAt, plainSize, plainImage, planOf, joinFrom, writtenFor}
+use Rattle.eif.specs.Plan.{placeAt, plainSize, plainImage, planOf, writtenFor}
 use Rattle.eif.specs.Roll.{rollBytes}
 use Rattle.eif.specs.declared.Place.{Place}
 use Rattle.eif.specs.declared.Plan.{Plan}
@@ -42,7 +43,7 @@ stagedPlan s k size = withPlace (planOf (readImage s)) k size
 
 -- the data of section j: the replacement, or a part of the base
 unfoldable pub stagedPart : List ℕ → List ℕ → ℕ → ℕ → List ℕ
-stagedPart s r k j = choose (eqb j k) r (dataOf s (getD (readImage s .sections) j blankSection))
+stagedPart s r k j = choose (eqb j k) r (dataOf s (sectionIn (readImage s .sections) j))
 
 -- the sections' data, joined in file order
 unfoldable pub stagedJoined : List ℕ → List ℕ → ℕ → List ℕ

@@ -6,11 +6,11 @@ use mathlib.Core.Bool.{Bool, true, false}
 use mathlib.Core.List.{List}
 use mathlib.Core.Path.{_≡_}
 use lib.Dec.{ltb, eqb}
-use lib.ListN.{length, getD, set, replicate}
+use lib.ListN.{length, set, replicate}
 use Rattle.eif.specs.Numbers.{placeCount}
 use Rattle.octets.specs.Logic.{choose}
 use Rattle.eif.specs.Answers.{beside}
-use Rattle.eif.specs.Reading.{blankSection, dataOf, readImage}
+use Rattle.eif.specs.Reading.{blankSection, dataOf, readImage, sectionIn}
 use Rattle.eif.specs.declared.Section.{Section}
 use Rattle.eif.specs.declared.Verdict.{Verdict}
 use Rattle.eif.specs.declared.Verdict.the-variants.{Accepted, Refused}
@@ -24,7 +24,7 @@ moved x at size = record { kind = x .kind; flags = x .flags; position = record {
 
 -- the base has so many bytes, the replacement so many
 unfoldable pub stagedSections : List Section → ℕ → ℕ → ℕ → List Section
-stagedSections l k at size = set l k (moved (getD l k blankSection) at size)
+stagedSections l k at size = set l k (moved (sectionIn l k) at size)
 
 abbrev pub stagedFor : Verdict → ℕ → List Section → Staged
 stagedFor verdict flags l =
@@ -42,6 +42,13 @@ unfoldable pub heldBy : List ℕ → List ℕ → Section → List ℕ
 heldBy s r x =
     choose (ltb (x .position .0) (length s)) (dataOf s x) (dataOf r (moved x (x .position .0 - length s) (x .length .0)))
 
+-- where that data stands in memory, by where base and replacement start there, a block and a place in it
+unfoldable pub heldStart : List ℕ → List ℕ → Section → ℕ × ℕ → ℕ × ℕ → ℕ × ℕ
+heldStart s r x base replacement =
+    choose (ltb (x .position .0) (length s))
+    (base .0, base .1 + min (x .position .0) (length s))
+    (replacement .0, replacement .1 + min (x .position .0 - length s) (length r))
+
 -- the data is as long as the section says
 abbrev pub Holds : (Section → List ℕ) → Section → Type 0
 Holds held x = length (held x) ≡ x .length .0
@@ -56,7 +63,7 @@ shownAt Accepted false base replacement at = (base .0, base .1 + at)
 
 unfoldable pub shownStart : List ℕ → ℕ → ℕ → ℕ → ℕ × ℕ → ℕ × ℕ → ℕ × ℕ
 shownStart s size k j base replacement =
-    shownAt (stagedVerdict s size k j) (eqb j k) base replacement (min (getD (readImage s .sections) j blankSection .position .0) (length s))
+    shownAt (stagedVerdict s size k j) (eqb j k) base replacement (min (sectionIn (readImage s .sections) j .position .0) (length s))
 
 -- ---- where the data of section j lies, of a view with section k replaced by so many bytes
 
@@ -66,5 +73,5 @@ placeFor verdict inReplacement start size =
 
 unfoldable pub stagedPlace : List ℕ → ℕ → ℕ → ℕ → StagedPart
 stagedPlace s size k j =
-    let x = getD (readImage s .sections) j blankSection in
+    let x = sectionIn (readImage s .sections) j in
     placeFor (stagedVerdict s size k j) (choose (eqb j k) 1 0) (choose (eqb j k) 0 (x .position .0)) (choose (eqb j k) size (x .length .0))

@@ -1,5 +1,4 @@
 // Runs cases of the staged view, one line each: what is shown of each section, and the roll beside that of the image written afresh.
-ghost use mathlib.Core.Path.{_≡_};
 ghost use lib.ListN.{length};
 use eif::DataLength;
 use eif::PLACES;

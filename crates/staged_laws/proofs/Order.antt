@@ -3,7 +3,7 @@
 use Prim.Native.Nat.{ℕ}
 use mathlib.Core.Path.{_≡_, refl, sym, ap, ap₂, _∙_}
 use mathlib.Core.Bool.{Bool, true, false}
-use mathlib.Core.List.{List, [], _∷_}
+use mathlib.Core.List.{List}
 use lib.Dec.{ltb, leb}
 use lib.ListN.{length}
 use Rattle.eif.specs.Numbers.{sizeLimit, imageTooLong, outputTooShort, noSuchSection}
@@ -13,12 +13,11 @@ use Rattle.eif.specs.Layout.{countOf}
 use Rattle.eif.specs.Reading.{verdictOf, readImage}
 use Rattle.eif.specs.Plan.{plainSize}
 use Rattle.eif.specs.Roll.{rollBytes}
-use Rattle.eif.specs.Order.{rule, firstThatApplies, imageRules}
-use Rattle.eif.specs.declared.Refusal.{Refusal}
+use Rattle.eif.specs.Order.{firstThatApplies, imageRules}
 use Rattle.eif.specs.declared.Verdict.{Verdict}
 use Rattle.eif.specs.declared.Verdict.the-variants.{Accepted, Refused}
 use Rattle.eif_laws.proofs.FirstApplies.{read-first, first-append}
-use Rattle.staged.specs.Staged.{stagedPlan, afresh, stagedVerdict, stagedRollVerdict, shownPart}
+use Rattle.staged.specs.Staged.{stagedPlan, afresh, stagedVerdict, stagedRollVerdict}
 use Rattle.staged.specs.Order.{stagedRules, stagedRollRules}
 use Rattle.staged.proofs.Accept.{count-is}
 

@@ -14,9 +14,10 @@ use Rattle.eif.specs.declared.Verdict.the-variants.{Accepted}
 use Rattle.staged.specs.Staged.{afresh, stagedVerdict}
 use Rattle.staged.specs.Order.{stagedRules}
 use Rattle.sha384_block.specs.Fips.{sha384}
-use Rattle.eif_registers.specs.Rule.{registerFrom, registerOf, imageRegisters, registersAnswer, stagedRegisters}
+use Rattle.eif_registers.specs.Registers.{registerFrom, registerOf, imageRegisters, registersAnswer, stagedRegisters}
+use Rattle.staged_laws.specs.Afresh.{ownData}
 use Rattle.staged_laws.proofs.Order.{staged-first}
-use Rattle.staged_laws.proofs.Staged.{fresh-accepted, own, own-accepted, own-stream}
+use Rattle.staged_laws.proofs.Staged.{fresh-accepted, own-accepted, own-stream}
 
 -- the order: that of the view
 pub staged-registers-first : (s r : List ℕ) (k : ℕ) → stagedRegisters s r k .verdict ≡ firstThatApplies (stagedRules s (length r) k k)
@@ -30,7 +31,7 @@ same-registers s r k ws wr e = let f = fresh-accepted s r k ws wr e in simp (e, 
 
 module _ (s : List ℕ) (k : ℕ) (ok : verdictOf s ≡ Accepted) (h : k < countOf s) where
   abbrev again : List ℕ
-  again = afresh s (own s k ok h) k
+  again = afresh s (ownData s k) k
 
   own-register : (stream : Stream) → registerOf again stream ≡ registerOf s stream
   unfolding registerOf
@@ -40,6 +41,6 @@ module _ (s : List ℕ) (k : ℕ) (ok : verdictOf s ≡ Accepted) (h : k < count
   unfolding imageRegisters
   own-all = rw (own-register Whole, own-register Boot, own-register App)
 
-  pub own-registers : stagedRegisters s (own s k ok h) k ≡ registersAnswer s
+  pub own-registers : stagedRegisters s (ownData s k) k ≡ registersAnswer s
   unfolding stagedRegisters registersAnswer
   own-registers = simp (own-accepted s k ok h, ok, own-all)

@@ -8,6 +8,10 @@ use Rattle.eif.specs.Reading.{sectionAt, dataOf}
 use Rattle.eif.specs.Plan.{Plain}
 use Rattle.staged.specs.Staged.{stagedPart, afresh}
 
+-- the data of section k of an image, as its own replacement
+abbrev pub ownData : List ℕ → ℕ → List ℕ
+ownData s k = dataOf s (sectionAt s k)
+
 pub record Afresh (s r : List ℕ) (k : ℕ) : Type 0 where
   -- it is accepted, and plain
   pub plain : Plain (afresh s r k)

@@ -5,10 +5,11 @@ use eif::Verdict;
 use eif_registers::Digest;
 use eif_registers::Measurement;
 use libc::STDOUT_FILENO;
+use sha384_block::DIGEST_SIZE;
 
 fn show(register: Digest) {
     let digest = register.0;
-    for i in 0..48 {
+    for i in 0..DIGEST_SIZE {
         io::print_hex(STDOUT_FILENO, digest[i] as u64, 2);
     }
     io::write_all(STDOUT_FILENO, b"\n");

@@ -8,7 +8,7 @@ ghost use lib.ListN.{length};
 ghost use Rattle.eif.specs.Numbers.{sizeLimit, placeCount};
 ghost use Rattle.eif.specs.Plan.{plainSize, placeOf, planOf};
 ghost use Rattle.staged.specs.Staged.{withPlace, stagedVerdict, shownPart};
-ghost use Rattle.staged.specs.View.{moved, blankStaged, stagedView, heldBy, shownStart, stagedPlace};
+ghost use Rattle.staged.specs.View.{moved, blankStaged, stagedView, heldBy, heldStart, shownStart, stagedPlace};
 use eif::DataLength;
 use eif::FilePosition;
 use eif::PLACES;
@@ -89,16 +89,10 @@ fn moved_to(x: Section, at: u64, size: u64) -> Section
 fn refused(verdict: Verdict) -> Staged
     ensures { λ r. ⌜ r ≡ blankStaged verdict ⌝ }
 {
-    let none = Section {
-        kind: 0,
-        flags: 0,
-        position: FilePosition(0),
-        length: DataLength(0),
-    };
     Staged {
         verdict,
         flags: 0,
-        sections: [none; PLACES],
+        sections: [Section::BLANK; PLACES],
     }
 }
 
@@ -145,6 +139,7 @@ pub fn verdict(base: &[u8], replacement: &[u8], replaced: u64, shown: u64) -> Ve
 // The data of any section: of the base where it starts in it, and else of the replacement.
 pub fn held<'a>(base: &'a [u8], replacement: &'a [u8], x: Section) -> &'a [u8]
     ensures { λ r. ⌜ now r ≡ heldBy (now (base .entry)) (now (replacement .entry)) x ⌝ }
+    ensures { λ r. ⌜ r .ptr ≡ heldStart (now (base .entry)) (now (replacement .entry)) x (base .entry .ptr) (replacement .entry .ptr) ⌝ }
 {
     let at = x.position.0 as usize;
     if at < base.len() {

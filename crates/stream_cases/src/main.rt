@@ -94,7 +94,7 @@ fn put(image: &mut [u8], i: u8, at: u32, kind: u16, lent: &[u8]) {
     case_images::put_section(image, i, at, kind, 0, lent);
 }
 
-// Kernel, command line and three ramdisks, not sealed; 633 bytes.
+// Kernel, command line and three ramdisks, without its checksum; 633 bytes.
 fn put_ordinary(image: &mut [u8]) {
     case_images::put_header(image, 2, 0, 5);
     put(image, 0, 548, SectionType::KERNEL, b"kernel");
@@ -322,7 +322,7 @@ fn listed(image: &[u8]) {
 
 // ---- the image's own refusal comes first
 
-fn not_sealed() {
+fn wrong_checksum() {
     let mut image = [0u8; 633];
     put_ordinary(&mut image);
     case_images::put_checksum(&mut image);
@@ -345,7 +345,7 @@ fn before_kernel() {
     copy_few(b"a ramdisk before the kernel", &image, Stream::Boot, 0);
 }
 
-// Two bytes at a position; not sealed.
+// Two bytes at a position; the checksum stays.
 fn damaged(label: &[u8], at: usize, value: u16) {
     let mut image = [0u8; 633];
     put_ordinary(&mut image);
@@ -384,7 +384,7 @@ fn main() {
     no_ramdisk();
     one_ramdisk();
     signed();
-    not_sealed();
+    wrong_checksum();
     before_kernel();
     at_a_section();
     one_more();

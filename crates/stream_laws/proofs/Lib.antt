@@ -1,3 +1,4 @@
 pub mod Sections
 pub mod Parts
 pub mod Pieces
+pub mod BootFirst

@@ -3,7 +3,7 @@
 use Prim.Native.Nat.{ℕ, _+_, _≤_}
 use mathlib.Core.Path.{_≡_, refl, sym, ap, ap₂, _∙_}
 use mathlib.Core.Bool.{Bool, true, false, not}
-use mathlib.Core.List.{List, [], _∷_, _++_}
+use mathlib.Core.List.{List, [], _∷_, _++_, append-assoc}
 use native.Mathlib.Omega.{arith}
 use native.Mathlib.Nat.{add-zero, add-assoc}
 use borrow.Author.Tests.{eqb-true, le-leb}
@@ -19,7 +19,7 @@ use Rattle.eif.specs.declared.Stream.{Stream}
 use Rattle.eif.specs.declared.Stream.the-variants.{Whole, Boot, App}
 use Rattle.eif_lemmas.proofs.Table.{All}
 use Rattle.eif_lemmas.proofs.Accept.{Inside, length-data}
-use Rattle.stream_laws.specs.Sums.{measuredIn, sumOf, lengthOf}
+use Rattle.stream_laws.specs.Sums.{measuredIn, ramdisksIn, sumOf, lengthOf}
 
 -- ---- types
 
@@ -30,12 +30,16 @@ ramdisk-in kind true e =
     simp (le-leb kernel kind (omega arith), le-leb kind ramdisk (omega arith))
 ramdisk-in kind false e = refl
 
--- ---- what is kept, element by element
+-- and so is that of a later one
+pub later-in : (kind before : ℕ) (b : Bool) → eqb kind ramdisk ≡ b → both (both b (ltb 0 before)) (not (bootType kind)) ≡ false
+later-in kind before true e = by-room (ltb 0 before) (ramdisk-in kind true e)
+  where
+    by-room : (c : Bool) → both true (not (bootType kind)) ≡ false → both c (not (bootType kind)) ≡ false
+    by-room true h = h
+    by-room false h = refl
+later-in kind before false e = refl
 
--- the ramdisks of a list
-unfoldable pub ramdisksIn : {A : Type 0} → (A → ℕ) → List A → ℕ
-ramdisksIn kindOf [] = 0
-ramdisksIn kindOf (x ∷ xs) = ramdiskIn (kindOf x) + ramdisksIn kindOf xs
+-- ---- what is kept, element by element
 
 module _ {A : Type 0} (stream : Stream) (kindOf : A → ℕ) where
   choose-append : (b : Bool) (x : A) (k l : List A) → choose b (x ∷ (k ++ l)) (k ++ l) ≡ choose b (x ∷ k) k ++ l
@@ -85,6 +89,11 @@ all-stream P stream l a = all-kept stream sectionKind P 0 l a
 -- ---- the length of data
 
 module _ (s : List ℕ) where
+  pub joined-append : (k l : List Section) → sectionsData s (k ++ l) ≡ sectionsData s k ++ sectionsData s l
+  unfolding sectionsData
+  joined-append [] l = refl
+  joined-append (y ∷ ys) l = ap (λ (b : List ℕ). dataOf s y ++ b) (joined-append ys l) ∙ sym (append-assoc (dataOf s y) (sectionsData s ys) (sectionsData s l))
+
   pub length-of-joined : (l : List Section) → length (sectionsData s l) ≡ sumOf (λ x. length (dataOf s x)) l
   unfolding sectionsData sumOf
   length-of-joined [] = refl
@@ -109,14 +118,6 @@ module _ (f : Section → ℕ) where
   one-of true false n e = omega arith
   one-of false true n e = let z : _≡_ {A = ℕ} 0 1 = ap (λ (b : Bool). choose b 1 0) (sym e) in absurd (omega arith)
   one-of false false n e = omega arith
-
-  later-in : (kind before : ℕ) (b : Bool) → eqb kind ramdisk ≡ b → both (both b (ltb 0 before)) (not (bootType kind)) ≡ false
-  later-in kind before true e = by-room (ltb 0 before) (ramdisk-in kind true e)
-    where
-      by-room : (c : Bool) → both true (not (bootType kind)) ≡ false → both c (not (bootType kind)) ≡ false
-      by-room true h = h
-      by-room false h = refl
-  later-in kind before false e = refl
 
   pub sums-add : (before : ℕ) (l : List Section) → sumOf f (kept Boot sectionKind before l) + sumOf f (kept App sectionKind before l) ≡ sumOf f (kept Whole sectionKind before l)
   unfolding kept keeps sumOf

@@ -18,8 +18,9 @@ use Rattle.eif.specs.Stream.{laterRamdisk, keeps, kept, sectionKind, inTable}
 use Rattle.eif.specs.declared.Section.{Section}
 use Rattle.eif.specs.declared.Stream.{Stream}
 use Rattle.eif.specs.declared.Stream.the-variants.{Whole, Boot, App}
-use Rattle.eif_lemmas.proofs.Logic.{not-both}
-use Rattle.stream_laws.proofs.Sections.{ramdisksIn, kept-append, kept-fits}
+use Rattle.octets.proofs.Logic.{not-both}
+use Rattle.stream_laws.specs.Sums.{ramdisksIn}
+use Rattle.stream_laws.proofs.Sections.{kept-append, kept-fits}
 
 -- ---- by type
 
@@ -53,8 +54,8 @@ ramdisks-snoc (y ∷ ys) x = let r = ramdisks-snoc ys x in omega arith
 
 module _ (stream : Stream) (l : List Section) where
   -- what is kept of the first i places
-  abbrev pub keptOf : ℕ → List Section
-  keptOf i = kept stream sectionKind 0 (take i l)
+  abbrev pub keptSoFar : ℕ → List Section
+  keptSoFar i = kept stream sectionKind 0 (take i l)
 
   -- and the ramdisks among them
   abbrev pub ramdisksOf : ℕ → ℕ
@@ -68,25 +69,25 @@ module _ (stream : Stream) (l : List Section) where
     unfolding kept
     one-kept before = refl
 
-    kept-next : keptOf (i + 1) ≡ keptOf i ++ choose (keeps stream (this .kind) (ramdisksOf i)) (this ∷ []) []
+    kept-next : keptSoFar (i + 1) ≡ keptSoFar i ++ choose (keeps stream (this .kind) (ramdisksOf i)) (this ∷ []) []
     kept-next =
         ap (λ (n : ℕ). kept stream sectionKind 0 (take n l)) (add-one i)
         ∙ ap (kept stream sectionKind 0) (take-suc l i blankSection h) ∙ kept-append stream sectionKind 0 (take i l) (this ∷ [])
-        ∙ ap (λ (n : ℕ). keptOf i ++ kept stream sectionKind n (this ∷ [])) (zero-add (ramdisksOf i))
-        ∙ ap (λ (k : List Section). keptOf i ++ k) (one-kept (ramdisksOf i))
+        ∙ ap (λ (n : ℕ). keptSoFar i ++ kept stream sectionKind n (this ∷ [])) (zero-add (ramdisksOf i))
+        ∙ ap (λ (k : List Section). keptSoFar i ++ k) (one-kept (ramdisksOf i))
 
-    pub kept-more : keeps stream (this .kind) (ramdisksOf i) ≡ true → keptOf (i + 1) ≡ keptOf i ++ (this ∷ [])
-    kept-more e = kept-next ∙ ap (λ (b : Bool). keptOf i ++ choose b (this ∷ []) []) e
+    pub kept-more : keeps stream (this .kind) (ramdisksOf i) ≡ true → keptSoFar (i + 1) ≡ keptSoFar i ++ (this ∷ [])
+    kept-more e = kept-next ∙ ap (λ (b : Bool). keptSoFar i ++ choose b (this ∷ []) []) e
 
-    pub kept-same : keeps stream (this .kind) (ramdisksOf i) ≡ false → keptOf (i + 1) ≡ keptOf i
-    kept-same e = kept-next ∙ ap (λ (b : Bool). keptOf i ++ choose b (this ∷ []) []) e ∙ append-nil (keptOf i)
+    pub kept-same : keeps stream (this .kind) (ramdisksOf i) ≡ false → keptSoFar (i + 1) ≡ keptSoFar i
+    kept-same e = kept-next ∙ ap (λ (b : Bool). keptSoFar i ++ choose b (this ∷ []) []) e ∙ append-nil (keptSoFar i)
 
     pub ramdisks-next : ramdisksOf (i + 1) ≡ ramdisksOf i + ramdiskIn (this .kind)
     ramdisks-next =
         ap (λ (n : ℕ). ramdisksIn sectionKind (take n l)) (add-one i)
         ∙ ap (ramdisksIn sectionKind) (take-suc l i blankSection h) ∙ ramdisks-snoc (take i l) this
 
-  pub kept-few : (i : ℕ) → i ≤ length l → length (keptOf i) ≤ i
+  pub kept-few : (i : ℕ) → i ≤ length l → length (keptSoFar i) ≤ i
   kept-few i h = let f = kept-fits stream sectionKind 0 (take i l) in let n = length-take-le i l h in omega arith
 
 -- a section is stored behind those that are listed

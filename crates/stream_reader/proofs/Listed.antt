@@ -1,19 +1,21 @@
 -- The data of listed sections: a section's data as far as it lies in the image, and what is copied of them, one section after the other.
 -- Assumes nothing.
-use Prim.Native.Nat.{ℕ, zero, suc, _+_, _-_, _*_, _<_, _≤_, min}
-use mathlib.Core.Path.{_≡_, refl, sym, ap, ap₂, _∙_}
-use mathlib.Core.List.{List, [], _∷_, _++_, append-nil, append-assoc}
+use Prim.Native.Nat.{ℕ, suc, _+_, _-_, _*_, _<_, _≤_, min}
+use mathlib.Core.Path.{_≡_, sym, ap, ap₂, _∙_}
+use mathlib.Core.List.{List, [], _∷_, _++_, append-nil}
 use mathlib.Core.Logic.{⊎-elim}
 use native.Mathlib.Omega.{arith}
 use native.Mathlib.Nat.{zero-add, suc-mul}
 use native.Mathlib.Numerals.{add-one}
 use lib.ListN.{length, getD, take, drop, length-append, length-drop, length-take, drop-of-length-le}
-use lib.Seq.{take-suc, take-all, take-add, take-nil, drop-append-le, drop-append-add}
+use lib.Seq.{take-suc, take-all, take-add, take-nil}
+use Rattle.octets.proofs.Lists.{drop-both}
 use Rattle.octets.specs.Over.{over}
 use Rattle.octets.proofs.Over.{le-or-lt, length-over, over-append, over-out}
 use Rattle.eif.specs.Reading.{blankSection, dataOf}
 use Rattle.eif.specs.Stream.{sectionsData}
 use Rattle.eif.specs.declared.Section.{Section}
+use Rattle.stream_laws.proofs.Sections.{joined-append}
 
 -- as many elements as there are
 pub cut : {A : Type 0} (l : List A) (n k : ℕ) → k ≡ min n (length l) → take k l ≡ take n l
@@ -41,11 +43,6 @@ clipped s x start size e f =
 
 -- ---- one section after the other
 
-joined-append : (s : List ℕ) (k l : List Section) → sectionsData s (k ++ l) ≡ sectionsData s k ++ sectionsData s l
-unfolding sectionsData
-joined-append s [] l = refl
-joined-append s (y ∷ ys) l = ap (λ (b : List ℕ). dataOf s y ++ b) (joined-append s ys l) ∙ sym (append-assoc (dataOf s y) (sectionsData s ys) (sectionsData s l))
-
 joined-one : (s : List ℕ) (x : Section) → sectionsData s (x ∷ []) ≡ dataOf s x
 unfolding sectionsData
 joined-one s x = append-nil (dataOf s x)
@@ -69,18 +66,6 @@ module _ (s : List ℕ) (l : List Section) where
       omega (arith, ap length e, length-append (passed i) (sectionsData s (take (n - i) (drop i l))))
 
 -- ---- what is copied from a position on
-
-drop-append : (n : ℕ) (x y : List ℕ) → drop n (x ++ y) ≡ drop n x ++ drop (n - length x) y
-drop-append n x y =
-    ⊎-elim
-    (λ (h : n ≤ length x).
-    let z : n - length x ≡ 0 = omega arith in
-    drop-append-le n x y h ∙ ap (λ (k : ℕ). drop n x ++ drop k y) (sym z))
-    (λ (h : length x < n).
-    let k : n ≡ length x + (n - length x) = omega arith in
-    ap (λ (j : ℕ). drop j (x ++ y)) k ∙ drop-append-add x y (n - length x)
-    ∙ ap (λ (d : List ℕ). d ++ drop (n - length x) y) (sym (drop-of-length-le x {i = n} (omega arith))))
-    (le-or-lt n (length x))
 
 -- what is left to pass over, and what is copied, after more data
 pub skip-more : (from p d q skip next : ℕ) → q ≡ p + d → skip ≡ from - p → next ≡ skip - d → next ≡ from - q
@@ -113,7 +98,7 @@ over-more o p d from skip done e f =
     let n : length e1 ≡ length o = length-over o 0 (drop from p) in
     let m : length (drop from p) ≡ length p - from = length-drop from p in
     let whole : over o 0 (drop from (p ++ d)) ≡ over e1 (0 + length (drop from p)) (drop skip d) =
-    ap (over o 0) (drop-append from p d ∙ ap (λ (k : ℕ). drop from p ++ drop k d) (sym e)) ∙ over-append o 0 (drop from p) (drop skip d) in
+    ap (over o 0) (drop-both from p d ∙ ap (λ (k : ℕ). drop from p ++ drop k d) (sym e)) ∙ over-append o 0 (drop from p) (drop skip d) in
     ⊎-elim
     (λ (h : length p - from ≤ length o).
     let z : done ≡ 0 + length (drop from p) = omega arith in

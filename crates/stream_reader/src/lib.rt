@@ -9,7 +9,6 @@ ghost use Rattle.eif.specs.Reading.{ramdiskIn, dataOf};
 ghost use Rattle.eif.specs.Stream.{laterRamdisk, keeps, sectionsAnswer, listedBytes, copyAnswer, copyOutput, copyListedAnswer, copyListedOutput, lengthAnswer};
 use eif::Copied;
 use eif::DataLength;
-use eif::FilePosition;
 use eif::PLACES;
 use eif::Refusal;
 use eif::Section;
@@ -19,12 +18,6 @@ use eif::StreamLength;
 use eif::StreamPosition;
 use eif::StreamSections;
 use eif::Verdict;
-
-fn lesser(a: usize, b: usize) -> usize
-    ensures { λ r. ⌜ r ≡ min a b ⌝ }
-{
-    if a < b { a } else { b }
-}
 
 // ---- the sections of a stream
 
@@ -74,13 +67,7 @@ fn place_in_list(kind: u16, before: usize, listed: usize) -> usize
 pub fn sections(all: [Section; PLACES], stream: Stream) -> StreamSections
     ensures { λ r. ⌜ r ≡ sectionsAnswer stream all ⌝ }
 {
-    let blank = Section {
-        kind: 0,
-        flags: 0,
-        position: FilePosition(0),
-        length: DataLength(0),
-    };
-    let mut list = [blank; PLACES];
+    let mut list = [Section::BLANK; PLACES];
     let mut count: usize = 0;
     let mut before: usize = 0;
     let mut i: usize = 0;
@@ -107,8 +94,8 @@ pub fn section_data(image: &[u8], section: Section) -> &[u8]
     ensures { λ r. ⌜ now r ≡ dataOf (now (image .entry)) section ⌝ }
     ensures { λ r. ⌜ r .ptr ≡ (image .entry .ptr .0, image .entry .ptr .1 + min (section .position .0) (length (now (image .entry)))) ⌝ }
 {
-    let start = lesser(section.position.0 as usize, image.len());
-    let end = start + lesser(section.length.0 as usize, image.len() - start);
+    let start = octets::lesser(section.position.0 as usize, image.len());
+    let end = start + octets::lesser(section.length.0 as usize, image.len() - start);
     &image[start..end]
 }
 
@@ -125,9 +112,9 @@ fn copy_data(bytes: &[u8], skip: usize, out: &mut [u8], done: usize) -> Progress
     ensures { λ r. ⌜ r .done ≡ min (length (now (out .entry))) (done + (length (now (bytes .entry)) - skip)) ⌝ }
     ensures { λ _. ⌜ now (out .exit) ≡ over (now (out .entry)) done (drop skip (now (bytes .entry))) ⌝ }
 {
-    let passed = lesser(skip, bytes.len());
+    let passed = octets::lesser(skip, bytes.len());
     octets::copy(out, done, &bytes[passed..]);
-    let copied = lesser(bytes.len() - passed, out.len() - done);
+    let copied = octets::lesser(bytes.len() - passed, out.len() - done);
     Progress {
         skip: skip - passed,
         done: done + copied,
@@ -146,7 +133,7 @@ pub fn copy_listed(
     ensures { λ _. ⌜ now (out .exit) ≡ copyListedOutput (now (image .entry)) list (from .0) (now (out .entry)) ⌝ }
 {
     let sections = list.sections;
-    let count = lesser(list.count as usize, PLACES);
+    let count = octets::lesser(list.count as usize, PLACES);
     let mut skip = from.0 as usize;
     let mut done: usize = 0;
     let mut i: usize = 0;
@@ -193,7 +180,7 @@ fn total(image: &[u8], list: StreamSections) -> u64
     ensures { λ r. ⌜ r ≡ length (listedBytes (now (image .entry)) list) ⌝ }
 {
     let sections = list.sections;
-    let count = lesser(list.count as usize, PLACES);
+    let count = octets::lesser(list.count as usize, PLACES);
     let mut sum: u64 = 0;
     let mut i: usize = 0;
     while i < count {

@@ -53,7 +53,7 @@ fn answer(label: &[u8], image: &[u8]) {
     fields(strict);
 }
 
-fn sealed(label: &[u8], image: &mut [u8]) {
+fn with_checksum(label: &[u8], image: &mut [u8]) {
     case_images::put_checksum(image);
     answer(label, image);
 }
@@ -70,7 +70,7 @@ fn put_metadata(image: &mut [u8], lent: &[u8]) {
 
 fn seal_first(label: &[u8], image: &mut [u8], size: usize) {
     if size <= image.len() {
-        sealed(label, &mut image[0..size]);
+        with_checksum(label, &mut image[0..size]);
     }
 }
 
@@ -93,10 +93,10 @@ fn put_three(image: &mut [u8], version: u16, first: u16, second: u16, third: u16
 fn three(label: &[u8], version: u16, first: u16, second: u16, third: u16, lent: &[u8]) {
     let mut image = [0u8; 587];
     put_three(&mut image, version, first, second, third, lent);
-    sealed(label, &mut image);
+    with_checksum(label, &mut image);
 }
 
-fn unsealed(label: &[u8], version: u16, first: u16, second: u16, third: u16, lent: &[u8]) {
+fn wrong_checksum(label: &[u8], version: u16, first: u16, second: u16, third: u16, lent: &[u8]) {
     let mut image = [0u8; 587];
     put_three(&mut image, version, first, second, third, lent);
     answer(label, &image);
@@ -146,7 +146,7 @@ fn by_place() {
 
 // The image's own refusals come first.
 fn after_the_others() {
-    unsealed(b"13, and no JSON", 4, 1, 2, 5, b"{");
+    wrong_checksum(b"13, and no JSON", 4, 1, 2, 5, b"{");
     three(b"9, and no JSON", 3, 1, 2, 5, b"{");
     three(b"11, and no JSON", 4, 1, 5, 5, b"{");
     three(b"12, and no JSON", 4, 1, 3, 5, b"{");

@@ -4,12 +4,13 @@
 use Prim.Native.Nat.{ℕ, zero, suc, _+_, _<_, _≤_}
 use mathlib.Core.Path.{_≡_, refl, sym, ap, ap₂, _∙_, subst}
 use mathlib.Core.Bool.{Bool, true, false, not, false≢true}
-use mathlib.Core.List.{List, [], _∷_}
+use mathlib.Core.List.{List}
 use mathlib.Core.Logic.{_⊎_, inl, inr, ⊎-elim}
 use native.Mathlib.Omega.{arith}
 use native.Mathlib.Nat.{eq-or-lt-of-le}
 use borrow.Author.Tests.{eq-eqb, eqb-true, not-true, not-false}
 use lib.Dec.{eqb}
+use Rattle.eif.specs.Table.{joinFrom}
 use Rattle.json.specs.Verdict.{IsText}
 use Rattle.json.specs.declared.JsonVerdict.{JsonVerdict}
 use Rattle.json.specs.declared.JsonVerdict.the-variants.{Text, Fault}
@@ -21,14 +22,13 @@ use Rattle.eif.specs.Answers.{andThen}
 use Rattle.eif.specs.Layout.{viewOf, countOf}
 use Rattle.eif.specs.Reading.{verdictOf, sectionAt, dataOf, readingOf, readView, readImage}
 use Rattle.eif.specs.Acceptance.{MeetsRules}
-use Rattle.eif.specs.Order.{firstThatApplies, rulesFrom, imageRules}
-use Rattle.eif.specs.declared.Refusal.{Refusal}
+use Rattle.eif.specs.Order.{firstThatApplies, imageRules}
 use Rattle.eif.specs.declared.Section.{Section}
 use Rattle.eif.specs.declared.Verdict.{Verdict}
 use Rattle.eif.specs.declared.Verdict.the-variants.{Accepted, Refused}
-use Rattle.eif_lemmas.proofs.Logic.{both-true}
+use Rattle.octets.proofs.Logic.{both-true, true-or-false}
 use Rattle.eif_lemmas.proofs.Reading.{verdict-kept}
-use Rattle.eif_lemmas.proofs.Verdicts.{never, then-accepted}
+use Rattle.eif_lemmas.proofs.Verdicts.{then-accepted, refused-not}
 use Rattle.eif_laws.proofs.Acceptance as acceptance
 use Rattle.eif_laws.proofs.FirstApplies.{first-append, read-first}
 use Rattle.strict_reader.specs.Strict.{MetadataIsJson, isText, notJson, refuseMetadata, metadataVerdict, strictVerdict, readStrict, metadataRules, strictRules}
@@ -65,10 +65,6 @@ module _ (s : List ℕ) (x : Section) where
       (eqb-true _ _ (b .0), λ t. let i = accepted-exactly-when (dataOf s x) .1 t in false≢true (sym (not-true _ (b .1)) ∙ ap isText i))
 
 -- ---- the sections
-
-refused-not : (b : Bool) (r : Refusal) (v : Verdict) → choose b (Refused r) v ≡ Accepted → (b ≡ false) × (v ≡ Accepted)
-refused-not true r v e = never r e
-refused-not false r v e = (refl, e)
 
 module _ (s : List ℕ) (sections : ℕ → Section) where
   all-pass→ : (n i : ℕ) → metadataVerdict s sections n i ≡ Accepted → (j : ℕ) → i ≤ j → j < i + n → notJson s (sections j) ≡ false
@@ -107,10 +103,6 @@ module _ (s : List ℕ) (sections : ℕ → Section) where
       let b = f .to in
       record { index = f .index; from = omega arith; to = omega arith; fails = f .fails; verdict = simp e (f .verdict) }
 
-  one-or-other : (b : Bool) → (b ≡ true) ⊎ (b ≡ false)
-  one-or-other true = inl refl
-  one-or-other false = inr refl
-
   pass-or-fail : (n i : ℕ) → (metadataVerdict s sections n i ≡ Accepted) ⊎ Fails n i
   unfolding metadataVerdict
   pass-or-fail zero i = inl refl
@@ -118,7 +110,7 @@ module _ (s : List ℕ) (sections : ℕ → Section) where
       ⊎-elim
       (λ (e : notJson s (sections i) ≡ true). inr (fails-here n i e))
       (λ (e : notJson s (sections i) ≡ false). ⊎-elim (λ p. inl (simp e p)) (λ f. inr (fails-later n i e f)) (pass-or-fail n (suc i)))
-      (one-or-other (notJson s (sections i)))
+      (true-or-false (notJson s (sections i)))
 
 -- ---- the laws
 
@@ -167,15 +159,15 @@ strict-same s e = ap (readingOf (viewOf s)) e
 
 -- ---- the refusal is the first that applies
 
-metadata-first : (s : List ℕ) (n i : ℕ) → metadataVerdict s (sectionAt s) n i ≡ firstThatApplies (rulesFrom (metadataRules s) n i)
-unfolding metadataVerdict rulesFrom firstThatApplies
+metadata-first : (s : List ℕ) (n i : ℕ) → metadataVerdict s (sectionAt s) n i ≡ firstThatApplies (joinFrom (metadataRules s) n i)
+unfolding metadataVerdict joinFrom firstThatApplies
 metadata-first s zero i = refl
 metadata-first s (suc n) i = ap (choose (notJson s (sectionAt s i)) (refuseMetadata (sectionAt s i) i)) (metadata-first s n (suc i))
 
 pub strict-first : (s : List ℕ) → strictVerdict s ≡ firstThatApplies (strictRules s)
 unfolding strictVerdict strictRules
 strict-first s =
-    ap₂ andThen (read-first s) (metadata-first s (countOf s) 0) ∙ sym (first-append (imageRules s) (rulesFrom (metadataRules s) (countOf s) 0))
+    ap₂ andThen (read-first s) (metadata-first s (countOf s) 0) ∙ sym (first-append (imageRules s) (joinFrom (metadataRules s) (countOf s) 0))
 
 -- the reading carries that verdict
 pub strict-verdict : (s : List ℕ) → readStrict s .verdict ≡ strictVerdict s

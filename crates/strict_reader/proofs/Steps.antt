@@ -2,19 +2,16 @@
 -- Assumes nothing.
 use Prim.Native.Nat.{ℕ, zero, suc, _+_, _-_, _<_, _≤_}
 use mathlib.Core.Path.{_≡_, refl, sym, ap, _∙_}
-use mathlib.Core.Bool.{Bool, true, false, not}
+use mathlib.Core.Bool.{true, false, not}
 use mathlib.Core.List.{List}
 use native.Mathlib.Numerals.{add-one}
 use native.Mathlib.Omega.{arith}
 use borrow.Author.Tests.{eq-eqb, ne-eqb}
-use lib.ListN.{getD}
 use Rattle.json.specs.declared.JsonVerdict.{JsonVerdict}
-use Rattle.json.specs.declared.JsonVerdict.the-variants.{Text, Fault}
 use Rattle.json_machine.specs.Machine.{jsonVerdict}
 use Rattle.eif.specs.Numbers.{placeCount, metadata}
-use Rattle.octets.specs.Logic.{choose}
 use Rattle.eif.specs.Layout.{viewOf, countOf}
-use Rattle.eif.specs.Reading.{verdictOf, sectionAt, blankSection, dataOf, blankReading, readingOf, readView, readImage}
+use Rattle.eif.specs.Reading.{verdictOf, sectionAt, blankSection, dataOf, blankReading, readingOf, readView, readImage, sectionIn}
 use Rattle.eif.specs.declared.Reading.{Reading}
 use Rattle.eif.specs.declared.Refusal.{Refusal}
 use Rattle.eif.specs.declared.Section.{Section}
@@ -23,7 +20,7 @@ use Rattle.eif.specs.declared.Verdict.the-variants.{Accepted, Refused}
 use Rattle.eif_lemmas.proofs.Accept.{passes}
 use Rattle.eif_lemmas.proofs.Reading.{reading-verdict, reading-accepted}
 use Rattle.eif_lemmas.proofs.Table.{filled-at}
-use Rattle.strict_reader.specs.Strict.{isText, notJson, refuseMetadata, metadataVerdict, sectionIn, strictVerdict, readStrict}
+use Rattle.strict_reader.specs.Strict.{isText, notJson, refuseMetadata, metadataVerdict, strictVerdict, readStrict}
 
 -- ---- one section
 

@@ -1,12 +1,12 @@
 -- The stricter reading (FORMAT.md, Stricter reading): the ordinary one, and then 21 for a metadata section whose data is not one JSON
--- text. What is a text is said by the grammar of the crate json; that the test here says the same is a law of its own.
+-- text. What is a text is said by the grammar of the crate json; that the test here says the same: `strict_laws/Strict.strict-exactly-when`.
 -- Assumes nothing.
 use Prim.Native.Nat.{ℕ, zero, suc, _<_}
 use mathlib.Core.Path.{_≡_}
 use mathlib.Core.Bool.{Bool, true, false, not}
 use mathlib.Core.List.{List, [], _∷_, _++_}
 use lib.Dec.{eqb}
-use lib.ListN.{getD}
+use Rattle.eif.specs.Table.{joinFrom}
 use Rattle.json.specs.Verdict.{IsText}
 use Rattle.json.specs.declared.JsonVerdict.{JsonVerdict}
 use Rattle.json.specs.declared.JsonVerdict.the-variants.{Text, Fault}
@@ -15,8 +15,8 @@ use Rattle.eif.specs.Numbers.{metadata, metadataNotJson}
 use Rattle.octets.specs.Logic.{both, choose}
 use Rattle.eif.specs.Answers.{refuseAt, andThen}
 use Rattle.eif.specs.Layout.{viewOf, countOf, kindAt}
-use Rattle.eif.specs.Reading.{verdictOf, sectionAt, blankSection, dataOf, readingOf}
-use Rattle.eif.specs.Order.{Rule, rule, rulesFrom, imageRules}
+use Rattle.eif.specs.Reading.{verdictOf, sectionAt, dataOf, readingOf}
+use Rattle.eif.specs.Order.{Rule, rule, imageRules}
 use Rattle.eif.specs.declared.Reading.{Reading}
 use Rattle.eif.specs.declared.Section.{Section}
 use Rattle.eif.specs.declared.Verdict.{Verdict}
@@ -48,10 +48,6 @@ metadataVerdict s sections zero i = Accepted
 metadataVerdict s sections (suc n) i =
     choose (notJson s (sections i)) (refuseMetadata (sections i) i) (metadataVerdict s sections n (suc i))
 
--- the places of a list
-abbrev pub sectionIn : List Section → ℕ → Section
-sectionIn sections i = getD sections i blankSection
-
 -- ---- the reading
 
 unfoldable pub strictVerdict : List ℕ → Verdict
@@ -67,4 +63,4 @@ abbrev pub metadataRules : List ℕ → ℕ → List Rule
 metadataRules s i = rule (notJson s (sectionAt s i)) metadataNotJson i (sectionAt s i .position .0) ∷ []
 
 unfoldable pub strictRules : List ℕ → List Rule
-strictRules s = imageRules s ++ rulesFrom (metadataRules s) (countOf s) 0
+strictRules s = imageRules s ++ joinFrom (metadataRules s) (countOf s) 0

@@ -2,8 +2,9 @@
 // whose data is not one JSON text.
 ghost use mathlib.Core.Path.{_≡_};
 ghost use Prim.Native.Nat.{_≤_};
+ghost use Rattle.eif.specs.Reading.{sectionIn};
 ghost use Rattle.eif.specs.Numbers.{placeCount};
-ghost use Rattle.strict_reader.specs.Strict.{sectionIn, notJson, metadataVerdict, readStrict};
+ghost use Rattle.strict_reader.specs.Strict.{notJson, metadataVerdict, readStrict};
 use eif::PLACES;
 use eif::Reading;
 use eif::Refusal;

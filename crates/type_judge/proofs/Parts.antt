@@ -6,8 +6,8 @@ use mathlib.Core.List.{List}
 use native.Mathlib.Omega.{arith}
 use lib.ListN.{length, take, getD, length-take}
 use lib.Seq.{getD-take}
-use Rattle.eif.specs.Rules.{seen, orderFault, bootMissing, missing}
-use Rattle.eif_lemmas.proofs.Types.{seen-same, order-same, boot-missing-same, missing-same}
+use Rattle.eif.specs.Rules.{orderFault, bootMissing, missing}
+use Rattle.eif_lemmas.proofs.Types.{order-same, boot-missing-same, missing-same}
 use Rattle.type_judge.specs.Kinds.{listedKind}
 
 module _ (l : List ℕ) (f : ℕ → ℕ) (n : ℕ) (fits : n ≤ length l) (same : (j : ℕ) → j < n → getD l j 0 ≡ f j) where
@@ -16,9 +16,6 @@ module _ (l : List ℕ) (f : ℕ → ℕ) (n : ℕ) (fits : n ≤ length l) (sam
 
   part-at : (j : ℕ) → j < n → listedKind (take n l) j ≡ f j
   part-at j h = rw getD-take (same j h)
-
-  pub seen-part : (kind : ℕ) → seen (listedKind (take n l)) kind (length (take n l)) ≡ seen f kind n
-  seen-part kind = ap (seen (listedKind (take n l)) kind) part-length ∙ seen-same (listedKind (take n l)) f kind n part-at
 
   pub order-part : (kind : ℕ) → orderFault (listedKind (take n l)) kind (length (take n l)) ≡ orderFault f kind n
   order-part kind = ap (orderFault (listedKind (take n l)) kind) part-length ∙ order-same (listedKind (take n l)) f kind n part-at

@@ -8,11 +8,9 @@ use crate::sample::bytes;
 use crate::table;
 use crate::timing::{times, Time};
 use eif::raw::{self, Arriving};
+use eif_cases::HEADER;
 use eif_twin as twin;
 use std::hint::black_box;
-
-/// The length of the header.
-const HEADER: u64 = 548;
 
 fn remainder(state: Arriving, piece: &[u8]) -> usize {
     raw::arriving_feed(state, black_box(piece), u64::MAX)
@@ -36,7 +34,7 @@ pub fn by_length(lengths: &[usize]) {
     for &length in lengths {
         let piece = bytes(length);
         let state = Arriving {
-            taken: HEADER,
+            taken: HEADER as u64,
             ..raw::arriving_begin()
         };
         let alone =

@@ -18,6 +18,7 @@ mod scratch;
 mod table;
 mod timing;
 
+use eif_cases::{HEADER, SHORTEST};
 use std::path::PathBuf;
 use std::process::Command;
 use std::{env, fs, io};
@@ -47,9 +48,6 @@ fn machine() -> String {
 const KIB: usize = 1 << 10;
 const MIB: usize = 1 << 20;
 
-/// The smallest image that is accepted: a header and two empty sections.
-const SMALLEST: usize = 572;
-
 /// The longest image where BENCH_LARGE is set, which takes minutes and 6 GiB.
 fn longest() -> Option<usize> {
     let large = env::var_os("BENCH_LARGE").is_some_and(|value| !value.is_empty());
@@ -65,7 +63,7 @@ fn lengths() -> Vec<usize> {
 /// The lengths of the images that are read.
 fn reading_lengths() -> Vec<usize> {
     let short = [
-        SMALLEST,
+        SHORTEST,
         KIB,
         2 * KIB,
         4 * KIB,
@@ -88,11 +86,11 @@ fn main() -> io::Result<()> {
     }
     println!();
     println!(
-        "{} rounds, {} where a call takes longer than half a second; all built for release. A time is the median over the rounds; behind it \
-         stand the least and the upper quartile. A ratio is that of the medians, and behind it that of the least times. The twin computes the checksum by a table of 256 entries, \
-         SHA-384 by the standard's loops, and for the registers hashes all three streams. Each has an output buffer of its own, which its \
-         first, untimed call fills and which is not cleared between calls; inputs are the same bytes in the same place, in the caches as \
-         the call before left them.",
+        "{} rounds, {} where a call takes longer than half a second; all built for release. A time is the median over the rounds; behind it\n\
+         stand the least and the upper quartile. A ratio is that of the medians, and behind it that of the least times. The twin computes the\n\
+         checksum by a table of 256 entries, SHA-384 by the standard's loops, and for the registers hashes all three streams. Each has an output\n\
+         buffer of its own, which its first, untimed call fills and which is not cleared between calls; inputs are the same bytes in the same\n\
+         place, in the caches as the call before left them.",
         timing::ROUNDS,
         timing::FEW_ROUNDS,
     );
@@ -103,7 +101,8 @@ fn main() -> io::Result<()> {
     println!(
         "The checksum alone: what feeding a slice to an arriving image takes, less feeding it nothing."
     );
-    checksum::by_length(&[8, 64, 200, 548, 4 * KIB, 16 * KIB, 64 * KIB, MIB, 16 * MIB]);
+    let [short, long] = [[8, 64, 200, HEADER], [4 * KIB, 16 * KIB, 64 * KIB, MIB]];
+    checksum::by_length(&[&short[..], &long, &[16 * MIB]].concat());
     arriving_in_pieces();
     copying();
     hashing_beside_twin();
@@ -157,8 +156,8 @@ fn arriving_in_pieces() {
 fn copying() {
     println!();
     println!(
-        "Calls that read an image, or take its checksum, and copy. Without the reading is the call's time \
-         less that of reading the image, and stands beside a plain copy (`copy_from_slice`) of as many bytes."
+        "Calls that read an image, or take its checksum, and copy. Without the reading is the call's time less that of reading the image,\n\
+         and stands beside a plain copy (`copy_from_slice`) of as many bytes."
     );
     images::head();
     for length in lengths() {

@@ -8,6 +8,11 @@ pub type Answer = (u8, u64, u64);
 /// What stands for a refusal where there is none.
 pub const ACCEPTED: Answer = (0, 0, 0);
 
+/// A refusal.
+pub(crate) fn refused(number: u8, index: usize, position: usize) -> Answer {
+    (number, index as u64, position as u64)
+}
+
 /// An image and what reading it answers.
 pub struct ImageCase {
     /// What the image shows.
@@ -27,6 +32,11 @@ impl ImageCase {
         }
     }
 }
+
+/// Where the sections of the worked image start.
+pub const WORKED_OFFSETS: [usize; 3] = [548, 561, 574];
+/// Length of the worked image.
+pub const WORKED_LENGTH: usize = 586;
 
 /// The plain version 2 image with kernel 4b, command line 61 and one empty ramdisk.
 pub fn worked_image() -> Vec<u8> {
@@ -55,7 +65,7 @@ pub fn two_sections() -> Vec<u8> {
 ///
 /// Where `length` is less than 572, the least that a kernel and a command line need.
 pub fn image_of_length(length: usize) -> Vec<u8> {
-    let kernel = vec![0x5a; length - HEADER - 2 * SECTION_HEADER];
+    let kernel = vec![0x5a; length - SHORTEST];
     Layout::new(2, vec![Section::new(1, &kernel), Section::new(2, &[])]).image()
 }
 
@@ -81,11 +91,10 @@ pub fn zero_image_start(length: usize) -> Vec<u8> {
     let layout = Layout::new(2, vec![Section::new(2, &[]), Section::new(1, &[])]);
     let mut start = layout.without_checksum();
     let zeros = length - start.len();
-    put_number(&mut start, SIZES_AT + 8, zeros as u64);
-    let own_size = start.len() - 8;
+    put_number(&mut start, size_entry(1), zeros as u64);
+    let own_size = layout.offsets()[1] + OWN_SIZE_AT;
     put_number(&mut start, own_size, zeros as u64);
-    let checksum = crc32(&[&start[..CHECKSUM_AT], &start[HEADER..]]);
-    let checksum = crc32_then_zeros(checksum, zeros);
+    let checksum = crc32_then_zeros(checksum_of(&start), zeros);
     put(&mut start, CHECKSUM_AT, &checksum.to_be_bytes());
     start
 }
@@ -98,13 +107,21 @@ fn edited(edit: impl FnOnce(&mut Vec<u8>)) -> Vec<u8> {
     image
 }
 
-fn of_types(version: u16, types: &[u16]) -> Vec<u8> {
+/// A layout with a section of one byte for each type.
+pub(crate) fn layout_of(version: u16, types: &[u16]) -> Layout {
     let sections = types.iter().map(|&kind| Section::new(kind, b"x"));
-    Layout::new(version, sections.collect()).image()
+    Layout::new(version, sections.collect())
 }
 
-/// The worked image's sections, and where the table's offset entry of each stands.
-const ENTRIES: [(usize, u64); 3] = [(0, 28), (1, 36), (2, 44)];
+/// Where a section starts, those before it being of one byte each.
+pub(crate) fn start_of(index: usize) -> usize {
+    HEADER + index * (SECTION_HEADER + 1)
+}
+
+/// The image of [`layout_of`].
+pub(crate) fn image_of(version: u16, types: &[u16]) -> Vec<u8> {
+    layout_of(version, types).image()
+}
 
 /// Each rule of FORMAT.md, "Reading an image", at its boundary, and those that a reader easily gets
 /// wrong.
@@ -126,17 +143,19 @@ fn boundary_cases() -> Vec<ImageCase> {
 fn table_cases() -> Vec<ImageCase> {
     let mut cases = Vec::new();
     let mut case = |name, image, answer| cases.push(ImageCase::new(name, image, answer));
-    case("547 bytes", worked_image()[..547].to_vec(), (2, 0, 0));
+    let short = worked_image()[..HEADER - 1].to_vec();
+    case("547 bytes", short, (2, 0, 0));
     for count in [1, 33] {
         let image = edited(|image| put(image, COUNT_AT, &[0, count]));
-        case("count 1 or 33", image, (5, 0, 26));
+        case("count 1 or 33", image, refused(5, 0, COUNT_AT));
     }
     case("kernel and empty command line", two_sections(), ACCEPTED);
-    let image = edited(|image| put_number(image, OFFSETS_AT, 547));
-    case("first offset 547", image, (6, 0, 28));
-    for (index, entry) in ENTRIES {
-        let image = edited(|image| put_number(image, SIZES_AT + 8 * index, u64::MAX));
-        case("size of all ones", image, (7, index as u64, entry));
+    let image = edited(|image| put_number(image, OFFSETS_AT, HEADER as u64 - 1));
+    case("first offset 547", image, refused(6, 0, OFFSETS_AT));
+    for index in 0..3 {
+        let image = edited(|image| put_number(image, size_entry(index), u64::MAX));
+        let answer = refused(7, index, offset_entry(index));
+        case("size of all ones", image, answer);
     }
     case(
         "a section ending at the file's end",
@@ -144,10 +163,10 @@ fn table_cases() -> Vec<ImageCase> {
         ACCEPTED,
     );
     let image = edited(|image| {
-        put_number(image, SIZES_AT + 16, 1);
-        put_number(image, 578, 1);
+        put_number(image, size_entry(2), 1);
+        put_number(image, WORKED_OFFSETS[2] + OWN_SIZE_AT, 1);
     });
-    case("its size one more", image, (7, 2, 44));
+    case("its size one more", image, refused(7, 2, offset_entry(2)));
     cases
 }
 
@@ -155,23 +174,23 @@ fn type_cases() -> Vec<ImageCase> {
     let mut cases = Vec::new();
     let mut case = |name, image, answer| cases.push(ImageCase::new(name, image, answer));
     for kind in [6, 0] {
-        let image = edited(|image| put(image, 574, &[0, kind]));
-        case("type 6 or 0", image, (9, 2, 574));
+        let image = edited(|image| put(image, WORKED_OFFSETS[2], &[0, kind]));
+        case("type 6 or 0", image, refused(9, 2, WORKED_OFFSETS[2]));
     }
-    let image = of_types(3, &[1, 2, 5]);
-    case("version 3 with metadata", image, (9, 2, 574));
-    let image = of_types(4, &[1, 2, 3]);
-    case("version 4 without metadata", image, (12, 0, 26));
+    let image = image_of(3, &[1, 2, 5]);
+    case("version 3 with metadata", image, refused(9, 2, start_of(2)));
+    let image = image_of(4, &[1, 2, 3]);
+    let answer = refused(12, 0, COUNT_AT);
+    case("version 4 without metadata", image, answer);
     cases
 }
 
 fn checksum_cases() -> Vec<ImageCase> {
     let one_off = |difference| {
         let mut image = worked_image();
-        let checksum = crc32(&[&image[..CHECKSUM_AT], &image[HEADER..]]);
-        let checksum = checksum.wrapping_add(difference);
+        let checksum = checksum_of(&image).wrapping_add(difference);
         put(&mut image, CHECKSUM_AT, &checksum.to_be_bytes());
-        ImageCase::new("checksum one off", image, (13, 0, 544))
+        ImageCase::new("checksum one off", image, refused(13, 0, CHECKSUM_AT))
     };
     Vec::from([1, u32::MAX].map(one_off))
 }
@@ -179,26 +198,33 @@ fn checksum_cases() -> Vec<ImageCase> {
 fn mistaken_cases() -> Vec<ImageCase> {
     let mut cases = Vec::new();
     let mut case = |name, image, answer| cases.push(ImageCase::new(name, image, answer));
-    // Offset 574 + 12 + size is 2 to the 64, which wraps to 0.
-    let image = edited(|image| put_number(image, SIZES_AT + 16, 0u64.wrapping_sub(586)));
-    case("end that wraps to 0", image, (7, 2, 44));
+    // The last section's offset + 12 + size is 2 to the 64, which wraps to 0.
+    let wraps = (WORKED_LENGTH as u64).wrapping_neg();
+    let image = edited(|image| put_number(image, size_entry(2), wraps));
+    case("end that wraps to 0", image, refused(7, 2, offset_entry(2)));
     let mut image = worked_layout().without_checksum();
     let checksum = crc32(&[&image]);
     put(&mut image, CHECKSUM_AT, &checksum.to_be_bytes());
-    case("checksum over the field as zeros", image, (13, 0, 544));
-    let image = of_types(2, &[3, 1, 1]);
-    case("ramdisk first, two kernels", image, (10, 0, 548));
-    case("ramdisk and no kernel", of_types(2, &[2, 3]), (10, 1, 561));
-    case("second kernel", of_types(2, &[1, 1, 2]), (11, 1, 561));
-    let image = of_types(4, &[1, 5, 2, 5]);
-    case("second metadata", image, (11, 3, 587));
-    case("no command line", of_types(2, &[1, 3]), (12, 0, 26));
-    let image = of_types(2, &[1, 2, 4]);
-    case("signature in version 2", image, (9, 2, 574));
-    case("signature in version 3", of_types(3, &[1, 2, 4]), ACCEPTED);
-    let mut image = of_types(4, &[1, 2]);
-    image[CHECKSUM_AT] ^= 1;
-    case("no metadata and a wrong checksum", image, (12, 0, 26));
+    let answer = refused(13, 0, CHECKSUM_AT);
+    case("checksum over the field as zeros", image, answer);
+    let mut case = |name, version, types: &[u16], answer| {
+        case(name, image_of(version, types), answer);
+    };
+    let ramdisk_first = refused(10, 0, start_of(0));
+    case("ramdisk first, two kernels", 2, &[3, 1, 1], ramdisk_first);
+    let no_kernel = refused(10, 1, start_of(1));
+    case("ramdisk and no kernel", 2, &[2, 3], no_kernel);
+    case("second kernel", 2, &[1, 1, 2], refused(11, 1, start_of(1)));
+    let second = refused(11, 3, start_of(3));
+    case("second metadata", 4, &[1, 5, 2, 5], second);
+    let missing = refused(12, 0, COUNT_AT);
+    case("no command line", 2, &[1, 3], missing);
+    let signature = refused(9, 2, start_of(2));
+    case("signature in version 2", 2, &[1, 2, 4], signature);
+    case("signature in version 3", 3, &[1, 2, 4], ACCEPTED);
+    let image = stale(image_of(4, &[1, 2]));
+    let name = "no metadata and a wrong checksum";
+    cases.push(ImageCase::new(name, image, missing));
     cases
 }
 
@@ -219,23 +245,26 @@ fn stale(mut image: Vec<u8>) -> Vec<u8> {
 fn packing_cases() -> Vec<ImageCase> {
     let mut cases = offset_cases();
     let mut case = |name, image, answer| cases.push(ImageCase::new(name, image, answer));
-    for (index, entry) in ENTRIES {
+    for index in 0..3 {
         let image = with_gap(index);
-        let answer = (20, index as u64, entry);
+        let answer = refused(20, index, offset_entry(index));
         case("a gap of one byte", image.clone(), answer);
         case("the same, wrong checksum", stale(image), answer);
     }
     let tail = || edited(|image| image.push(0));
-    case("a byte after the last section", tail(), (20, 0, 586));
-    case("the same, wrong checksum", stale(tail()), (20, 0, 586));
+    let answer = refused(20, 0, WORKED_LENGTH);
+    case("a byte after the last section", tail(), answer);
+    case("the same, wrong checksum", stale(tail()), answer);
     let image = edited(|image| image.extend_from_within(..));
-    case("the file twice", image, (20, 0, 586));
-    let mut image = of_types(2, &[1, 3]);
+    case("the file twice", image, answer);
+    let mut image = image_of(2, &[1, 3]);
     image.push(0);
     put_checksum(&mut image);
-    case("no command line and a tail", image, (12, 0, 26));
-    let image = edited(|image| image.truncate(585));
-    case("a section cut at the file's end", image, (7, 2, 44));
+    let answer = refused(12, 0, COUNT_AT);
+    case("no command line and a tail", image, answer);
+    let image = edited(|image| image.truncate(WORKED_LENGTH - 1));
+    let answer = refused(7, 2, offset_entry(2));
+    case("a section cut at the file's end", image, answer);
     cases
 }
 
@@ -243,30 +272,26 @@ fn packing_cases() -> Vec<ImageCase> {
 fn offset_cases() -> Vec<ImageCase> {
     let mut cases = Vec::new();
     let mut case = |name, image, answer| cases.push(ImageCase::new(name, image, answer));
-    for (index, entry) in ENTRIES {
-        let with_offset =
-            |offset| edited(|image| put_number(image, OFFSETS_AT + 8 * index, offset));
-        let index = index as u64;
-        case(
-            "offset of all ones",
-            with_offset(u64::MAX),
-            (20, index, entry),
-        );
-        case(
-            "offset at the file's end",
-            with_offset(586),
-            (20, index, entry),
-        );
-        case("offset 0", with_offset(0), (6, index, entry));
+    for index in 0..3 {
+        let entry = offset_entry(index);
+        let with_offset = |offset| edited(|image| put_number(image, entry, offset as u64));
+        let late = refused(20, index, entry);
+        let image = edited(|image| put_number(image, entry, u64::MAX));
+        case("offset of all ones", image, late);
+        case("offset at the file's end", with_offset(WORKED_LENGTH), late);
+        case("offset 0", with_offset(0), refused(6, index, entry));
     }
+    let [_, second, third] = WORKED_OFFSETS.map(|offset| offset as u64);
     let mut image = with_gap(1);
-    put_number(&mut image, OFFSETS_AT + 16, 574);
+    put_number(&mut image, offset_entry(2), third);
     put_checksum(&mut image);
-    case("a gap, and 6 at a later section", image, (20, 1, 36));
+    let answer = refused(20, 1, offset_entry(1));
+    case("a gap, and 6 at a later section", image, answer);
     let image = edited(|image| {
-        put_number(image, OFFSETS_AT + 8, 560);
-        put_number(image, OFFSETS_AT + 16, 575);
+        put_number(image, offset_entry(1), second - 1);
+        put_number(image, offset_entry(2), third + 1);
     });
-    case("6, and a gap before a later section", image, (6, 1, 36));
+    let answer = refused(6, 1, offset_entry(1));
+    case("6, and a gap before a later section", image, answer);
     cases
 }

@@ -27,17 +27,18 @@ mod texts;
 pub use digests::{digest_cases, hex, register_cases, DigestCase};
 pub use images::{
     image_cases, image_of_length, two_sections, worked_image, zero_image, zero_image_start, Answer,
-    ImageCase, ACCEPTED,
+    ImageCase, ACCEPTED, WORKED_LENGTH, WORKED_OFFSETS,
 };
 pub use layout::{
-    crc32, crc32_then_zeros, put, put_checksum, put_number, section_end, Layout, Section,
-    CHECKSUM_AT, COUNT_AT, HEADER, MAX_SECTIONS, OFFSETS_AT, OWN_SIZE_AT, RESERVED_AFTER_AT,
-    RESERVED_AT, SECTION_HEADER, SIZES_AT, VERSION_AT,
+    checksum_of, crc32, crc32_after, crc32_then_zeros, offset_entry, put, put_checksum, put_number,
+    section_end, size_entry, Layout, Section, CHECKSUM_AT, COUNT_AT, ENTRY, HEADER, MAX_SECTIONS,
+    OFFSETS_AT, OWN_SIZE_AT, RESERVED_AFTER_AT, RESERVED_AT, SECTION_HEADER, SHORTEST, SIZES_AT,
+    VERSION_AT,
 };
 pub use positions::{located_images, located_plans, located_rolls, PlanCase};
 pub use rolls::{
-    flags_record, record, roll_cases, roll_of, RollCase, Row, FLAGS_RECORD, RECORD_HEADER,
-    WORKED_ROLL,
+    flags_record, record, roll_cases, roll_of, RollCase, Row, FLAGS_RECORD, KIND_AT,
+    NUMBERED_HEADER, RECORD_HEAD, WORKED_ROLL,
 };
 pub use sign1::{sign1_cases, sign1_example, Sign1Case, Sign1Parts, SIGN1_ALGORITHMS};
 pub use streams::{command_line_first, copy_cases, stream_cases, CopyCase, StreamCase};

@@ -1,22 +1,12 @@
 //! Each answer number at a first, an inner and a last index, as far as it can occur there, with its position.
 
-use crate::images::{Answer, ImageCase};
+use crate::images::{image_of, layout_of, refused, start_of, Answer, ImageCase};
 use crate::layout::*;
-use crate::rolls::{record, roll_of, RollCase};
+use crate::rolls::{record, roll_of, RollCase, FLAGS_RECORD, RECORD_HEAD};
 
 /// Types of 32 sections of version 4.
 fn types() -> Vec<u16> {
     [1, 2, 5, 4].into_iter().chain([3; 28]).collect()
-}
-
-/// An image with a section of one byte for each type.
-fn image_of(version: u16, types: &[u16]) -> Vec<u8> {
-    layout_of(version, types).image()
-}
-
-fn layout_of(version: u16, types: &[u16]) -> Layout {
-    let sections = types.iter().map(|&kind| Section::new(kind, b"x"));
-    Layout::new(version, sections.collect())
 }
 
 /// The 32 types with another one in one place.
@@ -34,9 +24,8 @@ fn changed(change: impl FnOnce(&mut Vec<u8>)) -> Vec<u8> {
     image
 }
 
-/// Of the image of 32 sections: an index, where the table's offset entry stands, and the section's own
-/// header.
-const SECTIONS: [(usize, u64, u64); 3] = [(0, 28, 548), (15, 148, 743), (31, 276, 951)];
+/// The first, an inner and the last of 32 sections.
+const SECTIONS: [usize; 3] = [0, 15, 31];
 
 /// Each number of reading an image but 1, which is for images that are longer than any here.
 pub fn located_images() -> Vec<ImageCase> {
@@ -50,19 +39,19 @@ pub fn located_images() -> Vec<ImageCase> {
 fn located_sections() -> Vec<ImageCase> {
     let mut cases = Vec::new();
     let mut case = |name, image, answer| cases.push(ImageCase::new(name, image, answer));
-    for (index, entry, header) in SECTIONS {
-        let (place, own) = (index as u64, header as usize);
-        let early = changed(|image| put_number(image, entry as usize, header - 1));
-        case("starts early", early, (6, place, entry));
+    for index in SECTIONS {
+        let (entry, header) = (offset_entry(index), start_of(index));
+        let early = changed(|image| put_number(image, entry, header as u64 - 1));
+        case("starts early", early, refused(6, index, entry));
         let mut gap = layout_of(4, &types());
         gap.sections[index].gap = 1;
-        case("a gap", gap.image(), (20, place, entry));
-        let late = changed(|image| put_number(image, SIZES_AT + 8 * index, u64::MAX));
-        case("ends late", late, (7, place, entry));
-        let sizes = changed(|image| put_number(image, own + OWN_SIZE_AT, 2));
-        case("sizes differ", sizes, (8, place, header));
+        case("a gap", gap.image(), refused(20, index, entry));
+        let late = changed(|image| put_number(image, size_entry(index), u64::MAX));
+        case("ends late", late, refused(7, index, entry));
+        let sizes = changed(|image| put_number(image, header + OWN_SIZE_AT, 2));
+        case("sizes differ", sizes, refused(8, index, header));
         let kind = image_of(4, &with_type(index, 6));
-        case("type not allowed", kind, (9, place, header));
+        case("type not allowed", kind, refused(9, index, header));
     }
     cases
 }
@@ -71,15 +60,16 @@ fn located_sections() -> Vec<ImageCase> {
 /// there a second time is not the first.
 fn located_types() -> Vec<ImageCase> {
     let mut cases = Vec::new();
-    let mut case = |name, types: &[u16], answer| {
+    let mut case = |name, types: &[u16], number, index| {
+        let answer = refused(number, index, start_of(index));
         cases.push(ImageCase::new(name, image_of(4, types), answer));
     };
-    case("ramdisk first", &[3, 1, 2, 5], (10, 0, 548));
-    case("ramdisk before the kernel", &[2, 5, 3, 1], (10, 2, 574));
-    case("ramdisk last, no kernel", &[2, 5, 4, 3], (10, 3, 587));
-    case("second kernel, at 1", &with_type(1, 1), (11, 1, 561));
-    case("second signature", &with_type(15, 4), (11, 15, 743));
-    case("second metadata, last", &with_type(31, 5), (11, 31, 951));
+    case("ramdisk first", &[3, 1, 2, 5], 10, 0);
+    case("ramdisk before the kernel", &[2, 5, 3, 1], 10, 2);
+    case("ramdisk last, no kernel", &[2, 5, 4, 3], 10, 3);
+    case("second kernel, at 1", &with_type(1, 1), 11, 1);
+    case("second signature", &with_type(15, 4), 11, 15);
+    case("second metadata, last", &with_type(31, 5), 11, 31);
     cases
 }
 
@@ -87,32 +77,39 @@ fn located_types() -> Vec<ImageCase> {
 fn located_files() -> Vec<ImageCase> {
     let mut cases = Vec::new();
     let mut case = |name, image, answer| cases.push(ImageCase::new(name, image, answer));
-    case("547 bytes", changed(|_| ())[..547].to_vec(), (2, 0, 0));
+    let short = changed(|_| ())[..HEADER - 1].to_vec();
+    case("547 bytes", short, (2, 0, 0));
     case("wrong magic", changed(|image| image[3] ^= 1), (3, 0, 0));
     for version in [1, 5] {
         let image = changed(|image| put(image, VERSION_AT, &[0, version]));
-        case("wrong version", image, (4, 0, 4));
+        case("wrong version", image, refused(4, 0, VERSION_AT));
     }
     for count in [1, 33] {
         let image = changed(|image| put(image, COUNT_AT, &[0, count]));
-        case("wrong count", image, (5, 0, 26));
+        case("wrong count", image, refused(5, 0, COUNT_AT));
     }
     for missing in [&[2, 5][..], &[1, 5], &[1, 2]] {
-        case("a type missing", image_of(4, missing), (12, 0, 26));
+        let answer = refused(12, 0, COUNT_AT);
+        case("a type missing", image_of(4, missing), answer);
     }
-    case("a tail", changed(|image| image.push(0)), (20, 0, 964));
+    let tail = changed(|image| image.push(0));
+    case("a tail", tail, refused(20, 0, start_of(MAX_SECTIONS)));
     let mut image = changed(|_| ());
     image[CHECKSUM_AT + 3] ^= 1;
-    case("checksum differs", image, (13, 0, 544));
+    case("checksum differs", image, refused(13, 0, CHECKSUM_AT));
     cases
 }
 
-/// Of a roll of 32 records of one byte behind its flags record, which is record 0: an index and where the
-/// record starts.
-const RECORDS: [(usize, usize); 3] = [(1, 12), (16, 177), (32, 353)];
+/// The first, an inner and the last of a roll's 32 records behind its flags record, which is record 0.
+const RECORDS: [usize; 3] = [1, 16, 32];
 
-/// Where its end record starts.
-const END_RECORD: usize = 364;
+/// The end record behind them.
+const END_RECORD: usize = 33;
+
+/// Where a record starts, those between it and the flags record being of one byte each.
+fn record_start(index: usize) -> usize {
+    FLAGS_RECORD + (index - 1) * (RECORD_HEAD + 1)
+}
 
 /// Types of 32 records.
 fn record_types() -> Vec<u16> {
@@ -132,18 +129,23 @@ pub fn located_rolls() -> Vec<RollCase> {
     let whole = roll(&record_types());
     case("no kernel", roll(&[2]), (12, 0, 0));
     case("no command line", roll(&[1, 3]), (12, 0, 0));
-    case("ramdisk first", roll(&[3, 1, 2]), (10, 1, 12));
-    case("ramdisk before the kernel", roll(&[2, 3, 1]), (10, 2, 23));
-    for cut in [END_RECORD, END_RECORD + 9] {
-        let answer = (16, 33, END_RECORD as u64);
+    let first = refused(10, 1, record_start(1));
+    case("ramdisk first", roll(&[3, 1, 2]), first);
+    let second = refused(10, 2, record_start(2));
+    case("ramdisk before the kernel", roll(&[2, 3, 1]), second);
+    let end = record_start(END_RECORD);
+    for cut in [end, end + RECORD_HEAD - 1] {
+        let answer = refused(16, END_RECORD, end);
         case("end record cut", whole[..cut].to_vec(), answer);
     }
-    let long_end = [&whole[..END_RECORD], &record(1, 0, b"x")].concat();
-    case("end record with data", long_end, (17, 33, 364));
+    let long_end = [&whole[..end], &record(1, 0, b"x")].concat();
+    let answer = refused(17, END_RECORD, end);
+    case("end record with data", long_end, answer);
     let one_more: Vec<u16> = record_types().into_iter().chain([3]).collect();
-    case("a 33rd record", roll(&one_more), (5, 0, 364));
+    case("a 33rd record", roll(&one_more), refused(5, 0, end));
     let longer = [&whole[..], &[0]].concat();
-    case("a byte after the end record", longer, (18, 0, 374));
+    let answer = refused(18, 0, end + RECORD_HEAD);
+    case("a byte after the end record", longer, answer);
     cases
 }
 
@@ -152,26 +154,27 @@ fn located_records() -> Vec<RollCase> {
     let mut cases = Vec::new();
     let mut case = |name, roll, answer: Answer| cases.push(RollCase::refused(name, roll, answer));
     let whole = roll(&record_types());
-    for (index, start) in RECORDS {
-        let (place, position) = (index as u64, start as u64);
+    for index in RECORDS {
+        let start = record_start(index);
         // Before its head, inside its head and before its data.
-        for cut in [start, start + 9, start + 10] {
-            case("cut", whole[..cut].to_vec(), (16, place, position));
+        for cut in [start, start + RECORD_HEAD - 1, start + RECORD_HEAD] {
+            case("cut", whole[..cut].to_vec(), refused(16, index, start));
         }
         let mut types = record_types();
         types[index - 1] = 256;
-        case("type 256", roll(&types), (17, place, position));
+        case("type 256", roll(&types), refused(17, index, start));
         if index > 1 {
             types[index - 1] = 1;
-            case("second kernel", roll(&types), (11, place, position));
+            case("second kernel", roll(&types), refused(11, index, start));
         }
     }
-    for cut in [0, 9, 10, 11] {
+    for cut in [0, RECORD_HEAD - 1, RECORD_HEAD, FLAGS_RECORD - 1] {
         case("flags record cut", whole[..cut].to_vec(), (16, 0, 0));
     }
-    case("no flags record", whole[12..].to_vec(), (17, 0, 0));
-    let repeated = roll(&[2, 2, 1]);
-    case("second command line, at 2", repeated, (11, 2, 23));
+    let no_flags = whole[FLAGS_RECORD..].to_vec();
+    case("no flags record", no_flags, (17, 0, 0));
+    let repeated = refused(11, 2, record_start(2));
+    case("second command line, at 2", roll(&[2, 2, 1]), repeated);
     cases
 }
 
@@ -198,7 +201,7 @@ fn plan(name: &'static str, version: u16, types: &[u16], number: u8, index: u64)
         version,
         sections: types.iter().map(|&kind| (kind, 1)).collect(),
         data: types.len(),
-        room: HEADER + (SECTION_HEADER + 1) * types.len(),
+        room: start_of(types.len()),
         answer: (number, index, 0),
     }
 }
@@ -218,7 +221,7 @@ pub fn located_plans() -> Vec<PlanCase> {
         plan("second metadata, last", 4, &with_type(31, 5), 11, 31),
         plan("no metadata", 4, &[1, 2], 12, 0),
     ];
-    for (index, ..) in SECTIONS {
+    for index in SECTIONS {
         let types = with_type(index, 6);
         cases.push(plan("type not allowed", 4, &types, 9, index as u64));
     }

@@ -3,7 +3,11 @@
 use crate::images::Answer;
 
 /// Length of a record's header.
-pub const RECORD_HEADER: usize = 10;
+pub const RECORD_HEAD: usize = 10;
+/// Position of the type in it, after the length; in a transfer's record, of the kind.
+pub const KIND_AT: usize = 8;
+/// What a transfer's open record and piece record have before any data: a header and a number.
+pub const NUMBERED_HEADER: usize = RECORD_HEAD + 8;
 
 /// Length of the flags record, which is a roll's first.
 pub const FLAGS_RECORD: usize = 12;
@@ -69,7 +73,7 @@ pub fn roll_cases() -> Vec<RollCase> {
     let behind = |rest: &[u8]| [&flags_record(0), rest].concat();
 
     case("R1", behind(&[]), Err((16, 1, 12)));
-    case("R2", behind(&[0; 10]), Err((12, 0, 0)));
+    case("R2", behind(&[0; RECORD_HEAD]), Err((12, 0, 0)));
     let list = vec![(1, 22, 1), (2, 33, 1), (3, 44, 0)];
     case("R3", WORKED_ROLL.to_vec(), Ok((0, list)));
     case("R4", WORKED_ROLL[..53].to_vec(), Err((16, 4, 44)));
@@ -98,9 +102,10 @@ fn flags_cases() -> Vec<RollCase> {
     let before = |first: Vec<u8>| [&first, rest].concat();
 
     case("no bytes", vec![], Err((16, 0, 0)));
-    case("head cut", WORKED_ROLL[..9].to_vec(), Err((16, 0, 0)));
+    let head_cut = WORKED_ROLL[..RECORD_HEAD - 1].to_vec();
+    case("head cut", head_cut, Err((16, 0, 0)));
     case("no flags record", rest.to_vec(), Err((17, 0, 0)));
-    case("end record first", vec![0; 10], Err((17, 0, 0)));
+    case("end record first", vec![0; RECORD_HEAD], Err((17, 0, 0)));
     for length in [0, 1, 3, u64::MAX] {
         let roll = before(record(length, 256, &[0, 0]));
         case("its length not 2", roll, Err((17, 0, 0)));
@@ -109,12 +114,12 @@ fn flags_cases() -> Vec<RollCase> {
         let roll = before(record(2, kind, &[0, 0]));
         case("its type not 256", roll, Err((17, 0, 0)));
     }
-    for cut in [10, 11] {
+    for cut in [RECORD_HEAD, FLAGS_RECORD - 1] {
         case("data cut", WORKED_ROLL[..cut].to_vec(), Err((16, 0, 0)));
     }
     case(
         "a second one",
-        before(WORKED_ROLL[..12].repeat(2)),
+        before(WORKED_ROLL[..FLAGS_RECORD].repeat(2)),
         Err((17, 1, 12)),
     );
     let mut late = WORKED_ROLL[..44].to_vec();

@@ -4,13 +4,15 @@
 use crate::compare::{parts, same, twin_reading, Input};
 use crate::{any_image, Call, Rng, Tally};
 use eif::raw::{self, Arriving};
-use eif_cases::{put, CHECKSUM_AT, HEADER, MAX_SECTIONS, OFFSETS_AT, SECTION_HEADER};
+use eif_cases::{
+    crc32_after, offset_entry, put, CHECKSUM_AT, ENTRY, HEADER, MAX_SECTIONS, SECTION_HEADER,
+};
 use eif_twin as twin;
 
 /// Where the own header of each section is kept from.
 fn kept_from(header: &[u8; HEADER]) -> [u64; MAX_SECTIONS] {
     std::array::from_fn(|index| {
-        let offset = &header[OFFSETS_AT + 8 * index..][..8];
+        let offset = &header[offset_entry(index)..][..ENTRY];
         u64::from_be_bytes(offset.try_into().unwrap()).max(HEADER as u64)
     })
 }
@@ -52,7 +54,7 @@ fn grown(mut state: Arriving, piece: &[u8]) -> Arriving {
             state.header[at as usize] = byte;
         }
         if !(CHECKSUM_AT as u64..HEADER as u64).contains(&at) {
-            state.checksum = remainder(state.checksum, byte);
+            state.checksum = crc32_after(state.checksum, byte);
         }
         for (index, from) in kept_from(&state.header).into_iter().enumerate() {
             if at >= from && at - from < SECTION_HEADER as u64 {
@@ -65,15 +67,18 @@ fn grown(mut state: Arriving, piece: &[u8]) -> Arriving {
     state
 }
 
-/// One byte more for CRC-32, bit by bit.
-fn remainder(crc: u32, byte: u8) -> u32 {
-    (0..8).fold(crc ^ u32::from(byte), |crc, _| {
-        (crc >> 1) ^ (0xEDB8_8320 & (crc & 1).wrapping_neg())
-    })
-}
-
 /// The lengths of pieces that are most likely to be cut wrongly.
-pub const LENGTHS: [usize; 9] = [0, 1, 2, 11, 12, 547, 548, 549, 4096];
+pub const LENGTHS: [usize; 9] = [
+    0,
+    1,
+    2,
+    SECTION_HEADER - 1,
+    SECTION_HEADER,
+    HEADER - 1,
+    HEADER,
+    HEADER + 1,
+    4096,
+];
 
 /// The length of a next piece, where so many bytes are left, and an allowance for it.
 fn any_cut(rng: &mut Rng, small: bool, rest: usize) -> (usize, u64) {

@@ -3,12 +3,13 @@
 
 use crate::compare::{parts, same, twin_parts, Input};
 use crate::{Call, Rng, Tally};
+use eif::assembler::PIECE_LENGTH as PIECE;
 use eif::raw::assembler::{self as raw, State, Stepped};
 use eif::Assembler;
+use eif_cases::{put, KIND_AT, NUMBERED_HEADER, RECORD_HEAD};
 use eif_twin as twin;
 use std::fmt;
 
-const PIECE: usize = 4096;
 const GUARD: usize = 64;
 
 /// A buffer with bytes before and after it that no call may touch. Calls are lent its start, of any length.
@@ -163,8 +164,7 @@ pub fn compare_transfer_call(
 /// A record of any kind, its head right.
 fn record(kind: u16, parts: &[&[u8]]) -> Vec<u8> {
     let rest = parts.concat();
-    let head = (rest.len() as u64).to_le_bytes();
-    [&head[..], &kind.to_le_bytes(), &rest].concat()
+    eif_cases::record(rest.len() as u64, kind, &rest)
 }
 
 fn piece(content: &[u8], place: usize) -> Vec<u8> {
@@ -198,21 +198,23 @@ fn damage(rng: &mut Rng, sent: &mut Vec<u8>) {
         0 => sent.truncate(rng.below(sent.len() + 1)),
         1 => sent.push(rng.next() as u8),
         2 => {
-            let length = any_number(rng, sent.len() as u64 - 10);
-            sent[..8].copy_from_slice(&length.to_le_bytes());
+            let length = any_number(rng, (sent.len() - RECORD_HEAD) as u64);
+            put(sent, 0, &length.to_le_bytes());
         }
         3 => {
             let kind = rng.pick(&[0, 1, 2, 3, 4, 0x0100, 0x0102, 0xffff]);
-            sent[8..10].copy_from_slice(&u16::to_le_bytes(kind));
+            put(sent, KIND_AT, &u16::to_le_bytes(kind));
         }
-        4 if sent.len() >= 18 => {
+        4 if sent.len() >= NUMBERED_HEADER => {
             let near = rng.below(4 * PIECE) as u64;
             let number = any_number(rng, near);
-            sent[10..18].copy_from_slice(&number.to_le_bytes());
+            put(sent, RECORD_HEAD, &number.to_le_bytes());
         }
         5 => sent.truncate(sent.len() - rng.below(sent.len().min(12))),
         _ => {
-            let most = rng.pick(&[10, 18, sent.len()]).min(sent.len());
+            let most = rng
+                .pick(&[RECORD_HEAD, NUMBERED_HEADER, sent.len()])
+                .min(sent.len());
             let at = rng.below(most);
             sent[at] ^= 1 << rng.below(8);
         }
@@ -233,7 +235,7 @@ fn any_record(rng: &mut Rng, content: &[u8], other: &[u8]) -> Vec<u8> {
             // Contradicting: another byte in a piece of the right length.
             let mut sent = piece(content, place);
             let last = sent.len() - 1;
-            sent[last] ^= u8::from(last >= 18) << rng.below(8);
+            sent[last] ^= u8::from(last >= NUMBERED_HEADER) << rng.below(8);
             sent
         }
         6 => {

@@ -6,6 +6,7 @@ use eif::raw::{self, Answer, Reading, RegistersAnswer, RollReading, StreamSectio
 use eif::{
     DataLength, Digest, FilePosition, Refusal, RollPosition, SectionType, Stream, StreamPosition,
 };
+use eif_cases::MAX_SECTIONS;
 use eif_twin as twin;
 use std::fmt::{self, Debug, Display};
 use std::io::Read;
@@ -70,8 +71,8 @@ fn twin_answer(answer: Result<u64, twin::Refusal>) -> Answer {
 }
 
 /// Sections as an answer has them, zeros after them.
-fn in_places(list: &[twin::Section]) -> [raw::Section; 32] {
-    let mut sections = [raw::Section::default(); 32];
+fn in_places(list: &[twin::Section]) -> [raw::Section; MAX_SECTIONS] {
+    let mut sections = [raw::Section::default(); MAX_SECTIONS];
     for (to, from) in sections.iter_mut().zip(list) {
         *to = raw::Section {
             section_type: SectionType(from.kind),
@@ -109,7 +110,7 @@ pub(crate) fn twin_reading(answer: &Result<twin::Reading, twin::Refusal>) -> Rea
                 number: refusal.number,
                 index: refusal.index,
                 position: refusal.position,
-                first_ramdisk: 32,
+                first_ramdisk: raw::NO_RAMDISK,
                 ..Reading::default()
             }
         }
@@ -141,7 +142,7 @@ fn twin_roll_reading(answer: &Result<twin::Roll, twin::Refusal>) -> RollReading 
             }
         }
     };
-    let mut records = [raw::RollRecord::default(); 32];
+    let mut records = [raw::RollRecord::default(); MAX_SECTIONS];
     for (to, from) in records.iter_mut().zip(&roll.records) {
         *to = raw::RollRecord {
             section_type: SectionType(from.kind),
@@ -411,7 +412,10 @@ fn compare_sections(input: &Input, reading: &Reading, stream: Stream) -> StreamS
 /// Copies from any list of sections.
 fn compare_list(rng: &mut Rng, input: &Input, list: &StreamSections, tally: &mut Tally) {
     let image = input.bytes;
-    let used = list.sections.iter().take(list.count.min(32) as usize);
+    let used = list
+        .sections
+        .iter()
+        .take(list.count.min(MAX_SECTIONS as u64) as usize);
     let sections: Vec<_> = used.map(twin_section).collect();
     let parts = sections.iter().map(|section| {
         let rest = image.len().saturating_sub(section.position);

@@ -99,7 +99,7 @@ pub fn any_image_of(rng: &mut Rng, layout: &Layout) -> Vec<u8> {
         put(&mut image, RESERVED_AFTER_AT, &rng.bytes(4));
     }
     if rng.once_in(4) {
-        let unused = 8 * (MAX_SECTIONS - layout.sections.len());
+        let unused = ENTRY * (MAX_SECTIONS - layout.sections.len());
         put(&mut image, SIZES_AT - unused, &rng.bytes(unused));
         put(&mut image, RESERVED_AFTER_AT - unused, &rng.bytes(unused));
     }
@@ -175,7 +175,7 @@ fn damage_count(rng: &mut Rng, image: &mut [u8], count: u16) {
 fn damage_offset(rng: &mut Rng, image: &mut [u8], target: &Target) {
     let near = rng.pick(&[target.before, target.offset, image.len(), HEADER]);
     let wrong = rng.hostile(near as u64);
-    put_if_inside(image, OFFSETS_AT + 8 * target.index, &wrong.to_be_bytes());
+    put_if_inside(image, offset_entry(target.index), &wrong.to_be_bytes());
 }
 
 /// Another size in the table and, now and then, in the section's own header too.
@@ -184,7 +184,7 @@ fn damage_size(rng: &mut Rng, image: &mut [u8], target: &Target) {
     let wraps = ((target.offset + SECTION_HEADER) as u64).wrapping_neg();
     let near = rng.pick(&[target.length as u64, rest, wraps]);
     let wrong = rng.hostile(near).to_be_bytes();
-    put_if_inside(image, SIZES_AT + 8 * target.index, &wrong);
+    put_if_inside(image, size_entry(target.index), &wrong);
     if rng.once_in(2) {
         put_if_inside(image, target.offset + OWN_SIZE_AT, &wrong);
     }
@@ -192,7 +192,7 @@ fn damage_size(rng: &mut Rng, image: &mut [u8], target: &Target) {
 
 /// A checksum that is wrong in a way that a packer may get it wrong.
 fn spoil_checksum(rng: &mut Rng, image: &mut [u8]) {
-    let right = crc32(&[&image[..CHECKSUM_AT], &image[HEADER..]]);
+    let right = checksum_of(image);
     let wrong = match rng.below(6) {
         0 => right.wrapping_add(1),
         1 => right.wrapping_sub(1),
@@ -207,7 +207,9 @@ fn spoil_checksum(rng: &mut Rng, image: &mut [u8]) {
 /// Any image.
 pub fn any_image(rng: &mut Rng) -> Vec<u8> {
     if rng.once_in(50) {
-        let length = rng.pick(&[0, 1, 4, 28, 547, 548, 549, 600]);
+        let header = [HEADER - 1, HEADER, HEADER + 1];
+        let others = [0, 1, VERSION_AT, OFFSETS_AT];
+        let length = rng.pick(&[&others[..], &header, &[600]].concat());
         return rng.bytes(length);
     }
     let mut layout = accepted_layout(rng);

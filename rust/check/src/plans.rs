@@ -3,6 +3,7 @@
 use crate::{accepted_layout, Rng};
 use eif::raw::Plan;
 use eif::{DataLength, Place, SectionType};
+use eif_cases::{HEADER, MAX_SECTIONS, SECTION_HEADER};
 
 /// What a writer is handed.
 #[derive(Clone, Debug)]
@@ -46,7 +47,8 @@ fn used(plan: &Plan) -> &[Place] {
 /// The length of the plan's image, exact.
 fn image_length(plan: &Plan) -> u128 {
     let places = used(plan).iter();
-    548 + places.map(|p| 12 + u128::from(p.length.0)).sum::<u128>()
+    let sections = places.map(|p| SECTION_HEADER as u128 + u128::from(p.length.0));
+    HEADER as u128 + sections.sum::<u128>()
 }
 
 fn any_place(rng: &mut Rng) -> Place {
@@ -58,7 +60,7 @@ fn any_place(rng: &mut Rng) -> Place {
 }
 
 fn damage_plan(rng: &mut Rng, plan: &mut Plan) {
-    let count = usize::from(plan.count).clamp(1, 32);
+    let count = usize::from(plan.count).clamp(1, MAX_SECTIONS);
     let chosen = rng.below(count);
     match rng.below(8) {
         0 => plan.version = rng.pick(&[0, 1, 2, 3, 4, 5, 0x0200, 0xffff]),

@@ -3,6 +3,7 @@
 use crate::{any_image, Rng};
 use eif::raw::{self, Reading, Section, StreamSections};
 use eif::{DataLength, FilePosition, SectionType};
+use eif_cases::MAX_SECTIONS;
 
 /// Bytes, a reading that may be theirs, and a list of sections that may be the reading's.
 #[derive(Clone, Debug)]
@@ -38,7 +39,7 @@ fn any_section(rng: &mut Rng, length: usize) -> Section {
 }
 
 /// Changes some of the sections, or all.
-fn damage_sections(rng: &mut Rng, sections: &mut [Section; 32], length: usize) {
+fn damage_sections(rng: &mut Rng, sections: &mut [Section; MAX_SECTIONS], length: usize) {
     match rng.below(4) {
         0 => {}
         1 => sections.fill_with(|| any_section(rng, length)),
@@ -48,7 +49,7 @@ fn damage_sections(rng: &mut Rng, sections: &mut [Section; 32], length: usize) {
         }
         _ => {
             for _ in 0..1 + rng.below(4) {
-                sections[rng.below(32)] = any_section(rng, length);
+                sections[rng.below(MAX_SECTIONS)] = any_section(rng, length);
             }
         }
     }
@@ -80,7 +81,7 @@ fn any_list(rng: &mut Rng, reading: &Reading, length: usize) -> StreamSections {
     damage_sections(rng, &mut sections, length);
     let count = u64::from(reading.count);
     let few = rng.below(34) as u64;
-    let hostile = rng.hostile(32);
+    let hostile = rng.hostile(MAX_SECTIONS as u64);
     StreamSections {
         count: rng.pick(&[count, few, few, 31, 32, 33, hostile, u64::MAX]),
         sections,

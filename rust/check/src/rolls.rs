@@ -1,7 +1,7 @@
 //! Rolls: valid, damaged and hostile.
 
 use crate::Rng;
-use eif_cases::{record, RECORD_HEADER};
+use eif_cases::{record, RECORD_HEAD};
 
 /// A record's type, the length that it states and its data.
 type Record = (u16, u64, Vec<u8>);
@@ -33,8 +33,8 @@ fn accepted_records(rng: &mut Rng) -> Vec<Record> {
 /// How many bytes stand from the start of a record's data to the end of the roll.
 fn rest_from(records: &[Record], chosen: usize) -> usize {
     let sizes = records[chosen..].iter();
-    let sizes = sizes.map(|record| RECORD_HEADER + record.2.len());
-    sizes.sum::<usize>() - RECORD_HEADER
+    let sizes = sizes.map(|record| RECORD_HEAD + record.2.len());
+    sizes.sum::<usize>() - RECORD_HEAD
 }
 
 fn damage_records(rng: &mut Rng, records: &mut Vec<Record>) {

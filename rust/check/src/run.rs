@@ -28,10 +28,15 @@ pub fn share(total: u64, part: u64, parts: u64) -> Range<u64> {
 
 /// Runs `work` on every share of a number of inputs, a thread for each processor.
 pub fn in_threads<T: Send>(total: u64, work: impl Fn(Range<u64>) -> T + Sync) -> Vec<T> {
+    in_parts(|part, parts| work(share(total, part, parts)))
+}
+
+/// Runs `work` with the number of each part and how many there are, a thread for each processor.
+pub fn in_parts<T: Send>(work: impl Fn(u64, u64) -> T + Sync) -> Vec<T> {
     let parts = thread::available_parallelism().map_or(2, |n| n.get() as u64);
     thread::scope(|scope| {
         let work = &work;
-        let run = |part| scope.spawn(move || work(share(total, part, parts)));
+        let run = |part| scope.spawn(move || work(part, parts));
         let threads: Vec<_> = (0..parts).map(run).collect();
         let joined = threads.into_iter().map(|thread| match thread.join() {
             Ok(done) => done,

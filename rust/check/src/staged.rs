@@ -113,7 +113,7 @@ pub fn compare_staged_part(
 }
 
 /// Whether a part's bytes are those of the whole, in place and not copied.
-fn is_part(part: &[u8], whole: &[u8]) -> bool {
+pub fn is_part(part: &[u8], whole: &[u8]) -> bool {
     let (part, whole) = (part.as_ptr_range(), whole.as_ptr_range());
     whole.start <= part.start && part.end <= whole.end
 }

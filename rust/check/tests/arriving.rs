@@ -3,7 +3,7 @@
 use eif::raw::{self, Arriving as State};
 use eif::{Arriving, Reading, Refusal};
 use eif_cases::{image_cases, worked_image, ACCEPTED};
-use eif_check::{state_of, LENGTHS};
+use eif_check::{parts, state_of, LENGTHS};
 use std::io::{self, Write};
 
 type Answer = Result<Reading, Refusal>;
@@ -24,8 +24,9 @@ fn read(image: &[u8]) -> Answer {
 fn examples_in_pieces_of_every_length() {
     for case in image_cases() {
         let whole = read(&case.image);
-        let parts = |refusal: &Refusal| (refusal.number(), refusal.index(), refusal.position());
-        let verdict = whole.as_ref().map_or_else(parts, |_| ACCEPTED);
+        let verdict = whole
+            .as_ref()
+            .map_or_else(|&refusal| parts(refusal), |_| ACCEPTED);
         assert_eq!(verdict, case.answer, "{}", case.name);
         for length in LENGTHS.into_iter().filter(|&length| length > 0) {
             let answer = arrived(case.image.chunks(length));

@@ -5,10 +5,13 @@
 use eif::assembler::{self, close_record, open_record, piece_record, PIECE_LENGTH};
 use eif::raw::assembler::{assembler_new, assembler_step, State};
 use eif::{Assembler, MAX_IMAGE_LENGTH};
+use eif_cases::{KIND_AT, NUMBERED_HEADER};
 use eif_check::*;
 
 const SEED: u64 = 0x2024_0621;
 const SOAK: usize = 100_000;
+/// Where the second piece starts; twice as far, the third.
+const PIECE: u64 = PIECE_LENGTH as u64;
 
 /// Shuffles in place.
 fn shuffle<T>(rng: &mut Rng, items: &mut [T]) {
@@ -90,11 +93,11 @@ fn spoilt(rng: &mut Rng, sent: &[u8]) -> Vec<u8> {
     match rng.below(4) {
         0 => sent.truncate(rng.below(sent.len())),
         1 => sent.push(0),
-        2 if sent.len() > 18 => {
-            let at = 18 + rng.below(sent.len() - 18);
+        2 if sent.len() > NUMBERED_HEADER => {
+            let at = NUMBERED_HEADER + rng.below(sent.len() - NUMBERED_HEADER);
             sent[at] ^= 1;
         }
-        2 => sent[8] = 9,
+        2 => sent[KIND_AT] = 9,
         _ => {}
     }
     sent
@@ -106,15 +109,21 @@ fn order_of_refusals() {
     let mut station = Station::new(3 * PIECE_LENGTH, 3);
     not_open(&mut station);
     out_of_place(&mut station);
-    assert_eq!(station.take(&piece_record(8192, &[7; 3])), Ok(None));
-    assert_eq!(station.take(&piece_record(8192, &[7; 3])), Ok(None));
-    assert_eq!(station.take(&piece_record(8192, &[8; 3])), Err(25));
+    assert_eq!(station.take(&piece_record(2 * PIECE, &[7; 3])), Ok(None));
+    assert_eq!(station.take(&piece_record(2 * PIECE, &[7; 3])), Ok(None));
+    assert_eq!(station.take(&piece_record(2 * PIECE, &[8; 3])), Err(25));
     assert_eq!(station.take(&close_record()), Err(26));
     assert_eq!(station.marks, [0, 0, 1]);
     shorter_buffers(&mut station);
-    assert_eq!(station.take(&piece_record(0, &[1; 4096])), Ok(None));
-    assert_eq!(station.take(&piece_record(4096, &[2; 4096])), Ok(None));
-    assert_eq!(station.take(&close_record()), Ok(Some(8195)));
+    assert_eq!(station.take(&piece_record(0, &[1; PIECE_LENGTH])), Ok(None));
+    assert_eq!(
+        station.take(&piece_record(PIECE, &[2; PIECE_LENGTH])),
+        Ok(None)
+    );
+    assert_eq!(
+        station.take(&close_record()),
+        Ok(Some(2 * PIECE_LENGTH + 3))
+    );
     closed_again(&mut station);
 }
 
@@ -127,53 +136,56 @@ fn not_open(station: &mut Station) {
     assert_eq!(station.take(&open_record(u64::MAX)), Err(1));
     assert_eq!(station.take(&open_record(most + 1)), Err(1));
     assert_eq!(station.take(&open_record(most)), Err(24));
-    assert_eq!(station.take(&open_record(3 * 4096 + 1)), Err(24));
-    assert_eq!(station.take(&open_record(2 * 4096 + 3)), Ok(None));
+    assert_eq!(station.take(&open_record(3 * PIECE + 1)), Err(24));
+    assert_eq!(station.take(&open_record(2 * PIECE + 3)), Ok(None));
     assert_eq!(station.marks, [0, 0, 0]);
     assert_eq!(station.take(&open_record(u64::MAX)), Err(23));
 }
 
-/// Pieces that stand at no place of an image of 8,195 bytes, or are not as long as theirs.
+/// Pieces that stand at no place of an image of two pieces and 3 bytes, or are not as long as theirs.
 fn out_of_place(station: &mut Station) {
     for (start, length) in [
-        (1, 4096),
-        (4095, 4096),
-        (3 * 4096, 3),
-        (u64::MAX - 4095, 4096),
+        (1, PIECE_LENGTH),
+        (PIECE - 1, PIECE_LENGTH),
+        (3 * PIECE, 3),
+        (PIECE.wrapping_neg(), PIECE_LENGTH),
     ] {
         assert_eq!(
             station.take(&piece_record(start, &vec![7; length])),
             Err(22)
         );
     }
-    for length in [0, 4095, 4097] {
+    for length in [0, PIECE_LENGTH - 1, PIECE_LENGTH + 1] {
         assert_eq!(station.take(&piece_record(0, &vec![7; length])), Err(22));
     }
-    for length in [0, 2, 4, 4096] {
-        assert_eq!(station.take(&piece_record(8192, &vec![7; length])), Err(22));
+    for length in [0, 2, 4, PIECE_LENGTH] {
+        assert_eq!(
+            station.take(&piece_record(2 * PIECE, &vec![7; length])),
+            Err(22)
+        );
     }
 }
 
 /// 24 before 25 and 26, and 22 before 24.
 fn shorter_buffers(station: &mut Station) {
     let marks = station.marks.pop();
-    assert_eq!(station.take(&piece_record(8192, &[8; 3])), Err(24));
-    assert_eq!(station.take(&piece_record(8193, &[8; 3])), Err(22));
+    assert_eq!(station.take(&piece_record(2 * PIECE, &[8; 3])), Err(24));
+    assert_eq!(station.take(&piece_record(2 * PIECE + 1, &[8; 3])), Err(22));
     assert_eq!(station.take(&close_record()), Err(24));
     station.marks.extend(marks);
-    station.image.truncate(2 * 4096 + 3);
+    station.image.truncate(2 * PIECE_LENGTH + 3);
     assert_eq!(
         station.take(&close_record()),
         Err(24),
         "shorter than at open"
     );
-    station.image.resize(5 * 4096, 0);
+    station.image.resize(5 * PIECE_LENGTH, 0);
 }
 
 /// After a close nothing is open, until the next open.
 fn closed_again(station: &mut Station) {
     assert_eq!(station.take(&close_record()), Err(23));
-    assert_eq!(station.take(&piece_record(0, &[1; 4096])), Err(23));
+    assert_eq!(station.take(&piece_record(0, &[1; PIECE_LENGTH])), Err(23));
     assert_eq!(station.take(&open_record(0)), Ok(None));
     assert_eq!(
         station.marks,
@@ -195,14 +207,20 @@ fn lengths_about_the_limit() {
     assert_eq!(station.take(&open_record(most + 1)), Err(1));
     station.marks.pop();
     assert_eq!(station.take(&open_record(most)), Err(24));
-    assert_eq!(station.take(&open_record(most - 4096)), Ok(None));
+    assert_eq!(station.take(&open_record(most - PIECE)), Ok(None));
     station.state = Assembler::new();
     station.marks.push(9);
     assert_eq!(station.take(&open_record(most)), Ok(None));
     assert!(station.marks.iter().all(|&mark| mark == 0));
-    let last = most - 4096;
-    assert_eq!(station.take(&piece_record(most, &[1; 4096])), Err(22));
-    assert_eq!(station.take(&piece_record(last, &[1; 4096])), Ok(None));
+    let last = most - PIECE;
+    assert_eq!(
+        station.take(&piece_record(most, &[1; PIECE_LENGTH])),
+        Err(22)
+    );
+    assert_eq!(
+        station.take(&piece_record(last, &[1; PIECE_LENGTH])),
+        Ok(None)
+    );
     assert_eq!(station.marks.last(), Some(&1));
     assert_eq!(station.take(&close_record()), Err(26));
 }
@@ -210,7 +228,7 @@ fn lengths_about_the_limit() {
 /// Every order of a small transfer's pieces, each with one of them repeated at every place.
 #[test]
 fn every_order() {
-    let content: Vec<u8> = (0..3 * 4096 + 5u32).map(|at| (at % 253) as u8).collect();
+    let content: Vec<u8> = (0..3 * PIECE + 5).map(|at| (at % 253) as u8).collect();
     let records: Vec<Vec<u8>> = assembler::records(&content).collect();
     for first in 0..4usize.pow(5) {
         let order: Vec<usize> = (0..5).map(|at| first / 4usize.pow(at) % 4).collect();
@@ -273,14 +291,14 @@ fn marks_of_other_values() {
 /// The records as bytes, in the layout that FORMAT.md gives.
 #[test]
 fn records_as_bytes() {
-    let all: Vec<Vec<u8>> = assembler::records(&[0x61; 4097]).collect();
+    let all: Vec<Vec<u8>> = assembler::records(&[0x61; PIECE_LENGTH + 1]).collect();
     assert_eq!(all.len(), 4);
     assert_eq!(
         all[0],
         [8, 0, 0, 0, 0, 0, 0, 0, 1, 0, 1, 16, 0, 0, 0, 0, 0, 0]
     );
     assert_eq!(
-        all[1][..18],
+        all[1][..NUMBERED_HEADER],
         [8, 16, 0, 0, 0, 0, 0, 0, 2, 0, 0, 0, 0, 0, 0, 0, 0, 0]
     );
     assert_eq!(all[1].len(), assembler::MAX_RECORD_LENGTH);
@@ -293,13 +311,14 @@ fn records_as_bytes() {
         assembler::records(&[]).collect::<Vec<_>>(),
         [open_record(0), close_record()]
     );
-    assert_eq!([0, 1, 4096, 4097].map(assembler::pieces), [0, 1, 1, 2]);
+    let lengths = [0, 1, PIECE_LENGTH, PIECE_LENGTH + 1];
+    assert_eq!(lengths.map(assembler::pieces), [0, 1, 1, 2]);
     assert_eq!(assembler::announced(&open_record(u64::MAX)), Some(u64::MAX));
     for sent in [
         close_record(),
         piece_record(0, &[]),
         vec![],
-        open_record(1)[..17].to_vec(),
+        open_record(1)[..NUMBERED_HEADER - 1].to_vec(),
     ] {
         assert_eq!(assembler::announced(&sent), None);
     }

@@ -2,9 +2,15 @@
 //! state is one past the header, so that a piece goes to the checksum whole.
 
 use eif::raw::{self, Arriving};
-use eif_cases::HEADER;
-use eif_check::Rng;
+use eif_cases::{put, Layout, Section, CHECKSUM_AT, HEADER, SHORTEST};
+use eif_check::{parts, Rng};
 use eif_twin::Crc32;
+
+/// The lengths from which the code of `crates/crc32` takes another way: the window of bytes, the ring of words,
+/// two parts.
+const LONG: usize = 640;
+const LONGER: usize = 1 << 18;
+const PARTED: usize = 1 << 24;
 
 /// The library's checksum of pieces that follow each other.
 fn checksum<'a>(pieces: impl IntoIterator<Item = &'a [u8]>) -> u32 {
@@ -24,22 +30,71 @@ fn twin(bytes: &[u8]) -> u32 {
     Crc32::new().update(bytes).finish()
 }
 
+fn beside(length: usize) -> std::ops::Range<usize> {
+    length - 9..length + 10
+}
+
 /// Lengths at and beside those from which the code goes another way: words, what is carried, the window
-/// and its blocks, the ring and its turns, and two parts.
+/// and its blocks, the ring and its turns.
 fn lengths() -> impl Iterator<Item = usize> {
-    let turns = [2_392, 6_144, 65_536, 262_144, 264_568];
-    let beside = turns.into_iter().flat_map(|length| length - 9..length + 10);
+    let turns = [2_392, 6_144, 65_536, LONGER, 264_568];
     (0..1_400)
-        .chain(beside)
-        .chain([1 << 20, (1 << 24) - 1, 1 << 24, (1 << 24) + 5])
+        .chain(turns.into_iter().flat_map(beside))
+        .chain([1 << 20])
 }
 
 #[test]
 fn every_length() {
-    let bytes = Rng::of_input(11, 0).bytes((1 << 24) + 16);
+    let bytes = Rng::of_input(11, 0).bytes((1 << 20) + 8);
     for length in lengths() {
         let slice = &bytes[length % 8..][..length];
         assert_eq!(checksum([slice]), twin(slice), "{length} bytes");
+    }
+}
+
+/// About the length from which a slice is taken in two parts, as the first piece and behind another. The
+/// twin goes on from length to length by one byte.
+#[test]
+fn lengths_in_two_parts() {
+    let bytes = Rng::of_input(11, 0).bytes(PARTED + 16);
+    for before in [0, 5] {
+        let (first, rest) = bytes.split_at(before);
+        let mut expected = Crc32::new().update(&bytes[..before + PARTED - 9]);
+        for length in beside(PARTED) {
+            let found = checksum([first, &rest[..length]]);
+            assert_eq!(found, expected.finish(), "{before}, then {length} bytes");
+            expected = expected.update(&rest[length..length + 1]);
+        }
+    }
+}
+
+/// An image with so many bytes after its header, at random but for the sections' headers, its checksum the
+/// twin's.
+fn image_with(rng: &mut Rng, length: usize) -> Vec<u8> {
+    let kernel = rng.bytes(HEADER + length - SHORTEST);
+    let sections = vec![Section::new(1, &kernel), Section::new(2, &[])];
+    let mut image = Layout::new(2, sections).without_checksum();
+    let checksum = Crc32::new().update(&image[..CHECKSUM_AT]);
+    let checksum = checksum.update(&image[HEADER..]).finish();
+    put(&mut image, CHECKSUM_AT, &checksum.to_be_bytes());
+    image
+}
+
+/// Images are read and written with the twin's checksum, and no other.
+#[test]
+fn images_about_each_length() {
+    for (ordinal, from) in [LONG, LONGER, PARTED].into_iter().enumerate() {
+        let mut rng = Rng::of_input(12, ordinal as u64);
+        for length in [from - 1, from, from + 1, from + 5] {
+            let mut bytes = image_with(&mut rng, length);
+            let image = eif::read(&bytes).unwrap();
+            let written = eif::write_to_vec(&image.plan(), &image.joined_data());
+            assert!(written.as_ref() == Ok(&bytes), "{length} bytes");
+            let (position, data) = (image.sections()[0].position.0, image.kernel().len());
+            rng.flip_bit(&mut bytes[position as usize..][..data]);
+            let refused = (13, 0, CHECKSUM_AT as u64);
+            assert_eq!(eif::read(&bytes).map_err(parts).unwrap_err(), refused);
+        }
     }
 }
 

@@ -4,8 +4,8 @@ use eif::{
     Arriving, Image, Reading, Refusal, Roll, RollRecord, SectionType, Stream, StreamPosition,
 };
 use eif_cases::{
-    flags_record, put_checksum, record, Layout, Section, CHECKSUM_AT, COUNT_AT, RECORD_HEADER,
-    RESERVED_AFTER_AT, RESERVED_AT,
+    flags_record, offset_entry, put_checksum, record, size_entry, Layout, Section, CHECKSUM_AT,
+    COUNT_AT, HEADER, MAX_SECTIONS, RECORD_HEAD, RESERVED_AFTER_AT, RESERVED_AT,
 };
 use eif_check::{accepted_layout, accepted_plan, any_image, any_image_of, any_roll, Rng};
 use std::io::Read;
@@ -66,14 +66,14 @@ fn a_plan_is_read_back() {
 
 /// Whether the reserved fields and the unused table entries of an accepted image are zero.
 fn is_plain(bytes: &[u8], count: usize) -> bool {
-    let unused = 8 * count..8 * 32;
-    let tables = [28, 284].map(|table| table + unused.start..table + unused.end);
-    let ignored = tables
-        .into_iter()
-        .chain([RESERVED_AT..COUNT_AT, RESERVED_AFTER_AT..CHECKSUM_AT]);
-    ignored
-        .flat_map(|range| &bytes[range])
-        .all(|&byte| byte == 0)
+    let ignored = [
+        RESERVED_AT..COUNT_AT,
+        offset_entry(count)..offset_entry(MAX_SECTIONS),
+        size_entry(count)..size_entry(MAX_SECTIONS),
+        RESERVED_AFTER_AT..CHECKSUM_AT,
+    ];
+    let ignored = ignored.into_iter().flat_map(|range| &bytes[range]);
+    ignored.into_iter().all(|&byte| byte == 0)
 }
 
 /// An accepted image is plain, so written again as it was, exactly when what the reader ignores is zero.
@@ -105,7 +105,7 @@ fn an_accepted_image_has_no_other_room() {
         let Ok(image) = eif::read(&bytes) else {
             continue;
         };
-        let mut end = 548;
+        let mut end = HEADER as u64;
         for section in image.sections() {
             assert_eq!(section.offset().0, end);
             end = section.position.0 + section.length.0;
@@ -126,7 +126,7 @@ fn a_byte_outside_the_sections_is_refused() {
         let (mut image, place, position) = match layout.sections.get_mut(index) {
             Some(section) => {
                 section.gap = 1;
-                (any_image_of(&mut rng, &layout), index, 28 + 8 * index)
+                (any_image_of(&mut rng, &layout), index, offset_entry(index))
             }
             None => {
                 let mut image = any_image_of(&mut rng, &layout);
@@ -146,7 +146,7 @@ fn a_byte_outside_the_sections_is_refused() {
 
 /// Where each record of an accepted roll starts, flags record and end record too.
 fn record_starts(roll: &Roll) -> Vec<u64> {
-    let head = RECORD_HEADER as u64;
+    let head = RECORD_HEAD as u64;
     let records = roll.records().iter();
     let starts = records.map(|record| record.position.0 - head);
     let starts = [0].into_iter().chain(starts);
@@ -209,7 +209,7 @@ fn neighbour(rng: &mut Rng, layout: &Layout) -> Layout {
                 other.sections[place + 1].data.insert(0, byte);
             }
         }
-        _ if count < 32 => other.sections.push(Section::new(3, &[])),
+        _ if count < MAX_SECTIONS => other.sections.push(Section::new(3, &[])),
         _ => {}
     }
     other
@@ -365,11 +365,11 @@ fn a_refused_image_gives_one_refusal_everywhere() {
 #[test]
 fn a_roll_has_at_most_32_records() {
     let mut records = [flags_record(0), record(0, 1, &[]), record(0, 2, &[])].concat();
-    for _ in 0..30 {
+    for _ in 2..MAX_SECTIONS {
         records.extend(record(0, 3, &[]));
     }
     let roll = [&records[..], &record(0, 0, &[])].concat();
-    assert_eq!(eif::read_roll(&roll).unwrap().records().len(), 32);
+    assert_eq!(eif::read_roll(&roll).unwrap().records().len(), MAX_SECTIONS);
     // A 33rd record is 5 whatever its length, unless its header is cut or bad.
     for (last, number, index) in [
         (record(0, 3, &[]), 5, 0),
@@ -377,7 +377,7 @@ fn a_roll_has_at_most_32_records() {
         (record(u64::MAX, 4, &[]), 17, 33),
         (flags_record(0), 17, 33),
         (record(1, 0, &[]), 17, 33),
-        (vec![0; 9], 16, 33),
+        (vec![0; RECORD_HEAD - 1], 16, 33),
     ] {
         let refusal = eif::read_roll(&[&records[..], &last].concat()).unwrap_err();
         assert_eq!((refusal.number(), refusal.index()), (number, index));

@@ -3,11 +3,10 @@
 //! The environment variable EIF_SEED gives another seed, and EIF_TIMES that many times the inputs.
 
 use eif::MAX_IMAGE_LENGTH;
-use eif_cases::{flags_record, put, record, zero_image, FLAGS_RECORD, RECORD_HEADER};
+use eif_cases::{flags_record, put, record, zero_image, FLAGS_RECORD, RECORD_HEAD, SHORTEST};
 use eif_check::*;
 use std::io::{self, Write};
 use std::ops::Range;
-use std::thread;
 
 const SEED: u64 = 0x2024_0621;
 const IMAGES: u64 = 100_000;
@@ -148,9 +147,9 @@ fn long_images(seed: u64, tally: &mut Tally) {
 
 /// Rolls whose images would be about as long as they may be. Their data are zeros that take no memory.
 fn long_rolls(tally: &mut Tally) {
-    let most = MAX_IMAGE_LENGTH - 548 - 24;
+    let most = MAX_IMAGE_LENGTH - SHORTEST;
     for length in most - 3..most + 4 {
-        let kernel = FLAGS_RECORD + RECORD_HEADER + length;
+        let kernel = FLAGS_RECORD + RECORD_HEAD + length;
         for rest in [
             &[record(0, 2, &[]), record(0, 0, &[])][..],
             &[record(1, 2, &[7]), record(0, 0, &[])],
@@ -198,19 +197,10 @@ fn library_and_twin_agree() {
     let seed = variable("EIF_SEED", SEED);
     let times = variable("EIF_TIMES", 1);
     say(&format!("seed {seed:#x} (EIF_SEED sets another)"));
-    let parts = thread::available_parallelism().map_or(2, |n| n.get() as u64);
     let mut total = Tally::default();
-    thread::scope(|scope| {
-        let threads: Vec<_> = (0..parts)
-            .map(|part| scope.spawn(move || run(seed, times, part, parts)))
-            .collect();
-        for thread in threads {
-            match thread.join() {
-                Ok(tally) => total += &tally,
-                Err(panic) => std::panic::resume_unwind(panic),
-            }
-        }
-    });
+    for tally in in_parts(|part, parts| run(seed, times, part, parts)) {
+        total += &tally;
+    }
     say(&format!("{} inputs\n{total}", total.inputs()));
 
     // The generator reaches every number that a call may answer, and no call answers another.

@@ -4,7 +4,8 @@ use eif::raw;
 use eif::{Architecture, DataLength, Place, Plan, Refusal, SectionType, Stream, StreamPosition};
 use eif_cases::{
     command_line_first, copy_cases, flags_record, image_cases, roll_cases, stream_cases,
-    two_sections, worked_image, Layout, Section, ACCEPTED, WORKED_ROLL,
+    two_sections, worked_image, Layout, Section, ACCEPTED, CHECKSUM_AT, FLAGS_RECORD, HEADER,
+    RECORD_HEAD, SECTION_HEADER, WORKED_LENGTH, WORKED_OFFSETS, WORKED_ROLL,
 };
 use eif_check::parts;
 use std::io::Read;
@@ -28,9 +29,13 @@ fn the_worked_image_is_read() {
     let rows: Vec<_> = image
         .sections()
         .iter()
-        .map(|s| (s.section_type.0, s.position.0 - 12, s.length.0))
+        .map(|s| (s.section_type.0, s.offset().0, s.length.0))
         .collect();
-    assert_eq!(rows, [(1, 548, 1), (2, 561, 1), (3, 574, 0)]);
+    let [kernel, command_line, ramdisk] = WORKED_OFFSETS.map(|offset| offset as u64);
+    assert_eq!(
+        rows,
+        [(1, kernel, 1), (2, command_line, 1), (3, ramdisk, 0)]
+    );
     assert_eq!((image.version(), image.flags()), (2, 0));
     assert_eq!((image.default_mem(), image.default_cpus()), (0, 0));
     assert_eq!(image.ramdisk_mark(), 4);
@@ -41,19 +46,21 @@ fn the_worked_image_is_read() {
 
 #[test]
 fn the_worked_image_is_written() {
-    let mut out = [0xaa; 600];
-    assert_eq!(eif::write(&worked_plan(), b"Ka", &mut out), Ok(586));
-    assert_eq!(out[..586], worked_image());
-    assert_eq!(out[586..], [0xaa; 14]);
-    assert_eq!(out[544..548], [0x86, 0xc2, 0x27, 0x31]);
+    let mut out = [0xaa; WORKED_LENGTH + 14];
+    let written = eif::write(&worked_plan(), b"Ka", &mut out);
+    assert_eq!(written, Ok(WORKED_LENGTH));
+    assert_eq!(out[..WORKED_LENGTH], worked_image());
+    assert_eq!(out[WORKED_LENGTH..], [0xaa; 14]);
+    assert_eq!(out[CHECKSUM_AT..HEADER], [0x86, 0xc2, 0x27, 0x31]);
 }
 
 #[test]
 fn the_worked_roll_is_written() {
-    let mut out = [0xaa; 62];
-    assert_eq!(eif::write_roll(&worked_image(), &mut out), Ok(54));
-    assert_eq!(out[..54], WORKED_ROLL);
-    assert_eq!(out[54..], [0xaa; 8]);
+    let length = WORKED_ROLL.len();
+    let mut out = vec![0xaa; length + 8];
+    assert_eq!(eif::write_roll(&worked_image(), &mut out), Ok(length));
+    assert_eq!(out[..length], WORKED_ROLL);
+    assert_eq!(out[length..], [0xaa; 8]);
 }
 
 /// All sixteen bits join the roll, and the lowest is the reading's architecture.
@@ -71,8 +78,9 @@ fn flags_join_the_roll() {
         assert_eq!((image.flags(), image.architecture()), (flags, architecture));
         assert_eq!(raw::read(&bytes).architecture, flags % 2);
         let bytes = eif::roll_to_vec(&bytes).unwrap();
-        assert_eq!(bytes[..12], flags_record(flags));
-        assert_eq!(bytes[10..12], [flags as u8, (flags >> 8) as u8]);
+        assert_eq!(bytes[..FLAGS_RECORD], flags_record(flags));
+        let told = &bytes[RECORD_HEAD..FLAGS_RECORD];
+        assert_eq!(told, [flags as u8, (flags >> 8) as u8]);
         let roll = eif::read_roll(&bytes).unwrap();
         assert_eq!((roll.flags(), roll.architecture()), (flags, architecture));
         assert_eq!(roll.records().len(), 2);
@@ -81,14 +89,14 @@ fn flags_join_the_roll() {
 
 #[test]
 fn lengths_are_told_before_writing() {
-    assert_eq!(eif::plan_length(&worked_plan()), Ok(586));
+    assert_eq!(eif::plan_length(&worked_plan()), Ok(WORKED_LENGTH));
     assert_eq!(
         eif::write_to_vec(&worked_plan(), b"Ka").as_deref(),
         Ok(&worked_image()[..])
     );
     let short = eif::write_to_vec(&worked_plan(), b"K");
     assert_eq!(short.map_err(parts), Err((15, 0, 0)));
-    assert_eq!(eif::roll_length(&worked_image()), Ok(54));
+    assert_eq!(eif::roll_length(&worked_image()), Ok(WORKED_ROLL.len()));
     assert_eq!(
         eif::roll_to_vec(&worked_image()).as_deref(),
         Ok(&WORKED_ROLL[..])
@@ -126,7 +134,7 @@ fn images() {
                 number,
                 index,
                 position,
-                first_ramdisk: 32,
+                first_ramdisk: raw::NO_RAMDISK,
                 ..raw::Reading::default()
             };
             assert_eq!(reading, refused, "{}", case.name);
@@ -243,7 +251,8 @@ fn parts_by_name_and_by_index() {
         (section.section_type, data),
         (SectionType::METADATA, &b"dd"[..])
     );
-    assert_eq!(section.offset().0 + 12, section.position.0);
+    let data = section.offset().0 + SECTION_HEADER as u64;
+    assert_eq!(data, section.position.0);
     assert!(image.get(6).is_none() && image.get(usize::MAX).is_none());
     assert_eq!(
         image.iter().next_back().map(|(_, data)| data),

@@ -251,7 +251,7 @@ fn strict_readings() {
                 number,
                 index,
                 position,
-                first_ramdisk: 32,
+                first_ramdisk: raw::NO_RAMDISK,
                 ..raw::Reading::default()
             },
         };

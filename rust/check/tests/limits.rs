@@ -5,14 +5,10 @@
 
 use eif::{Arriving, DataLength, Place, Plan, SectionType, MAX_IMAGE_LENGTH};
 use eif_cases::{
-    flags_record, put, record, zero_image, zero_image_start, Answer, HEADER, RECORD_HEADER,
-    SECTION_HEADER,
+    flags_record, put, record, zero_image, zero_image_start, Answer, RECORD_HEAD, SHORTEST,
 };
 use eif_check::{compare_image, parts, Rng, Tally};
 use eif_twin as twin;
-
-/// What a plan and an image of an empty command line and a kernel have beside the kernel's data.
-const BESIDE: usize = HEADER + 2 * SECTION_HEADER;
 
 const TOO_LONG: Answer = (1, 0, 0);
 
@@ -22,7 +18,7 @@ fn read() {
     let longest = zero_image(MAX_IMAGE_LENGTH);
     let image = eif::read(&longest).unwrap();
     let lengths: Vec<u64> = image.sections().iter().map(|s| s.length.0).collect();
-    assert_eq!(lengths, [0, (MAX_IMAGE_LENGTH - BESIDE) as u64]);
+    assert_eq!(lengths, [0, (MAX_IMAGE_LENGTH - SHORTEST) as u64]);
     assert!(twin::read(&longest).is_ok());
     let longer = zero_image(MAX_IMAGE_LENGTH + 1);
     assert_eq!(eif::read(&longer).map_err(parts).unwrap_err(), TOO_LONG);
@@ -46,7 +42,7 @@ fn arriving() {
     let reading = arriving.finish().unwrap();
     assert_eq!(
         reading.sections()[1].length,
-        DataLength((MAX_IMAGE_LENGTH - BESIDE) as u64)
+        DataLength((MAX_IMAGE_LENGTH - SHORTEST) as u64)
     );
     feed_zeros(&mut longer, MAX_IMAGE_LENGTH + 1);
     assert_eq!(longer.finish().map_err(parts), Err(TOO_LONG));
@@ -85,7 +81,7 @@ fn plan(kernel: usize) -> Plan {
 
 #[test]
 fn write() {
-    let kernel = MAX_IMAGE_LENGTH - BESIDE;
+    let kernel = MAX_IMAGE_LENGTH - SHORTEST;
     assert_eq!(eif::plan_length(&plan(kernel)), Ok(MAX_IMAGE_LENGTH));
     let longer = eif::plan_length(&plan(kernel + 1));
     assert_eq!(longer.map_err(parts), Err(TOO_LONG));
@@ -112,14 +108,14 @@ fn roll(kernel: usize) -> Vec<u8> {
         record(kernel as u64, 1, &[]),
     ];
     let heads = heads.concat();
-    let mut roll = vec![0; heads.len() + kernel + RECORD_HEADER];
+    let mut roll = vec![0; heads.len() + kernel + RECORD_HEAD];
     put(&mut roll, 0, &heads);
     roll
 }
 
 #[test]
 fn rolls() {
-    let kernel = MAX_IMAGE_LENGTH - BESIDE;
+    let kernel = MAX_IMAGE_LENGTH - SHORTEST;
     let longest = roll(kernel);
     assert_eq!(eif::read_roll(&longest).unwrap().records().len(), 2);
     let longer = roll(kernel + 1);

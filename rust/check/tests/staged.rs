@@ -2,8 +2,11 @@
 
 use eif::raw::staged::{staged_part, staged_registers, staged_roll_write, StagedPart};
 use eif::{staged, DataLength, Image, Plan, MAX_IMAGE_LENGTH};
-use eif_cases::{put_checksum, worked_image, zero_image, Answer, Layout, Section, VERSION_AT};
-use eif_check::{accepted_layout, any_image, any_image_of, parts, Rng};
+use eif_cases::{
+    put_checksum, worked_image, zero_image, Answer, Layout, Section, FLAGS_RECORD, HEADER,
+    RECORD_HEAD, SECTION_HEADER, SHORTEST, VERSION_AT, WORKED_OFFSETS,
+};
+use eif_check::{accepted_layout, any_image, any_image_of, is_part, parts, Rng};
 
 const TIMES: u64 = 1_000;
 const TOO_LONG: Answer = (1, 0, 0);
@@ -24,11 +27,6 @@ fn plan_of(image: &Image, replacement: &[u8], replaced: usize) -> (Plan, Vec<u8>
         },
     );
     (plan, data.collect::<Vec<_>>().concat())
-}
-
-fn is_part(part: &[u8], whole: &[u8]) -> bool {
-    let (part, whole) = (part.as_ptr_range(), whole.as_ptr_range());
-    whole.start <= part.start && part.end <= whole.end
 }
 
 /// Holds what is staged to the image written afresh.
@@ -188,17 +186,20 @@ fn the_example() {
         length: DataLength(length),
         ..StagedPart::default()
     };
-    assert_eq!(staged_part(&base, 2, 2, 0), part(0, 560, 1));
-    assert_eq!(staged_part(&base, 2, 2, 1), part(0, 573, 1));
+    let [kernel, command_line, ramdisk] =
+        WORKED_OFFSETS.map(|offset| (offset + SECTION_HEADER) as u64);
+    assert_eq!(staged_part(&base, 2, 2, 0), part(0, kernel, 1));
+    assert_eq!(staged_part(&base, 2, 2, 1), part(0, command_line, 1));
     assert_eq!(staged_part(&base, 2, 2, 2), part(1, 0, 2));
-    assert_eq!(staged_part(&base, 0, 0, 2), part(0, 586, 0));
+    assert_eq!(staged_part(&base, 0, 0, 2), part(0, ramdisk, 0));
     assert_eq!(staged_part(&base, 2, 3, 0).number, 27);
     assert_eq!(staged_part(&base, 2, 0, 3).number, 27);
     let mut damaged = base.clone();
     damaged[VERSION_AT + 1] = 5;
     put_checksum(&mut damaged);
     let part = staged_part(&damaged, 2, 3, 3);
-    assert_eq!((part.number, part.index, part.position), (4, 0, 4));
+    let expected = (4, 0, VERSION_AT as u64);
+    assert_eq!((part.number, part.index, part.position), expected);
 }
 
 /// A section that no roll lists: the image is another, its roll and registers are the base's.
@@ -227,7 +228,8 @@ fn the_longest_image() {
         let most = (MAX_IMAGE_LENGTH - base.len() + own) as u64;
         let limit = staged_part(&base, most, replaced as u64, replaced as u64);
         assert_eq!((limit.number, limit.length), (0, DataLength(most)));
-        for size in [most + 1, 1 << 32, 1 << 63, u64::MAX - 548, u64::MAX] {
+        let wraps = u64::MAX - HEADER as u64;
+        for size in [most + 1, 1 << 32, 1 << 63, wraps, u64::MAX] {
             for shown in 0..3 {
                 let part = staged_part(&base, size, replaced as u64, shown);
                 assert_eq!((part.number, part.index, part.position), TOO_LONG);
@@ -258,11 +260,12 @@ fn a_replacement_that_is_too_long() {
 #[test]
 fn a_base_at_the_limit() {
     let base = zero_image(MAX_IMAGE_LENGTH);
-    let kernel = (MAX_IMAGE_LENGTH - 548 - 24) as u64;
+    let kernel = (MAX_IMAGE_LENGTH - SHORTEST) as u64;
     assert_eq!(staged_part(&base, 1, 0, 1).number, 1);
     assert_eq!(staged_part(&base, kernel, 1, 1).length, DataLength(kernel));
-    let mut roll = [0; 45];
-    assert_eq!(staged::write_roll(&base, b"new", 1, &mut roll), Ok(45));
+    let mut roll = [0; FLAGS_RECORD + 3 * RECORD_HEAD + 3];
+    let written = staged::write_roll(&base, b"new", 1, &mut roll);
+    assert_eq!(written, Ok(roll.len()));
     let list = eif::read_roll(&roll).unwrap();
     assert_eq!(list.record_data(0), b"");
     assert_eq!(list.record_data(1), b"new");

@@ -3,7 +3,9 @@
 mod common;
 
 use common::{repository, Folder};
-use eif_cases::{put_checksum, Layout, Section, OFFSETS_AT, SIZES_AT};
+use eif_cases::{
+    offset_entry, put_checksum, size_entry, Layout, Section, CHECKSUM_AT, MAX_SECTIONS, RESERVED_AT,
+};
 
 /// Puts two images there and compares them.
 fn compared(a: &Layout, b: &Layout) -> (i32, String) {
@@ -218,7 +220,8 @@ fn any_other_difference_is_told() {
     let a = layout(4, &[KERNEL, COMMAND_LINE, (5, b"{}")]);
     let b = layout(4, &[KERNEL, (5, b"{}"), COMMAND_LINE]);
     let mut images = vec![b.image()];
-    for at in [24, 543, OFFSETS_AT + 8 * 3, SIZES_AT + 8 * 31] {
+    let unused = [offset_entry(3), size_entry(MAX_SECTIONS - 1)];
+    for at in [RESERVED_AT, CHECKSUM_AT - 1].into_iter().chain(unused) {
         let mut image = a.image();
         image[at] = 1;
         put_checksum(&mut image);

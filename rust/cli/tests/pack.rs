@@ -4,7 +4,9 @@ mod common;
 
 use common::{repository, Folder};
 use eif::{Reason, MAX_IMAGE_LENGTH};
-use eif_cases::{stream_cases, worked_image, zero_image_start, WORKED_ROLL};
+use eif_cases::{
+    stream_cases, worked_image, zero_image_start, HEADER, SECTION_HEADER, WORKED_ROLL,
+};
 use std::fs;
 use std::process::Command;
 
@@ -61,7 +63,8 @@ fn ramdisks_of_1_mib() {
     folder.put("two", ramdisk(7 << 24));
     folder.pack("a", &["one", "two"], "");
     folder.pack("b", &["two", "one"], "");
-    assert_eq!(folder.get("a").len(), 548 + 4 * 12 + 10 + 5 + (2 << 20));
+    let length = HEADER + 4 * SECTION_HEADER + 10 + 5 + (2 << 20);
+    assert_eq!(folder.get("a").len(), length);
     folder
         .eif("check a b")
         .says(0, "a: accepted\nb: accepted\n");

@@ -6,8 +6,9 @@ use common::json::{parse, Value};
 use common::{Ended, Folder};
 use eif::{Reason, MAX_IMAGE_LENGTH};
 use eif_cases::{
-    image_cases, image_of_length, located_images, located_rolls, put_checksum, put_number,
-    roll_cases, worked_image, zero_image_start, Answer, Layout, Section, ACCEPTED, OFFSETS_AT,
+    image_cases, image_of_length, located_images, located_rolls, offset_entry, put_checksum,
+    put_number, roll_cases, worked_image, zero_image_start, Answer, Layout, Section, ACCEPTED,
+    CHECKSUM_AT, COUNT_AT, ENTRY, FLAGS_RECORD, OFFSETS_AT, SIZES_AT, VERSION_AT,
 };
 use std::process::Command;
 
@@ -80,30 +81,34 @@ fn a_refusal_says_what_to_do() {
     both.says(1, &format!("{refused}{SHOWN}"));
 }
 
-/// What the auditor found: room between two sections, or after the last. The checksum is right.
+/// An image of five sections with a megabyte more at a position; the sections behind it start later, and the
+/// checksum is right.
+fn padded(image: &[u8], at: usize) -> Vec<u8> {
+    let mut padded = image.to_vec();
+    padded.splice(at..at, vec![0; 1 << 20]);
+    for entry in (0..5).map(offset_entry) {
+        let offset = image[entry..][..ENTRY].try_into().unwrap();
+        let offset = u64::from_be_bytes(offset);
+        if offset >= at as u64 {
+            put_number(&mut padded, entry, offset + (1 << 20));
+        }
+    }
+    put_checksum(&mut padded);
+    padded
+}
+
+/// What the auditor found: room between two sections, or after the last.
 #[test]
 fn a_padded_image_is_refused() {
     let folder = packed();
     let image = folder.get("packed.eif");
+    let end = image.len();
+    let entry = offset_entry(3);
     for (at, index, byte, place) in [
-        (601, 3, 52, "the table's offset entry of section 3"),
-        (
-            image.len(),
-            0,
-            image.len(),
-            "the first byte after the last section",
-        ),
+        (601, 3, entry, "the table's offset entry of section 3"),
+        (end, 0, end, "the first byte after the last section"),
     ] {
-        let mut padded = image.clone();
-        padded.splice(at..at, vec![0; 1 << 20]);
-        for place in (0..5).map(|section| OFFSETS_AT + 8 * section) {
-            let offset = u64::from_be_bytes(image[place..place + 8].try_into().unwrap());
-            if offset >= at as u64 {
-                put_number(&mut padded, place, offset + (1 << 20));
-            }
-        }
-        put_checksum(&mut padded);
-        folder.put("padded.eif", padded);
+        folder.put("padded.eif", padded(&image, at));
         let meaning = "section not packed, or bytes after the last section";
         let line = format!("padded.eif: refused 20 at {index} byte {byte}: {meaning}\n");
         folder.eif("check padded.eif").says(1, &line);
@@ -212,7 +217,7 @@ fn json_of_a_refusal_is_read_back() {
     assert_eq!(*refused.get("accepted"), Value::Truth(false));
     assert_eq!(*refused.get("number"), Value::Number(13));
     assert_eq!(*refused.get("index"), Value::Number(0));
-    assert_eq!(*refused.get("position"), Value::Number(544));
+    assert_eq!(*refused.get("position"), Value::Number(CHECKSUM_AT as u64));
     let meaning = Value::Text("checksum differs".into());
     assert_eq!(*refused.get("meaning"), meaning);
 }
@@ -237,7 +242,7 @@ fn json_of_a_roll_is_read_back() {
 fn a_roll_of_the_old_form_is_told_so() {
     let folder = packed();
     folder.eif("roll packed.eif --output roll").says(0, "");
-    folder.put("old.roll", &folder.get("roll")[12..]);
+    folder.put("old.roll", &folder.get("roll")[FLAGS_RECORD..]);
     let reason = Reason::RecordTypeWrong;
     let lines = format!(
         "  as a boot roll: refused 17 at 0 byte 0: {reason}\n    \
@@ -306,13 +311,15 @@ fn every_number_of_the_reader_is_told() {
 
 /// What stands at the position of an image's refusal.
 fn place((number, index, position): Answer) -> String {
-    match (number, position) {
+    match (number, position as usize) {
         (3, 0) => "the magic".to_string(),
         (_, 0) => "the start of the file".to_string(),
-        (_, 4) => "the version".to_string(),
-        (_, 26) => "the number of sections".to_string(),
-        (_, 28..=283) => format!("the table's offset entry of section {index}"),
-        (_, 544) => "the checksum".to_string(),
+        (_, VERSION_AT) => "the version".to_string(),
+        (_, COUNT_AT) => "the number of sections".to_string(),
+        (_, at) if (OFFSETS_AT..SIZES_AT).contains(&at) => {
+            format!("the table's offset entry of section {index}")
+        }
+        (_, CHECKSUM_AT) => "the checksum".to_string(),
         (20, _) => "the first byte after the last section".to_string(),
         _ => format!("section {index}'s own header"),
     }

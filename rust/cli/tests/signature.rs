@@ -6,7 +6,10 @@ use common::json::{parse, Value};
 use common::signing::{certificate, has_openssl, is_genuine, sign};
 use common::{repository, Folder};
 use eif_cases::cbor::{encode, numbers, Item};
-use eif_cases::{hex, sign1_example, worked_image, Layout, Section, Sign1Parts, SIGN1_ALGORITHMS};
+use eif_cases::{
+    hex, sign1_example, worked_image, Layout, Section, Sign1Parts, HEADER, SECTION_HEADER,
+    SIGN1_ALGORITHMS,
+};
 
 /// A kernel, a command line, two ramdisks and the signature section.
 fn image(section: &[u8]) -> Vec<u8> {
@@ -22,7 +25,7 @@ fn image(section: &[u8]) -> Vec<u8> {
 }
 
 /// Where the data of that signature section begins.
-const DATA_AT: usize = 548 + 5 * 12 + 10 + 5 + 9 + 9;
+const DATA_AT: usize = HEADER + 5 * SECTION_HEADER + 10 + 5 + 9 + 9;
 
 /// The registers of such an image.
 fn registers() -> [[u8; 48]; 3] {

@@ -561,9 +561,13 @@ fn bytes_of<T: Copy>(answer: &T) -> &[u8] {
 #[cfg(test)]
 mod tests {
     use super::*;
+    use crate::{HEADER_LENGTH, SECTION_HEADER_LENGTH};
     use std::ptr::{null, null_mut};
 
-    /// A kernel and a command line of no bytes.
+    /// The length of the smallest image.
+    const SMALLEST: usize = HEADER_LENGTH + 2 * SECTION_HEADER_LENGTH;
+
+    /// Its plan: a kernel and a command line of no bytes.
     fn smallest() -> Plan {
         let mut plan = Plan {
             version: 2,
@@ -611,8 +615,9 @@ mod tests {
 
     #[test]
     fn a_null_output_of_length_0_takes_nothing() {
-        let mut image = [0; 572];
-        assert_eq!(write(smallest(), &[], &mut image).length, 572);
+        let mut image = [0; SMALLEST];
+        let written = write(smallest(), &[], &mut image);
+        assert_eq!(written.length, SMALLEST as u64);
         let from = StreamPosition(0);
         // SAFETY: the image is a slice's, and the outputs' lengths are 0.
         unsafe {
@@ -631,7 +636,7 @@ mod tests {
     fn equal_answers_have_equal_bytes() {
         let mut image = [0; 600];
         let written = write(smallest(), &[], &mut image);
-        let again = write(smallest(), &[], &mut [0; 572]);
+        let again = write(smallest(), &[], &mut [0; SMALLEST]);
         assert_eq!(bytes_of(&written), bytes_of(&again));
         let image = &image[..written.length as usize];
         let copy = image.to_vec();
@@ -662,7 +667,7 @@ mod tests {
 
     #[test]
     fn reserved_fields_are_0() {
-        let mut image = [0; 572];
+        let mut image = [0; SMALLEST];
         let written = write(smallest(), &[], &mut image);
         let refused = write(smallest(), &[], &mut []);
         assert_eq!([written.reserved, refused.reserved], [[0; 7]; 2]);

@@ -3,11 +3,11 @@
 use crate::image::{read, Reading, Section};
 use crate::rules::*;
 
-const RECORD_HEADER: usize = 10;
+const RECORD_HEAD: usize = 10;
 
 /// Type of the flags record, the first of a roll. Its data are two bytes.
 const FLAGS: u16 = 256;
-const FLAGS_RECORD: usize = RECORD_HEADER + 2;
+const FLAGS_RECORD: usize = RECORD_HEAD + 2;
 
 /// A record of an accepted roll.
 #[derive(Clone, Copy, Debug, PartialEq, Eq)]
@@ -35,8 +35,8 @@ fn listed(reading: &Reading) -> impl Iterator<Item = &Section> {
 }
 
 fn length_of(reading: &Reading) -> usize {
-    let records = listed(reading).map(|s| RECORD_HEADER + s.length);
-    FLAGS_RECORD + records.sum::<usize>() + RECORD_HEADER
+    let records = listed(reading).map(|s| RECORD_HEAD + s.length);
+    FLAGS_RECORD + records.sum::<usize>() + RECORD_HEAD
 }
 
 /// The length of the roll of `image`.
@@ -64,7 +64,7 @@ pub fn write_roll(image: &[u8], out: &mut [u8]) -> Result<usize, Refusal> {
         put(&section.kind.to_le_bytes());
         put(section.data(image));
     }
-    put(&[0; RECORD_HEADER]);
+    put(&[0; RECORD_HEAD]);
     Ok(length)
 }
 
@@ -87,7 +87,7 @@ pub fn read_roll(roll: &[u8]) -> Result<Roll, Refusal> {
 
 /// Length and type of the record that starts there, if its head is whole.
 fn head(roll: &[u8], start: usize) -> Option<(u64, u16)> {
-    let head = roll.get(start..start + RECORD_HEADER)?;
+    let head = roll.get(start..start + RECORD_HEAD)?;
     let (length, kind) = head.split_at(8);
     let length = u64::from_le_bytes(length.try_into().unwrap());
     let kind = u16::from_le_bytes(kind.try_into().unwrap());
@@ -101,7 +101,7 @@ fn read_flags(roll: &[u8]) -> Result<u16, Refusal> {
         Some((2, FLAGS)) => {}
         Some(_) => return refuse(17, 0),
     }
-    match roll.get(RECORD_HEADER..FLAGS_RECORD) {
+    match roll.get(RECORD_HEAD..FLAGS_RECORD) {
         Some(flags) => Ok(u16::from_le_bytes(flags.try_into().unwrap())),
         None => refuse(16, 0),
     }
@@ -119,7 +119,7 @@ fn read_records(roll: &[u8], seen: &mut Seen) -> Result<(Vec<Record>, usize), Re
         if kind > RAMDISK || (kind == 0 && length != 0) {
             return refuse_at(17, index, start);
         }
-        at += RECORD_HEADER;
+        at += RECORD_HEAD;
         if kind == 0 {
             return Ok((records, at));
         }

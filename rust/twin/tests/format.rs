@@ -2,7 +2,8 @@
 
 use eif_cases::{
     copy_cases, image_cases, located_images, located_plans, located_rolls, roll_cases,
-    stream_cases, two_sections, worked_image, zero_image, Answer, ACCEPTED, WORKED_ROLL,
+    stream_cases, two_sections, worked_image, zero_image, Answer, ACCEPTED, CHECKSUM_AT, HEADER,
+    SECTION_HEADER, WORKED_LENGTH, WORKED_OFFSETS, WORKED_ROLL,
 };
 use eif_twin::*;
 
@@ -44,9 +45,13 @@ fn the_worked_image_is_read() {
     let rows: Vec<_> = reading
         .sections
         .iter()
-        .map(|s| (s.kind, s.position - 12, s.length))
+        .map(|s| (s.kind, s.position - SECTION_HEADER, s.length))
         .collect();
-    assert_eq!(rows, [(1, 548, 1), (2, 561, 1), (3, 574, 0)]);
+    let [kernel, command_line, ramdisk] = WORKED_OFFSETS;
+    assert_eq!(
+        rows,
+        [(1, kernel, 1), (2, command_line, 1), (3, ramdisk, 0)]
+    );
     assert_eq!((reading.version, reading.flags), (2, 0));
     assert_eq!(reading.architecture(), 0);
     assert_eq!((reading.default_mem, reading.default_cpus), (0, 0));
@@ -57,13 +62,14 @@ fn the_worked_image_is_read() {
 
 #[test]
 fn the_worked_image_is_written() {
-    let mut out = [0xaa; 600];
-    assert_eq!(write(&worked_plan(), b"Ka", &mut out), Ok(586));
-    assert_eq!(out[..586], worked_image());
-    assert_eq!(out[586..], [0xaa; 14]);
-    assert_eq!(out[544..548], [0x86, 0xc2, 0x27, 0x31]);
+    let mut out = [0xaa; WORKED_LENGTH + 14];
+    let written = write(&worked_plan(), b"Ka", &mut out);
+    assert_eq!(written, Ok(WORKED_LENGTH));
+    assert_eq!(out[..WORKED_LENGTH], worked_image());
+    assert_eq!(out[WORKED_LENGTH..], [0xaa; 14]);
+    assert_eq!(out[CHECKSUM_AT..HEADER], [0x86, 0xc2, 0x27, 0x31]);
 
-    let mut short = [0xaa; 585];
+    let mut short = [0xaa; WORKED_LENGTH - 1];
     assert_eq!(
         write(&worked_plan(), b"Ka", &mut short),
         Err(refused(14, 0))
@@ -72,7 +78,7 @@ fn the_worked_image_is_written() {
         write(&worked_plan(), b"Kab", &mut short),
         Err(refused(15, 0))
     );
-    assert_eq!(short, [0xaa; 585]);
+    assert_eq!(short, [0xaa; WORKED_LENGTH - 1]);
 }
 
 #[test]
@@ -85,16 +91,17 @@ fn sums_of_a_plan_do_not_wrap() {
 
 #[test]
 fn the_worked_roll_is_written() {
-    let mut out = [0xaa; 62];
-    assert_eq!(write_roll(&worked_image(), &mut out), Ok(54));
-    assert_eq!(out[..54], WORKED_ROLL);
-    assert_eq!(out[54..], [0xaa; 8]);
+    let length = WORKED_ROLL.len();
+    let mut out = vec![0xaa; length + 8];
+    assert_eq!(write_roll(&worked_image(), &mut out), Ok(length));
+    assert_eq!(out[..length], WORKED_ROLL);
+    assert_eq!(out[length..], [0xaa; 8]);
 }
 
 #[test]
 fn lengths() {
-    assert_eq!(plan_length(&worked_plan()), Ok(586));
-    assert_eq!(roll_length(&worked_image()), Ok(54));
+    assert_eq!(plan_length(&worked_plan()), Ok(WORKED_LENGTH));
+    assert_eq!(roll_length(&worked_image()), Ok(WORKED_ROLL.len()));
 }
 
 #[test]

@@ -12,7 +12,7 @@ use Rattle.cose.specs.Sign1.{longest, signatureSize, sign1Bytes}
 use Rattle.cose.specs.Write.{sign1Answer, sign1Output}
 use Rattle.cose.specs.Read.{algorithmOf, signatureStart, claimOf, signatureOf}
 use Rattle.cose.specs.declared.Claim.{Claim}
-use Rattle.eif_lemmas.proofs.Same.{is-same}
+use Rattle.octets.proofs.Same.{is-same}
 use Rattle.cose_lemmas.proofs.Same.{signature-is, written-other, written-same}
 use Rattle.cose_reader.proofs.is_written.Statement.{statement}
 use Rattle.cose_reader.proofs.is_written.Tie as tie

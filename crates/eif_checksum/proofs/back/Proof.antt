@@ -1,7 +1,7 @@
 -- `back` meets its contract: a slice that ends before has nothing there.
 -- Assumes nothing.
-use Prim.Native.Nat.{ℕ, _-_, _≤_}
-use mathlib.Core.Path.{_≡_, sym, _∙_}
+use Prim.Native.Nat.{ℕ, _-_}
+use mathlib.Core.Path.{_≡_, sym, ap, _∙_}
 use mathlib.Core.List.{List}
 use native.Mathlib.Omega.{arith}
 use denote.Ref.{now}
@@ -18,11 +18,18 @@ to-end n s = take-all (length s - n) (drop n s) (simp length-drop (omega arith))
 
 returns : tie.Need-returns
 returns c =
-    let s = now (c .before .before .args .image) in
-    to-end (length s) s ∙ drop-of-length-le s {i = length s} (omega arith) ∙ sym (drop-of-length-le s {i = checksumEnd} (omega arith))
+    let a = c .before .before .args .image in
+    let s = now a in (
+      to-end (length s) s ∙ drop-of-length-le s {i = length s} (omega arith) ∙ sym (drop-of-length-le s {i = checksumEnd} (omega arith)),
+      ap (λ (k : ℕ). (a .ptr .0, k)) (omega arith),
+    )
 
 returns-2 : tie.Need-returns-2
-returns-2 c = to-end checksumEnd (now (c .before .before .args .image))
+returns-2 c =
+    let a = c .before .before .args .image in (
+      to-end checksumEnd (now a),
+      ap (λ (k : ℕ). (a .ptr .0, k)) (omega arith),
+    )
 
 pub back-spec : {M : Type 1} → statement M
 back-spec =

@@ -11,7 +11,7 @@ returns c =
     let b = c .before .before in
     let u = b .before in
     let s = now (u .before .before .before .args .image) in
-    in-parts s _ _ _ _ _ (u .before .front .ensures) (b .back .ensures) (u .update .ensures) (c .before .update2 .ensures) (c .finish .ensures)
+    in-parts s _ _ _ _ _ (u .before .front .ensures .0) (b .back .ensures .0) (u .update .ensures) (c .before .update2 .ensures) (c .finish .ensures)
 
 pub checksum-spec : {M : Type 1} → statement M
 checksum-spec =

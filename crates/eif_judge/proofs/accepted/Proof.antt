@@ -7,7 +7,7 @@ use denote.Ref.{now}
 use lib.ListN.{drop}
 use Rattle.eif.specs.Numbers.{placeCount}
 use Rattle.eif.specs.Table.{filled}
-use Rattle.eif.specs.Layout.{View, count, end}
+use Rattle.eif.specs.Layout.{View, end}
 use Rattle.eif.specs.Reading.{section, blankSection, sections, markOf}
 use Rattle.eif.specs.declared.Section.{Section}
 use Rattle.eif_lemmas.proofs.Mark.{mark-unused}

@@ -7,7 +7,7 @@ use borrow.Author.Tests.{ltb-true, ltb-false}
 use denote.Ref.{now}
 use lib.Dec.{ltb}
 use Rattle.eif.specs.Rules.{allowedIn}
-use Rattle.eif.specs.Layout.{sectionHeaderSize, View, version, offset, size, start, end}
+use Rattle.eif.specs.Layout.{sectionHeaderSize, View, version, offset, tableSize, start, end}
 use Rattle.eif_lemmas.proofs.View.{fault6, fault20, fault7, fault8, fault9, no-fault}
 use Rattle.eif_judge.specs.Kept.{viewFrom}
 use Rattle.eif_judge.proofs.entry_fault.Statement.{statement}
@@ -44,7 +44,7 @@ module _ (c : tie.After-allowed) where
   ends : end (file looked) (here looked) ≤ file looked .size
   ends = ltb-false _ _ (tested-end looked ∙ c .before .before .before .before .before .if3 .left)
 
-  same : file looked .ownSize (here looked) ≡ size (file looked) (here looked)
+  same : file looked .ownSize (here looked) ≡ tableSize (file looked) (here looked)
   same = sym (c .before .before .before .before .be64 .ensures) ∙ c .before .before .before .if4 .left ∙ looked .before .before .before .size-at .ensures
 
   tested-type : allowedIn (version (file looked)) (file looked .kind (here looked)) ≡ c .allowed .result

@@ -1,13 +1,13 @@
 -- `eif_judge::list` meets its contract: before each turn the table holds the sections passed. The measure is how many are left.
 -- Assumes nothing.
-use Prim.Native.Nat.{ℕ, _-_, _<_, _≤_}
-use mathlib.Core.Path.{_≡_, ap, ap₂, refl, _∙_}
+use Prim.Native.Nat.{_-_, _≤_}
+use mathlib.Core.Path.{_≡_, ap₂, refl, _∙_}
 use mathlib.Core.List.{List}
 use native.Mathlib.Omega.{arith}
 use native.Mathlib.Numerals.{add-one}
 use borrow.Author.Needs.{needs}
 use denote.Ref.{now}
-use lib.ListN.{set, replicate}
+use lib.ListN.{set}
 use Rattle.eif.specs.Numbers.{placeCount}
 use Rattle.eif.specs.Table.{filled}
 use Rattle.eif.specs.Reading.{section, blankSection}
@@ -26,13 +26,13 @@ abbrev μ-loop : tie.MeasureT-loop
 
 section-at-requires : tie.Need-section-at-requires Inv-loop μ-loop
 section-at-requires c κs =
-    let a = c .before .before .before .before .before in
+    let a = c .before .before .before .before in
     (search needs, a .pre .1 (c .before .loop .i) (omega arith))
 
 loop-again : tie.Need-loop-again Inv-loop μ-loop
 loop-again c =
     let l = c .before .before .loop in
-    let a = c .before .before .before .before .before .before in
+    let a = c .before .before .before .before .before in
     let v = viewFrom (now (a .args .header)) (now (a .args .headers)) (a .args .size) in
     let few = a .pre .0 in (
       omega arith,
@@ -44,7 +44,7 @@ loop-again c =
 returns : tie.Need-returns Inv-loop μ-loop
 returns c =
     let l = c .before .loop in
-    let e : l .i ≡ c .before .before .before .before .before .args .count = omega arith in
+    let e : l .i ≡ c .before .before .before .before .args .count = omega arith in
     rw e at (l .inv .1)
 
 pub list-spec : {M : Type 1} → statement M
@@ -53,8 +53,7 @@ list-spec =
     (tie.spec
     Inv-loop
     μ-loop
-    (λ c κs. search needs)
-    (λ c. (search needs, ap (replicate placeCount) (c .blank .ensures)))
+    (λ c. (search needs, refl))
     section-at-requires
     (λ c. omega arith)
     (λ c. omega arith)

@@ -6,7 +6,7 @@ use borrow.Author.Needs.{needs}
 use denote.Ref.{now}
 use lib.Bits.{bitXor}
 use Rattle.crc32.specs.Crc.{crcFrom, ones32}
-use Rattle.eif.specs.Layout.{View, checksum}
+use Rattle.eif.specs.Layout.{View}
 use Rattle.eif.specs.Reading.{blankReading}
 use Rattle.eif_lemmas.proofs.Reading.{read-refused, read-differs, read-accepted}
 use Rattle.eif_judge.specs.Kept.{viewFrom}

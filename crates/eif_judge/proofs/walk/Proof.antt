@@ -1,7 +1,7 @@
 -- `eif_judge::walk` meets its contract. Before each section the verdict on the rest from here is the verdict on all, and the
 -- tables hold the sections passed; in the check of earlier types the rules 10 and 11 on those that are left stay what they
 -- are on all. The measures are the sections and the earlier types left. Assumes nothing.
-use Prim.Native.Nat.{ℕ, suc, _+_, _-_, _≤_, _<_}
+use Prim.Native.Nat.{ℕ, suc, _-_, _≤_, _<_}
 use mathlib.Core.Path.{_≡_, refl, sym, ap, ap₂, _∙_}
 use mathlib.Core.List.{List}
 use mathlib.Core.Logic.{⊎-elim}

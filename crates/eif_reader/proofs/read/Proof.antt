@@ -14,7 +14,7 @@ returns c =
     let g = u .before .before in
     let image = now (g .before .before .args .image) in
     c .read .ensures
-    ∙ read-parts image (g .gather .result) (g .gather .ensures) _ _ _ (u .before .front .ensures) (b .back .ensures) (u .update .ensures)
+    ∙ read-parts image (g .gather .result) (g .gather .ensures) _ _ _ (u .before .front .ensures .0) (b .back .ensures .0) (u .update .ensures)
 
 pub read-spec : {M : Type 1} → statement M
 read-spec =

@@ -1,13 +1,12 @@
 -- `eif_registers::hash_both` meets its contract: both go on from the state after what they have in common. Assumes nothing.
-use Prim.Native.Nat.{_≤_}
-use mathlib.Core.Path.{_≡_, refl, ap, _∙_}
+use mathlib.Core.Path.{refl, ap, _∙_}
 use native.Mathlib.Omega.{arith}
 use borrow.Author.Needs.{needs}
 use denote.Ref.{now}
 use lib.Seq.{slice}
 use Rattle.sha384.specs.declared.State.{State}
 use Rattle.staged.specs.View.{heldBy}
-use Rattle.eif_registers.specs.Rule.{hashed}
+use Rattle.eif_registers.specs.Registers.{hashed}
 use Rattle.eif_registers.proofs.Hashed.{in-two}
 use Rattle.eif_registers.proofs.hash_both.Statement.{statement}
 use Rattle.eif_registers.proofs.hash_both.Tie as tie

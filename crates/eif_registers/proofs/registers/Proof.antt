@@ -1,10 +1,9 @@
 -- `eif_registers::registers` meets its contract: the image's refusal and zeros, or the step over its reading. Assumes nothing.
 use mathlib.Core.Path.{sym, ap, _∙_}
-use mathlib.Core.List.{[], _∷_}
 use denote.Ref.{now}
 use Rattle.eif.specs.declared.Verdict.{Verdict}
 use Rattle.stream_reader.proofs.Answers.{verdict-is}
-use Rattle.eif_registers.specs.Rule.{imageRegisters, noRegisters, registersFor}
+use Rattle.eif_registers.specs.Registers.{imageRegisters, noRegisters, registersFor}
 use Rattle.eif_registers.proofs.Answers.{three, answer-refused, answer-accepted, step-is}
 use borrow.Author.Needs.{needs}
 use Rattle.eif_registers.proofs.registers.Statement.{statement}

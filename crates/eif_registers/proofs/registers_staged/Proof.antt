@@ -2,7 +2,7 @@
 -- nothing.
 use Prim.Native.Nat.{ℕ}
 use mathlib.Core.Path.{_≡_, sym, ap, _∙_}
-use mathlib.Core.List.{List, [], _∷_}
+use mathlib.Core.List.{List}
 use denote.Ref.{now}
 use lib.ListN.{length}
 use Rattle.eif.specs.declared.Verdict.{Verdict}
@@ -10,7 +10,7 @@ use Rattle.staged.specs.Staged.{stagedVerdict}
 use Rattle.staged.specs.View.{heldBy}
 use Rattle.staged.proofs.Accept.{staged→}
 use Rattle.staged_view.proofs.View.{view-verdict, view-sections}
-use Rattle.eif_registers.specs.Rule.{imageRegisters, noRegisters, registersFor, stepRegisters}
+use Rattle.eif_registers.specs.Registers.{imageRegisters, noRegisters, registersFor, stepRegisters}
 use Rattle.eif_registers.proofs.Answers.{three}
 use Rattle.eif_registers.proofs.Staged.{staged-registers, staged-refused, staged-accepted}
 use borrow.Author.Needs.{needs}

@@ -16,7 +16,7 @@ use Rattle.eif.specs.declared.StreamSections.{StreamSections}
 use Rattle.sha384.specs.State.{initialState, digestFrom}
 use Rattle.sha384.specs.declared.State.{State}
 use Rattle.staged.specs.View.{heldBy}
-use Rattle.eif_registers.specs.Rule.{registerFrom, hashed, stepRegister, stepRegisters}
+use Rattle.eif_registers.specs.Registers.{registerFrom, hashed, stepRegister, stepRegisters}
 use Rattle.eif_registers.proofs.Answers.{one-by-one}
 use Rattle.eif_registers.proofs.Hashed.{listed-are, listed-few}
 use Rattle.eif_registers.proofs.step_over.Statement.{statement}

@@ -13,7 +13,7 @@ use Rattle.sha384.specs.State.{updated}
 use Rattle.sha384.specs.declared.State.{State}
 use Rattle.sha384.specs.declared.Updated.{Updated}
 use Rattle.staged.specs.View.{heldBy}
-use Rattle.eif_registers.specs.Rule.{hashed}
+use Rattle.eif_registers.specs.Registers.{hashed}
 use Rattle.eif_registers.proofs.Hashed.{places-next, places-end}
 use Rattle.eif_registers.proofs.take_sections.Statement.{statement}
 use Rattle.eif_registers.proofs.take_sections.Tie as tie
@@ -32,7 +32,7 @@ loop-again c =
     let a = w .before .before .before .args in
     let s = heldBy (now (a .base)) (now (a .replacement)) in
     let n : length (a .t4) ≡ placeCount = search needs in
-    let d = c .before .before .held .ensures in
+    let d = c .before .before .held .ensures .0 in
     let e = ap (λ (u : Updated). u .state) (c .before .update .ensures) ∙ ap (λ (b : List ℕ). updated (l .st) b .state) d in
     (omega arith, ap (λ (x : State). hashed s x (slice (l .i + 1) (a .to) (a .t4))) e ∙ sym (places-next s (l .st) (a .t4) (l .i) (a .to) (omega arith) (omega arith)) ∙ l .inv .1)
 

@@ -15,7 +15,7 @@ use Rattle.eif.specs.declared.Verdict.the-variants.{Accepted}
 use Rattle.plain_laws.proofs.PlanRules.{Planned, planned→}
 use Rattle.plan_judge.proofs.Size.{limited-in, image-limited}
 use Rattle.eif_writer.specs.Parts.{withChecksum}
-use Rattle.eif_writer.proofs.Image.{sealed-plain, refused, short, fine}
+use Rattle.eif_writer.proofs.Image.{with-checksum-plain, refused, short, fine}
 use Rattle.eif_writer.proofs.write.Statement.{statement}
 use Rattle.eif_writer.proofs.write.Tie as tie
 
@@ -70,7 +70,7 @@ returns-3 c =
     let r = fine (plan (j s)) (lent (j s)) (out (j s)) (ok s) room in (
       ap₂ written (s .before .enum-told .given .1) n ∙ r .0,
       z .put-checksum .ensures ∙ ap (withChecksum (y .put-sections .last .0)) n
-          ∙ sealed-plain (plan (j s)) (lent (j s)) (out (j s)) (x .put-header .last .0) (y .put-sections .last .0) (planned s .sized) room (x .put-header .ensures) (y .put-sections .ensures)
+          ∙ with-checksum-plain (plan (j s)) (lent (j s)) (out (j s)) (x .put-header .last .0) (y .put-sections .last .0) (planned s .sized) room (x .put-header .ensures) (y .put-sections .ensures)
           ∙ r .1,
     )
 

@@ -1,17 +1,17 @@
 -- `json_check::walk` meets its contract: the rest from here gives the verdict of the whole. Assumes nothing.
-use Prim.Native.Nat.{ℕ, _-_, _<_, _≤_}
+use Prim.Native.Nat.{_-_, _<_, _≤_}
 use mathlib.Core.Path.{_≡_, sym, _∙_}
 use native.Mathlib.Omega.{arith}
 use lib.ListN.{length, drop}
 use borrow.Author.Needs.{needs}
-use Rattle.json_machine.specs.Machine.{walkFrom, jsonVerdict}
+use Rattle.json_machine.specs.Machine.{faultEntry, walkFrom, jsonVerdict}
 use Rattle.json_check.proofs.Laws.{walk-start, walk-on, walk-fault, walk-text, walk-short}
 use Rattle.json_check.proofs.walk.Statement.{statement}
 use Rattle.json_check.proofs.walk.Tie as tie
 
 abbrev Inv-loop : tie.InvT-loop
 Inv-loop class next text mode₀ stack₀ i₀ mode stack i =
-    (i ≤ length text) × (mode < 51) × (walkFrom mode stack i (drop i text) ≡ jsonVerdict text)
+    (i ≤ length text) × (mode < faultEntry) × (walkFrom mode stack i (drop i text) ≡ jsonVerdict text)
 
 abbrev μ-loop : tie.MeasureT-loop
 μ-loop class next text mode₀ stack₀ i₀ mode stack i = length text - i

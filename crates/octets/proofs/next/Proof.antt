@@ -7,7 +7,7 @@ use borrow.Author.Needs.{needs}
 use denote.Ref.{now}
 use lib.Dec.{lit<}
 use lib.ListN.{length, getD, take, drop, length-take, length-drop}
-use Rattle.octets.specs.Order.{bytePlace, soFar}
+use Rattle.octets.specs.ByteOrder.{bytePlace, soFar}
 use Rattle.octets.proofs.Value.{digit-lt, digit-fits}
 use Rattle.octets.proofs.Fields.{one-more, part-byte}
 use Rattle.octets.proofs.next.Statement.{statement}

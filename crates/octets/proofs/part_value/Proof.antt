@@ -1,6 +1,6 @@
 -- `octets::part_value` meets its contract: the number so far is that of the bytes that count most. Assumes nothing.
 use Prim.Native.Nat.{ℕ, _+_, _-_, _*_, _^_, _<_, _≤_, min}
-use mathlib.Core.Path.{_≡_, refl, ap, ap₂, sym, _∙_}
+use mathlib.Core.Path.{_≡_, ap, ap₂, sym, _∙_}
 use mathlib.Core.List.{List}
 use native.Mathlib.Omega.{arith}
 use native.Mathlib.Nat.{lt-of-lt-of-le}
@@ -8,7 +8,7 @@ use borrow.Author.Needs.{needs}
 use denote.Ref.{now}
 use lib.Dec.{lit<}
 use lib.ListN.{length, getD, take, drop, length-take, length-drop}
-use Rattle.octets.specs.Order.{fieldOf, bytePlace, soFar}
+use Rattle.octets.specs.ByteOrder.{bytePlace, soFar}
 use Rattle.octets.proofs.Value.{digit-lt, digit-fits, pow-le}
 use Rattle.octets.proofs.Fields.{field-is, none-so-far, all-so-far, one-more, part-byte}
 use Rattle.octets.proofs.part_value.Statement.{statement}

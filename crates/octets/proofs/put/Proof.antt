@@ -6,7 +6,7 @@ use native.Mathlib.Omega.{arith}
 use native.Mathlib.Nat.{add-zero}
 use borrow.Author.Needs.{needs}
 use lib.ListN.{length, drop, length-drop, length-set}
-use Rattle.octets.specs.Order.{bytesOf, bytePlace}
+use Rattle.octets.specs.ByteOrder.{bytesOf, bytePlace}
 use Rattle.octets.specs.Over.{over}
 use Rattle.octets.proofs.Value.{pow-bytes}
 use Rattle.octets.proofs.Over.{over-step, over-end}

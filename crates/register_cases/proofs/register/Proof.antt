@@ -1,16 +1,17 @@
 -- `register_cases::register` meets its contract: it is safe and ends. Assumes nothing.
-use Prim.Native.Nat.{ℕ, _-_, _≤_}
+use Prim.Native.Nat.{_-_, _≤_}
 use mathlib.Core.Path.{_≡_}
 use borrow.Author.Needs.{needs}
 use lib.ListN.{length}
+use Rattle.sha384_block.specs.Fips.{digestSize}
 use Rattle.register_cases.proofs.register.Statement.{statement}
 use Rattle.register_cases.proofs.register.Tie as tie
 
 abbrev Inv-loop : tie.InvT-loop
-Inv-loop name bytes i₀ t4 i = (i ≤ 48) × (length bytes ≡ 48)
+Inv-loop name bytes i₀ t4 i = (i ≤ digestSize) × (length bytes ≡ digestSize)
 
 abbrev μ-loop : tie.MeasureT-loop
-μ-loop name bytes i₀ t4 i = 48 - i
+μ-loop name bytes i₀ t4 i = digestSize - i
 
 pub register-spec : {M : Type 1} → statement M
 register-spec =

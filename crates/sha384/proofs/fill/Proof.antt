@@ -1,13 +1,12 @@
 -- `sha384::fill` meets its contract: a whole block, a part that ends the block, a part that leaves room. Assumes nothing.
-use Prim.Native.Nat.{ℕ, _+_, _≤_, _<_}
-use mathlib.Core.Path.{_≡_, refl, sym, ap, _∙_}
+use Prim.Native.Nat.{ℕ, _+_}
+use mathlib.Core.Path.{_≡_, sym, ap, _∙_}
 use mathlib.Core.List.{List}
 use native.Mathlib.Omega.{arith}
 use denote.Ref.{now}
 use lib.ListN.{length}
-use Rattle.octets.specs.Over.{over}
 use Rattle.sha384_block.specs.Fips.{compressBy, compress}
-use Rattle.sha384.specs.State.{noBytes, newBlock, takeBytes}
+use Rattle.sha384.specs.State.{noBytes, newBlock}
 use Rattle.sha384.specs.declared.Filling.{Filling}
 use Rattle.sha384.proofs.Parts.{part-inside, part-last, block-whole}
 use borrow.Author.Needs.{needs}

@@ -1,11 +1,9 @@
 -- `sha384::finish` meets its contract: the padding is taken like any bytes. Assumes nothing.
 use native.Mathlib.Omega.{arith}
 use lib.Seq.{length-take-le}
-use Prim.Native.Nat.{ℕ, _+_}
-use mathlib.Core.Path.{_≡_, refl, sym, ap, _∙_}
-use mathlib.Core.List.{List}
-use lib.ListN.{length, take}
-use Rattle.sha384_block.specs.Fips.{digestOf, zerosFor}
+use Prim.Native.Nat.{_+_}
+use mathlib.Core.Path.{sym, ap, _∙_}
+use Rattle.sha384_block.specs.Fips.{digestOf}
 use Rattle.sha384.specs.State.{takeBytes, fillingOf, digestFrom}
 use Rattle.sha384.specs.declared.Filling.{Filling}
 use borrow.Author.Needs.{needs}

@@ -1,12 +1,11 @@
 -- `sha384::padding_of` meets its contract: a byte, zeros and two words are the padding. Assumes nothing.
 use Prim.Native.Nat.{ℕ, _+_, _*_, _%_, _^_}
-use mathlib.Core.Path.{_≡_, refl, sym, ap, _∙_}
+use mathlib.Core.Path.{ap, _∙_}
 use mathlib.Core.List.{List}
 use lib.ListN.{length, take}
 use Rattle.octets.specs.Bytes.{beBytes}
 use Rattle.octets.specs.Over.{over}
 use Rattle.octets.proofs.Over.{length-over}
-use Rattle.sha384_block.specs.Fips.{zerosFor}
 use Rattle.sha384.proofs.Padding.{padding-is}
 use borrow.Author.Needs.{needs}
 use Rattle.sha384.proofs.padding_of.Statement.{statement}

@@ -1,16 +1,17 @@
 -- `sha384_cases::show` meets its contract: it is safe and ends. Assumes nothing.
-use Prim.Native.Nat.{ℕ, _-_, _≤_}
+use Prim.Native.Nat.{_-_, _≤_}
 use mathlib.Core.Path.{_≡_}
 use borrow.Author.Needs.{needs}
 use lib.ListN.{length}
+use Rattle.sha384_block.specs.Fips.{digestSize}
 use Rattle.sha384_cases.proofs.show.Statement.{statement}
 use Rattle.sha384_cases.proofs.show.Tie as tie
 
 abbrev Inv-loop : tie.InvT-loop
-Inv-loop label digest i₀ t6 i = (i ≤ 48) × (length digest ≡ 48)
+Inv-loop label digest i₀ t6 i = (i ≤ digestSize) × (length digest ≡ digestSize)
 
 abbrev μ-loop : tie.MeasureT-loop
-μ-loop label digest i₀ t6 i = 48 - i
+μ-loop label digest i₀ t6 i = digestSize - i
 
 pub show-spec : {M : Type 1} → statement M
 show-spec =

@@ -19,8 +19,6 @@ use Rattle.staged.specs.View.{blankStaged}
 use Rattle.staged_view.proofs.View.{base-refused, no-replaced, no-shown, over-limit, fine}
 use Rattle.staged_view.proofs.judge.Statement.{statement}
 use Rattle.staged_view.proofs.judge.Tie as tie
-use Rattle.staged_view.proofs.judge.Reads as reads
-use Rattle.staged_view.proofs.judge.Lts as lts
 
 -- both numbers are those of sections
 module _ (c : tie.Else2) where

@@ -16,8 +16,6 @@ use Rattle.eif_lemmas.proofs.Table.{filled-more}
 use Rattle.staged_view.proofs.Places.{filled-places}
 use Rattle.staged_view.proofs.places_of.Statement.{statement}
 use Rattle.staged_view.proofs.places_of.Tie as tie
-use Rattle.staged_view.proofs.places_of.Reads as reads
-use Rattle.staged_view.proofs.places_of.Lts as lts
 
 abbrev at : List Section → ℕ → Place
 at l i = placeOf (getD l i blankSection)

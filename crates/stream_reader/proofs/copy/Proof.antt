@@ -1,6 +1,5 @@
 -- `stream_reader::copy` meets its contract: the image's refusal, or what is copied from the stream's sections. Assumes nothing.
-use mathlib.Core.Path.{_≡_, sym, ap, _∙_}
-use mathlib.Core.List.{List}
+use mathlib.Core.Path.{sym, ap, _∙_}
 use borrow.Author.Needs.{needs}
 use denote.Ref.{now}
 use lib.ListN.{length}

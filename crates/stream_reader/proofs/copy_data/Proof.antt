@@ -1,11 +1,9 @@
 -- `stream_reader::copy_data` meets its contract: what is passed over is at most the data, and what is copied at most the room.
 -- Assumes nothing.
-use Prim.Native.Nat.{ℕ}
-use mathlib.Core.Path.{_≡_, ap, _∙_}
+use mathlib.Core.Path.{ap, _∙_}
 use native.Mathlib.Omega.{arith}
 use borrow.Author.Needs.{needs}
 use denote.Ref.{now}
-use lib.ListN.{length, drop, take}
 use Rattle.octets.specs.Over.{over}
 use Rattle.stream_reader.proofs.Listed.{part-to-rest}
 use Rattle.stream_reader.proofs.copy_data.Statement.{statement}

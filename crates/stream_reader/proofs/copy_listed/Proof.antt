@@ -1,6 +1,6 @@
 -- `stream_reader::copy_listed` meets its contract: after i sections, what is left to pass over, what is copied and the output are those
 -- of their data joined. Assumes nothing.
-use Prim.Native.Nat.{ℕ, _+_, _-_, _<_, _≤_, min}
+use Prim.Native.Nat.{ℕ, _+_, _-_, _≤_, min}
 use mathlib.Core.Path.{_≡_, refl, sym, ap, ap₂, _∙_}
 use mathlib.Core.List.{List, []}
 use native.Mathlib.Omega.{arith}

@@ -1,10 +1,6 @@
 -- `stream_reader::is_later` meets its contract, by the type. Assumes nothing.
-use mathlib.Core.Path.{sym, ap}
-use mathlib.Core.Bool.{Bool}
 use borrow.Author.Tests.{eq-eqb, ne-eqb}
-use lib.Dec.{ltb}
 use Rattle.eif.specs.Numbers.{ramdisk}
-use Rattle.octets.specs.Logic.{both}
 use Rattle.stream_reader.proofs.is_later.Statement.{statement}
 use Rattle.stream_reader.proofs.is_later.Tie as tie
 

@@ -1,5 +1,5 @@
 -- `stream_reader::section_data` meets its contract: start and end are clipped to the image. Assumes nothing.
-use Prim.Native.Nat.{ℕ, _+_}
+use Prim.Native.Nat.{ℕ}
 use mathlib.Core.Path.{ap}
 use native.Mathlib.Omega.{arith}
 use borrow.Author.Needs.{needs}

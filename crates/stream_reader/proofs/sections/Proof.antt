@@ -13,14 +13,14 @@ use Rattle.eif.specs.Reading.{blankSection}
 use Rattle.eif.specs.Stream.{keeps, kept, sectionKind, inTable, sectionsAnswer}
 use Rattle.eif.specs.declared.Section.{Section}
 use Rattle.eif.specs.declared.StreamSections.{StreamSections}
-use Rattle.stream_laws.proofs.Sections.{ramdisksIn}
-use Rattle.stream_reader.proofs.Kept.{keptOf, ramdisksOf, kept-more, kept-same, ramdisks-next, kept-few, table-next}
+use Rattle.stream_laws.specs.Sums.{ramdisksIn}
+use Rattle.stream_reader.proofs.Kept.{keptSoFar, ramdisksOf, kept-more, kept-same, ramdisks-next, kept-few, table-next}
 use Rattle.stream_reader.proofs.sections.Statement.{statement}
 use Rattle.stream_reader.proofs.sections.Tie as tie
 
 abbrev Inv-loop : tie.InvT-loop
 Inv-loop stream all list₀ count₀ before₀ i₀ list count before i =
-    (i ≤ placeCount) × (count ≡ length (keptOf stream all i)) × (list ≡ inTable (keptOf stream all i)) × (before ≡ ramdisksOf stream all i) × (before ≤ i)
+    (i ≤ placeCount) × (count ≡ length (keptSoFar stream all i)) × (list ≡ inTable (keptSoFar stream all i)) × (before ≡ ramdisksOf stream all i) × (before ≤ i)
 
 abbrev μ-loop : tie.MeasureT-loop
 μ-loop stream all list₀ count₀ before₀ i₀ list count before i = placeCount - i
@@ -59,11 +59,11 @@ loop-again c =
     ⊎-elim
     (λ w.
     let e = kept-more stream all (l .i) h (k ∙ w .0 .taken) in
-    let m : length (keptOf stream all (l .i) ++ (x ∷ [])) ≡ length (keptOf stream all (l .i)) + 1 = length-append (keptOf stream all (l .i)) (x ∷ []) in
+    let m : length (keptSoFar stream all (l .i) ++ (x ∷ [])) ≡ length (keptSoFar stream all (l .i)) + 1 = length-append (keptSoFar stream all (l .i)) (x ∷ []) in
     let f = kept-few stream all (l .i) (omega arith) in (
       omega arith,
       w .3 ∙ ap (λ (n : ℕ). n + 1) (l .inv .1) ∙ sym m ∙ ap length (sym e),
-      w .2 ∙ ap₂ (λ (t : List Section) (n : ℕ). set t n x) (l .inv .2) (w .1 .ensures) ∙ table-next (keptOf stream all (l .i)) x (l .count) (l .inv .1) (omega arith) ∙ ap inTable (sym e),
+      w .2 ∙ ap₂ (λ (t : List Section) (n : ℕ). set t n x) (l .inv .2) (w .1 .ensures) ∙ table-next (keptSoFar stream all (l .i)) x (l .count) (l .inv .1) (omega arith) ∙ ap inTable (sym e),
       r,
       omega arith,
     ))
@@ -84,7 +84,7 @@ returns c =
     let s = c .before .before in
     let n = size s in
     let all = s .args .t1 in
-    let e : keptOf (s .args .stream) all (l .i) ≡ kept (s .args .stream) sectionKind 0 all = ap (kept (s .args .stream) sectionKind 0) (take-all (l .i) all (omega arith)) in
+    let e : keptSoFar (s .args .stream) all (l .i) ≡ kept (s .args .stream) sectionKind 0 all = ap (kept (s .args .stream) sectionKind 0) (take-all (l .i) all (omega arith)) in
     ap₂ (λ (m : ℕ) (t : List Section). answer m t) (l .inv .1 ∙ ap length e) (l .inv .2 ∙ ap inTable e)
   where
     answer : ℕ → List Section → StreamSections

@@ -1,11 +1,11 @@
 -- `stream_reader::total` meets its contract: the sum so far is the length of the data of the sections so far. Assumes nothing.
-use Prim.Native.Nat.{ℕ, _+_, _-_, _<_, _≤_}
-use mathlib.Core.Path.{_≡_, refl, sym, ap, _∙_}
+use Prim.Native.Nat.{ℕ, _+_, _-_, _≤_}
+use mathlib.Core.Path.{_≡_, refl, ap, _∙_}
 use mathlib.Core.List.{List, []}
 use native.Mathlib.Omega.{arith}
 use borrow.Author.Needs.{needs}
 use denote.Ref.{now}
-use lib.ListN.{length, getD, take, drop, length-append, length-map}
+use lib.ListN.{length, getD, length-append, length-map}
 use Rattle.eif.specs.Numbers.{placeCount}
 use Rattle.eif.specs.Reading.{blankSection, dataOf}
 use Rattle.eif.specs.Stream.{sectionsData, listedBytes}

@@ -4,7 +4,8 @@ use mathlib.Core.Path.{_≡_, sym, ap, _∙_}
 use native.Mathlib.Omega.{arith}
 use borrow.Author.Needs.{needs}
 use denote.Ref.{now}
-use Rattle.strict_reader.specs.Strict.{sectionIn, metadataVerdict}
+use Rattle.eif.specs.Reading.{sectionIn}
+use Rattle.strict_reader.specs.Strict.{metadataVerdict}
 use Rattle.strict_reader.proofs.Steps.{metadata-stop, metadata-on, metadata-none}
 use Rattle.strict_reader.proofs.judge.Statement.{statement}
 use Rattle.strict_reader.proofs.judge.Tie as tie

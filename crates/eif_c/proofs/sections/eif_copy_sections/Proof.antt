@@ -1,5 +1,5 @@
 -- `eif_copy_sections` meets its contract: what it calls ensures the answer, made flat, of the list as it is taken. Assumes nothing.
-use mathlib.Core.Path.{_≡_, ap, _∙_}
+use mathlib.Core.Path.{ap, _∙_}
 use mathlib.Core.List.{List}
 use borrow.Author.Needs.{needs}
 use denote.Ref.{now}

@@ -1,12 +1,10 @@
 -- `sections::listed` meets its contract: the sections are taken as they are, and the stream's made flat. Assumes nothing.
-use mathlib.Core.Path.{_≡_, ap, ap₂, _∙_}
-use mathlib.Core.List.{List, map}
+use mathlib.Core.Path.{ap, _∙_}
+use mathlib.Core.List.{List}
 use borrow.Author.Needs.{needs}
 use Prim.Native.Nat.{ℕ}
 use Rattle.eif.specs.Stream.{sectionsAnswer}
-use Rattle.eif.specs.declared.Section.{Section}
 use Rattle.eif.specs.declared.StreamSections.{StreamSections}
-use Rattle.eif_c.specs.Flat.{flatSection}
 use Rattle.eif_c.specs.Listed.{flatListed}
 use Rattle.eif_c.specs.declared.EifSection.{EifSection}
 use Rattle.eif_c.specs.declared.sections.EifStreamSections.{EifStreamSections}

@@ -1,0 +1,56 @@
+-- `crc32_fold::turn_third` meets its contract: each turn is one word further, and the ring is the same after a round.
+-- Assumes nothing.
+use Prim.Native.Nat.{ℕ, _+_, _-_, _*_, _≤_}
+use mathlib.Core.Path.{_≡_, refl, sym, ap, ap₂, _∙_}
+use Rattle.crc32_lemmas.specs.Fold.{left, sparser, mix, ring, Words}
+use Rattle.crc32_lemmas.proofs.FoldRing.{ring-round}
+use borrow.Author.Needs.{needs}
+use native.Mathlib.Omega.{arith}
+use Rattle.crc32_fold.proofs.turn_third.Statement.{statement}
+use Rattle.crc32_fold.proofs.turn_third.Tie as tie
+
+abbrev Inv-loop : tie.InvT-loop
+Inv-loop s at v₀ j₀ v j = (791 ≤ j) × (j ≤ 3006) × (left s (at + j * 4) (mix sparser 32 (ring v j)) ≡ left s (at + 3164) (mix sparser 32 (ring v₀ 791))) × Words 32 3007 v
+
+abbrev μ-loop : tie.MeasureT-loop
+μ-loop s at v₀ j₀ v j = 3006 - j
+
+loop-holds : tie.Need-loop-holds Inv-loop μ-loop
+loop-holds c = (omega arith, omega arith, refl, c .before .pre .1)
+
+turn-requires : tie.Need-turn-requires Inv-loop μ-loop
+turn-requires c κs = (omega arith, omega arith, omega arith, omega arith, c .before .before .loop .inv .3)
+
+loop-again : tie.Need-loop-again Inv-loop μ-loop
+loop-again c =
+    let l = c .before .before .before .loop in
+    let a = c .before .before .before .before .before .args in
+    let e : a .at + (l .j + 1) * 4 ≡ a .at + l .j * 4 + 4 = omega arith in
+    (omega arith, omega arith, rw e (c .turn .ensures .0 ∙ l .inv .2), c .turn .ensures .1)
+
+returns : tie.Need-returns Inv-loop μ-loop
+returns c =
+    let l = c .before .loop in
+    let s = c .before .before .before .args .s .now in
+    let at = c .before .before .before .args .at in
+    let e : 3006 ≡ l .j = omega arith in
+    let i : at + 12024 ≡ at + l .j * 4 = omega arith in
+    let o = sym (ring-round (l .v)) ∙ ap (ring (l .v)) e in
+    (ap₂ (λ (m x : ℕ). left s m (mix sparser 32 x)) i o ∙ l .inv .2, l .inv .3)
+
+pub turn-third-spec : {M : Type 1} → statement M
+turn-third-spec =
+    tie.close
+    (tie.spec
+    Inv-loop
+    μ-loop
+    loop-holds
+    (λ c. search needs)
+    (λ c. search needs)
+    (λ c. search needs)
+    (λ c. search needs)
+    turn-requires
+    (λ c. search needs)
+    (λ c. search needs)
+    loop-again
+    returns)

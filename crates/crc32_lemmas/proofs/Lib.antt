@@ -1,0 +1,9 @@
+pub mod Tabulate
+pub mod Sparse
+pub mod Steps
+pub mod Left
+pub mod Joined
+pub mod FoldBits
+pub mod FoldWords
+pub mod FoldBytes
+pub mod FoldRing

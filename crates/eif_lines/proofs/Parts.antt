@@ -1,0 +1,88 @@
+-- Laws of parts that are written one after the other: where they end, the rows of a list, and a text at the start of an empty buffer.
+-- Assumes nothing.
+use Prim.Native.Nat.{ℕ, zero, suc, _+_, _-_, _≤_, _<_}
+use mathlib.Core.Path.{_≡_, sym, ap, ap₂, _∙_}
+use mathlib.Core.List.{List, [], _++_}
+use native.Mathlib.Omega.{arith}
+use lib.ListN.{length, take, drop, getD, replicate, length-append, length-replicate, drop-of-length-le}
+use lib.Seq.{drop-cons, getD-take, length-take-le}
+use Rattle.io.specs.Counts.{Counts}
+use Rattle.octets.specs.Over.{over}
+use Rattle.octets.proofs.Over.{length-over, over-start, over-append}
+use Rattle.eif.specs.declared.Section.{Section}
+use Rattle.eif.specs.Reading.{blankSection}
+use Rattle.eif_lines.specs.declared.Text.{Text}
+use Rattle.eif_lines.specs.Lines.{rowLine, rowLines, roomSize, inBuffer}
+
+-- where a part ends that is put after another
+pub ends : (at : ℕ) (x y : List ℕ) {m r : ℕ} → m ≡ at + length x → r ≡ m + length y → r ≡ at + length (x ++ y)
+ends at x y e f = let n = length-append x y in omega arith
+
+-- ---- rows
+
+abbrev pub rowAt : List Section → ℕ → List ℕ
+rowAt sections i = rowLine i (getD sections i blankSection)
+
+-- the rows from an index on, of the first so many sections
+abbrev pub rest : List Section → ℕ → ℕ → List ℕ
+rest sections count i = rowLines i (drop i (take count sections))
+
+module _ (sections : List Section) (count i : ℕ) (fits : count ≤ length sections) where
+  pub rest-next : i < count → rest sections count i ≡ rowAt sections i ++ rest sections count (suc i)
+  unfolding rowLines
+  rest-next h =
+      let n = length-take-le count sections fits in
+      ap (rowLines i) (drop-cons (take count sections) i blankSection (omega arith))
+      ∙ ap (λ (s : Section). rowLine i s ++ rowLines (suc i) (drop (suc i) (take count sections))) (getD-take count sections i blankSection h)
+
+  pub rest-none : count ≤ i → rest sections count i ≡ []
+  unfolding rowLines
+  rest-none h =
+      let n = length-take-le count sections fits in
+      let past : length (take count sections) ≤ i = omega arith in
+      ap (rowLines i) (drop-of-length-le (take count sections) past)
+
+  pub rest-size : i < count → length (rest sections count i) ≡ length (rowAt sections i) + length (rest sections count (suc i))
+  rest-size h = ap length (rest-next h) ∙ length-append (rowAt sections i) (rest sections count (suc i))
+
+  pub rest-over : i < count → (d : List ℕ) (at : ℕ)
+      → over (over d at (rowAt sections i)) (at + length (rowAt sections i)) (rest sections count (suc i)) ≡ over d at (rest sections count i)
+  rest-over h d at = sym (over-append d at (rowAt sections i) (rest sections count (suc i))) ∙ ap (over d at) (sym (rest-next h))
+
+  pub rest-done : count ≤ i → (d : List ℕ) (at : ℕ) → over d at (rest sections count i) ≡ d
+  unfolding over
+  rest-done h d at = ap (over d at) (rest-none h)
+
+-- ---- a text in the buffer
+
+zeros : ℕ → List ℕ
+zeros m = replicate m 0
+
+drop-zeros : (n m : ℕ) → drop n (zeros m) ≡ zeros (m - n)
+unfolding zeros
+drop-zeros zero m = let e : m ≡ m - 0 = omega arith in ap zeros e
+drop-zeros (suc n) zero = let e : 0 ≡ 0 - suc n = omega arith in ap zeros e
+drop-zeros (suc n) (suc m) = let e : m - n ≡ suc m - suc n = omega arith in drop-zeros n m ∙ ap zeros e
+
+length-zeros : (m : ℕ) → length (zeros m) ≡ m
+unfolding zeros
+length-zeros m = length-replicate m 0
+
+over-zeros : (m : ℕ) (z t : List ℕ) → z ≡ zeros m → length t ≤ m → over z 0 t ≡ t ++ zeros (m - length t)
+over-zeros m z t e h =
+    let n = ap length e ∙ length-zeros m in
+    over-start z t (omega arith) ∙ ap (λ (l : List ℕ). t ++ l) (ap (drop (length t)) e ∙ drop-zeros (length t) m)
+
+abbrev pub text : List ℕ → ℕ → Text
+text b n = record { bytes = b; length = n }
+
+module _ (z t b : List ℕ) (n : ℕ) (empty : z ≡ replicate roomSize 0) (put : b ≡ over z 0 t) (ended : n ≡ length t) (fits : n ≤ roomSize) where
+  pub filled : text b n ≡ inBuffer t
+  unfolding inBuffer zeros
+  filled = ap₂ text (put ∙ over-zeros roomSize z t empty (omega arith)) ended
+
+  pub filled-counts : Counts n b
+  unfolding zeros
+  filled-counts =
+      let l : length b ≡ roomSize = ap length put ∙ length-over z 0 t ∙ ap length empty ∙ length-zeros roomSize in
+      (omega arith, sym (length-take-le n b (omega arith)))

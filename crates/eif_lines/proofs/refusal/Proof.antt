@@ -1,0 +1,20 @@
+-- `eif_lines::refusal` meets its contract: the line over the start of an empty buffer. Assumes nothing.
+use native.Mathlib.Omega.{arith}
+use borrow.Author.Needs.{needs}
+use Rattle.eif_lines.specs.Lines.{refusalLine}
+use Rattle.eif_lines.proofs.Parts.{filled, filled-counts}
+use Rattle.eif_lines.proofs.refusal.Statement.{statement}
+use Rattle.eif_lines.proofs.refusal.Tie as tie
+
+returns : tie.Need-returns
+returns c =
+    let y = c .before in
+    let x = y .before .before in
+    let p = y .put-refusal .ensures in
+    let t = refusalLine (x .before .args .r) in
+    let e = x .empty .ensures in
+    (filled _ t _ _ e (p .1 .1) (p .0) (omega arith), filled-counts _ t _ _ e (p .1 .1) (p .0) (omega arith))
+
+pub refusal-spec : {M : Type 1} → statement M
+refusal-spec =
+    tie.close (tie.spec (λ c κs. search needs) (λ c. search needs) (λ c κs. search needs) returns)

@@ -1,0 +1,67 @@
+-- The three registers of an image (FORMAT.md, Registers), of a staged view, and of any sections.
+-- Assumes nothing.
+use Prim.Native.Nat.{ℕ}
+use mathlib.Core.List.{List, [], _∷_, _++_}
+use lib.ListN.{length, replicate}
+use Rattle.eif.specs.Answers.{beside}
+use Rattle.eif.specs.Reading.{verdictOf}
+use Rattle.eif.specs.Stream.{streamSections, streamOf}
+use Rattle.eif.specs.declared.Section.{Section}
+use Rattle.eif.specs.declared.Stream.{Stream}
+use Rattle.eif.specs.declared.Stream.the-variants.{Whole, Boot, App}
+use Rattle.eif.specs.declared.Verdict.{Verdict}
+use Rattle.sha384_block.specs.Fips.{digestSize, sha384}
+use Rattle.sha384.specs.State.{initialState, updated, digestFrom}
+use Rattle.sha384.specs.declared.State.{State}
+use Rattle.staged.specs.Staged.{stagedVerdict, afresh}
+use Rattle.eif_registers.specs.declared.Digest.{Digest}
+use Rattle.eif_registers.specs.declared.Measurement.{Measurement}
+
+-- ---- SHA-384 of forty-eight zero bytes followed by the stream's SHA-384
+
+-- a register from the digest of its stream
+unfoldable pub registerFrom : List ℕ → List ℕ
+registerFrom digest = sha384 (replicate digestSize 0 ++ digest)
+
+unfoldable pub registerOf : List ℕ → Stream → List ℕ
+registerOf s stream = registerFrom (sha384 (streamOf s stream))
+
+-- registers 0, 1 and 2 of an image are those of Whole, Boot and App
+unfoldable pub imageRegisters : List ℕ → List (List ℕ)
+imageRegisters s = registerOf s Whole ∷ registerOf s Boot ∷ registerOf s App ∷ []
+
+-- all zero
+unfoldable pub noRegisters : List (List ℕ)
+noRegisters = replicate 3 (replicate digestSize 0)
+
+-- as the answer holds them
+abbrev pub asDigests : List (List ℕ) → List Digest
+asDigests [] = []
+asDigests (x ∷ xs) = record { 0 = x } ∷ asDigests xs
+
+abbrev pub registersFor : Verdict → List (List ℕ) → Measurement
+registersFor verdict registers = record { verdict = verdict; registers = asDigests registers }
+
+-- the image's refusal and all zero, or its registers
+unfoldable pub registersAnswer : List ℕ → Measurement
+registersAnswer s = registersFor (verdictOf s) (beside (verdictOf s) (imageRegisters s) noRegisters)
+
+-- ---- the staged view: the registers of the image written afresh with the replacement, or the refusal and all zero
+
+unfoldable pub stagedRegisters : List ℕ → List ℕ → ℕ → Measurement
+stagedRegisters s r k =
+    let verdict = stagedVerdict s (length r) k k in
+    registersFor verdict (beside verdict (imageRegisters (afresh s r k)) noRegisters)
+
+-- ---- the step over sections already found, for any sections and whatever their data is, also where these are not of one image
+
+-- the state after the data of sections, one piece each
+unfoldable pub hashed : (Section → List ℕ) → State → List Section → State
+hashed held st [] = st
+hashed held st (x ∷ xs) = hashed held (updated st (held x) .state) xs
+
+unfoldable pub stepRegister : (Section → List ℕ) → List Section → Stream → List ℕ
+stepRegister held l stream = registerFrom (digestFrom (hashed held initialState (streamSections stream l)))
+
+unfoldable pub stepRegisters : (Section → List ℕ) → List Section → List (List ℕ)
+stepRegisters held l = stepRegister held l Whole ∷ stepRegister held l Boot ∷ stepRegister held l App ∷ []
