@@ -140,7 +140,7 @@ def numbered(function, prefix, names, first):
 TABLE = f"""-- The tables of the machine, written by tools/json_tables.py. Nothing is assumed of them: proofs/Right.antt checks each entry
 -- against the grammar.
 use Prim.Native.Nat.{{ℕ}}
-use mathlib.Core.List.{{List, [], _∷_, _++_}}
+use mathlib.Core.List.{{List, [], _∷_}}
 
 -- the class of each byte: the bytes of one are treated alike in every mode
 unfoldable pub classes : List ℕ
@@ -152,11 +152,6 @@ classes =
 unfoldable pub rows : List (List ℕ)
 rows =
     {" ∷{0}    ".format(chr(10)).join("(" + " ∷ ".join(map(str, r)) + " ∷ [])" for r in rows)} ∷ []
-
--- one row after the other
-abbrev pub joined : List (List ℕ) → List ℕ
-joined [] = []
-joined (r ∷ rs) = r ++ joined rs
 """
 
 ACTS = [f"to (m-token t-{name})" for name in TOKEN] + [f"to (m-string s-{name})" for name in STRING]

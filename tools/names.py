@@ -5,7 +5,7 @@ Run in the repository's root: tools/names.py --check prints each name that is no
 speaks of how things were, is left out.
 
     `eif_judge::judge`              a function, a constant or a type of a crate
-    `eif_laws/Acceptance.NAME`      a name in a file of a crate's proofs or specs; `eif_c/specs/Flat.NAME` too, and with no NAME the file
+    `eif_laws/Acceptance.NAME`      a name in a file of a crate's proofs or specs; `eif_flat/specs/Flat.NAME` too, and with no NAME the file
     `Reading.readImage`             a name in a file of this name, of any crate
     `eif_judge/wrapping_end`        a must-fail edit
     `cli/words`                     a test of rust/cli

@@ -16,32 +16,23 @@ use Rattle.crc32.proofs.Linear.{crcFrom-append}
 use Rattle.eif.specs.Numbers.{placeCount}
 use Rattle.eif.specs.Layout.{headerSize, sectionHeaderSize, checksumAt}
 use Rattle.arriving.specs.State.{keptFrom, checkedAfter, countLimit}
-use Rattle.arriving.specs.Calls.{keptOver, headersOver, grown, fed}
+use Rattle.arriving.specs.Calls.{fedWith, keptOver, headersOver, grown, fed}
 use Rattle.arriving.specs.declared.Arriving.{Arriving}
 
 -- ---- parts, cut to what there is
 
-pub take-min : (m : ℕ) (l : List ℕ) → take (min m (length l)) l ≡ take m l
-take-min m l =
+by-min : (f : ℕ → List ℕ) (m n : ℕ) → (n < m → f n ≡ f m) → f (min m n) ≡ f m
+by-min f m n past =
     ⊎-elim
-    (λ (h : m ≤ length l).
-    let e : min m (length l) ≡ m = omega arith in
-    rw e refl)
-    (λ (h : length l < m).
-    let e : min m (length l) ≡ length l = omega arith in
-    rw e (take-length l ∙ sym (take-all m l (omega arith))))
-    (le-or-lt m (length l))
+    (λ (h : m ≤ n). let e : min m n ≡ m = omega arith in ap f e)
+    (λ (h : n < m). let e : min m n ≡ n = omega arith in ap f e ∙ past h)
+    (le-or-lt m n)
+
+pub take-min : (m : ℕ) (l : List ℕ) → take (min m (length l)) l ≡ take m l
+take-min m l = by-min (λ (n : ℕ). take n l) m (length l) (λ h. take-length l ∙ sym (take-all m l (omega arith)))
 
 pub drop-min : (m : ℕ) (l : List ℕ) → drop (min m (length l)) l ≡ drop m l
-drop-min m l =
-    ⊎-elim
-    (λ (h : m ≤ length l).
-    let e : min m (length l) ≡ m = omega arith in
-    rw e refl)
-    (λ (h : length l < m).
-    let e : min m (length l) ≡ length l = omega arith in
-    rw e (drop-length l ∙ sym (drop-of-length-le l {i = m} (omega arith))))
-    (le-or-lt m (length l))
+drop-min m l = by-min (λ (n : ℕ). drop n l) m (length l) (λ h. drop-length l ∙ sym (drop-of-length-le l {i = m} (omega arith)))
 
 -- ---- the own header of one section
 
@@ -110,10 +101,10 @@ kept-part room n piece =
         sym (take-take (min room (length (take n piece))) n piece k) ∙ take-min room (take n piece)
 
 pub fed-open : (a : Arriving) (piece : List ℕ) (allowance : ℕ) → a .ended ≡ 0
-    → fed a piece allowance ≡ record { state = grown a (take (countLimit - a .taken) (take allowance piece)); count = min allowance (length piece) }
+    → fed a piece allowance ≡ fedWith (grown a (take (countLimit - a .taken) (take allowance piece))) (min allowance (length piece))
 unfolding fed
 fed-open a piece allowance e = simp (eq-eqb (a .ended) 0 e)
 
-pub fed-ended : (a : Arriving) (piece : List ℕ) (allowance : ℕ) → (a .ended ≡ 0 → ⊥) → fed a piece allowance ≡ record { state = a; count = 0 }
+pub fed-ended : (a : Arriving) (piece : List ℕ) (allowance : ℕ) → (a .ended ≡ 0 → ⊥) → fed a piece allowance ≡ fedWith a 0
 unfolding fed
 fed-ended a piece allowance e = simp (ne-eqb (a .ended) 0 e)

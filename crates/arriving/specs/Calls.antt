@@ -44,12 +44,16 @@ grown a piece =
       ended = a .ended;
     }
 
+-- the answer to a piece: the state after it, and how many of its bytes were taken
+abbrev pub fedWith : Arriving → ℕ → Fed
+fedWith state count = record { state = state; count = count }
+
 -- a piece with an allowance: until the end is told, the lesser of the allowance and the piece's length is taken; after it, nothing
 unfoldable pub fed : Arriving → List ℕ → ℕ → Fed
 fed a piece allowance =
     choose (eqb (a .ended) 0)
-    (record { state = grown a (take (countLimit - a .taken) (take allowance piece)); count = min allowance (length piece) })
-    (record { state = a; count = 0 })
+    (fedWith (grown a (take (countLimit - a .taken) (take allowance piece))) (min allowance (length piece)))
+    (fedWith a 0)
 
 -- ---- the end
 

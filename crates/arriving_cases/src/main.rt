@@ -1,8 +1,7 @@
 // Runs cases of reading an image that arrives in pieces, one line each: how it was handed over, how many bytes were taken, and the answer.
 use arriving::Arriving;
+use case_images::Shape;
 use eif::Reading;
-use eif::Refusal;
-use eif::SectionType;
 use eif::Verdict;
 
 // The length of the worked example.
@@ -10,15 +9,6 @@ const LENGTH: usize = 586;
 
 // More than any piece here has.
 const ALL: u64 = 1000;
-
-// The worked example: version 2, kernel 4b, command line 61, an empty ramdisk; sections at 548, 561 and 574.
-fn worked(image: &mut [u8]) {
-    case_images::put_header(image, 2, 0, 3);
-    case_images::put_section(image, 0, 548, SectionType::KERNEL, 0, b"K");
-    case_images::put_section(image, 1, 561, SectionType::COMMAND_LINE, 0, b"a");
-    case_images::put_section(image, 2, 574, SectionType::RAMDISK, 0, b"");
-    case_images::put_checksum(image);
-}
 
 // ---- answers
 
@@ -35,23 +25,22 @@ fn labelled(what: &[u8], n: u64) {
     number(n);
 }
 
-fn refusal(r: Refusal) {
-    labelled(b": refused ", r.number as u64);
-    labelled(b" at ", r.index);
-    labelled(b" byte ", r.position);
-}
-
-fn accepted(reading: Reading) {
-    labelled(b": accepted, version ", reading.version as u64);
+fn fields(reading: Reading) {
+    labelled(b", version ", reading.version as u64);
     labelled(b", sections ", reading.count as u64);
     labelled(b", ramdisk mark ", reading.ramdisk_mark as u64);
 }
 
+// The verdict, and the fields beside one that is no refusal.
 fn answer(reading: Reading) {
     let verdict = reading.verdict;
-    match verdict {
-        Verdict::Accepted => accepted(reading),
-        Verdict::Refused(r) => refusal(r),
+    let said = case_lines::answer(verdict);
+    let bytes = said.bytes;
+    let length = said.length;
+    text(b": ");
+    text(&bytes[..length]);
+    if let Verdict::Accepted = verdict {
+        fields(reading);
     }
 }
 
@@ -250,7 +239,7 @@ fn wrong_magic(image: &[u8]) {
 
 fn main() {
     let mut image = [0u8; LENGTH];
-    worked(&mut image);
+    case_images::put_image(&mut image, Shape::WORKED, b"Ka");
     at_each_place(&image);
     nothing_taken(&image);
     nothing_allowed(&image);

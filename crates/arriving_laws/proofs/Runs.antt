@@ -8,12 +8,13 @@ use mathlib.Core.List.{List, [], _∷_, _++_, append-assoc, append-nil}
 use native.Mathlib.Omega.{arith}
 use lib.ListN.{length, take, drop, length-take, length-drop, take-append-drop}
 use lib.Seq.{take-take}
+use Rattle.octets.specs.Lists.{All}
 use Rattle.eif.specs.Numbers.{sizeLimit, imageTooLong}
 use Rattle.eif.specs.Answers.{numberOf}
 use Rattle.eif.specs.Reading.{readImage}
 use Rattle.eif.specs.declared.Reading.{Reading}
 use Rattle.arriving.specs.State.{countLimit, stateOf}
-use Rattle.arriving.specs.Calls.{fed, answerOf, toldEnd, finished}
+use Rattle.arriving.specs.Calls.{fed, answerOf, toldEnd, finished, fedWith}
 use Rattle.arriving.specs.declared.Arriving.{Arriving}
 use Rattle.arriving.specs.declared.Fed.{Fed}
 use Rattle.arriving.proofs.Steps.{take-min, fed-open, fed-ended}
@@ -23,20 +24,17 @@ use Rattle.arriving_laws.proofs.Answer.{image-too-long, answer-of}
 
 -- ---- one call
 
-abbrev with : Arriving → ℕ → Fed
-with a n = record { state = a; count = n }
-
 -- before the end is told
-fed-state : (s piece : List ℕ) (allowance : ℕ) → fed (stateOf s) piece allowance ≡ with (stateOf (s ++ take allowance piece)) (min allowance (length piece))
+fed-state : (s piece : List ℕ) (allowance : ℕ) → fed (stateOf s) piece allowance ≡ fedWith (stateOf (s ++ take allowance piece)) (min allowance (length piece))
 fed-state s piece allowance =
-    fed-open (stateOf s) piece allowance (open-of s) ∙ ap (λ (a : Arriving). with a (min allowance (length piece))) (state-grows s (take allowance piece))
+    fed-open (stateOf s) piece allowance (open-of s) ∙ ap (λ (a : Arriving). fedWith a (min allowance (length piece))) (state-grows s (take allowance piece))
 
 told-ended : (a : Arriving) → toldEnd a .ended ≡ 1
 unfolding toldEnd
 told-ended a = refl
 
 -- after it
-fed-told : (a : Arriving) (piece : List ℕ) (allowance : ℕ) → fed (toldEnd a) piece allowance ≡ with (toldEnd a) 0
+fed-told : (a : Arriving) (piece : List ℕ) (allowance : ℕ) → fed (toldEnd a) piece allowance ≡ fedWith (toldEnd a) 0
 fed-told a piece allowance =
     fed-ended (toldEnd a) piece allowance (λ e. omega (arith, told-ended a, e))
 
@@ -188,15 +186,15 @@ turn-takes before left t k e =
         sym (take-min (t .allowance) (take (t .size) left)) ∙ ap (λ (n : ℕ). take n (take (t .size) left)) (sym e) ∙ take-take k (t .size) left h
 
 ends-from : (before left : List ℕ) (ts : List Turn) → CanTake ts → length left ≤ length ts → turns (sending before left) ts ≡ sending (before ++ left) []
-unfolding turns
+unfolding All turns
 ends-from before left [] w h =
     let e = nothing left h in
     ap₂ sending (sym (append-nil before) ∙ ap (λ (l : List ℕ). before ++ l) (sym e)) e
 ends-from before left (t ∷ ts) w h =
     let k = min (t .allowance) (length (take (t .size) left)) in
-    let n : length (drop k left) ≤ length ts = rw (length-drop k left, length-take (t .size) left) (omega (arith, w .0, w .1)) in
+    let n : length (drop k left) ≤ length ts = rw (length-drop k left, length-take (t .size) left) (omega (arith, w .0 .0, w .0 .1)) in
     ap (λ (x : Sending). turns x ts) (turn-takes before left t k refl)
-    ∙ ends-from (before ++ take k left) (drop k left) ts (w .2) n
+    ∙ ends-from (before ++ take k left) (drop k left) ts (w .1) n
     ∙ ap (λ (l : List ℕ). sending l []) (append-assoc before (take k left) (drop k left) ∙ ap (λ (l : List ℕ). before ++ l) (take-append-drop k left))
 
 module _ (file : List ℕ) (ts : List Turn) (able : CanTake ts) (enough : length file ≤ length ts) where

@@ -4,6 +4,7 @@ use Prim.Native.Nat.{ℕ, _<_}
 use mathlib.Core.Bool.{Bool, true, false}
 use mathlib.Core.List.{List, [], _∷_, _++_}
 use lib.ListN.{take, drop}
+use Rattle.octets.specs.Lists.{All}
 use Rattle.octets.specs.Logic.{choose}
 use Rattle.arriving.specs.State.{stateOf}
 use Rattle.arriving.specs.Calls.{fed, toldEnd, finished}
@@ -63,8 +64,7 @@ pub record Turn : Type 0 where
 
 -- each turn can take a byte
 abbrev pub CanTake : List Turn → Type 0
-CanTake [] = Unit
-CanTake (t ∷ ts) = (0 < t .size) × (0 < t .allowance) × CanTake ts
+CanTake ts = All (λ (t : Turn). (0 < t .size) × (0 < t .allowance)) ts
 
 -- the state, and what is left of the file
 pub record Sending : Type 0 where

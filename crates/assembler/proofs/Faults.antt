@@ -134,9 +134,9 @@ module _ (st : State) (r x y : List ℕ) (z : faultOf st r x y ≡ 0) where
       let off = offGrid (st .length) (numberIn r) (length (dataIn r)) in
       let short = shortFor st (length x) (length y) in
       let last = choose (heldWithOther r x y) pieceDiffers 0 in
-      let f = choose-zero off 21 (choose short bufferTooShort last) (fault-piece st r x y accepted-form k o ∙ z) in
+      let f = choose-zero off _ (choose short bufferTooShort last) (fault-piece st r x y accepted-form k o ∙ z) in
       let g = grid-in (st .length) (numberIn r) (length (dataIn r)) (f .0) in
-      let h = choose-zero short 23 last (f .1) in
+      let h = choose-zero short _ last (f .1) in
       let m = long-enough st (length x) (length y) (h .0) in
       record {
         whole = formed-piece r accepted-form k;
@@ -148,7 +148,7 @@ module _ (st : State) (r x y : List ℕ) (z : faultOf st r x y ≡ 0) where
         mark-room = m .1;
         image-kept = m .2;
         marks-kept = m .3;
-        agrees = choose-zero (heldWithOther r x y) 24 0 (h .1) .0;
+        agrees = choose-zero (heldWithOther r x y) _ 0 (h .1) .0;
       }
 
   pub accepted-close : kindIn r ≡ closeKind → CloseTaken st y
@@ -157,5 +157,5 @@ module _ (st : State) (r x y : List ℕ) (z : faultOf st r x y ≡ 0) where
       let o = opened-now (λ e. omega arith) in
       let all = allHeld (take (piecesOf (st .length)) y) in
       let short = shortFor st (length x) (length y) in
-      let f = choose-zero short 23 (choose (not all) pieceMissing 0) (fault-close st r x y accepted-form k o ∙ z) in
-      record { open-now = o; all-here = not-false all (choose-zero (not all) 25 0 (f .1) .0) }
+      let f = choose-zero short _ (choose (not all) pieceMissing 0) (fault-close st r x y accepted-form k o ∙ z) in
+      record { open-now = o; all-here = not-false all (choose-zero (not all) _ 0 (f .1) .0) }

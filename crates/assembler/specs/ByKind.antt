@@ -1,5 +1,5 @@
 -- The same order for each kind of record, the rules left out that cannot apply to it: what is left after its form and turn. That it is the
--- same order is a law. Assumes nothing.
+-- same order is said by `fault-open`, `fault-piece` and `fault-close` of proofs/Faults.antt. Assumes nothing.
 use Prim.Native.Nat.{ℕ}
 use mathlib.Core.Bool.{not}
 use mathlib.Core.List.{List}

@@ -1,4 +1,5 @@
--- The order of the refusals of a record, as a list like those of eif's Order. Assumes nothing.
+-- The order of the refusals of a record, as a list like those of eif's Order. That a step's verdict is that of the first rule of the list
+-- that applies is `step-first` of proofs/Order.antt. Assumes nothing.
 use Prim.Native.Nat.{ℕ}
 use mathlib.Core.Bool.{Bool, not}
 use mathlib.Core.List.{List, [], _∷_}

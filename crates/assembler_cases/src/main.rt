@@ -8,7 +8,6 @@ use assembler::PieceRecord;
 use assembler::PieceRecordKind;
 use assembler::State;
 use eif::RecordHead;
-use eif::Refusal;
 use eif::Verdict;
 
 // The longest record.
@@ -24,20 +23,11 @@ fn number(n: u64) {
     io::print_decimal(libc::STDOUT_FILENO, n);
 }
 
-fn refusal(r: Refusal) {
-    text(b"refused ");
-    number(r.number as u64);
-    text(b" at ");
-    number(r.index);
-    text(b" byte ");
-    number(r.position);
-}
-
 fn answer(verdict: Verdict) {
-    match verdict {
-        Verdict::Accepted => text(b"accepted"),
-        Verdict::Refused(r) => refusal(r),
-    }
+    let said = case_lines::answer(verdict);
+    let bytes = said.bytes;
+    let length = said.length;
+    text(&bytes[..length]);
 }
 
 fn wide(b: u8) -> u64

@@ -7,6 +7,7 @@ use mathlib.Core.List.{List, [], _∷_, _++_}
 use mathlib.Core.Logic.{⊎-elim}
 use native.Mathlib.Omega.{arith}
 use lib.ListN.{length, take, drop, getD, replicate}
+use Rattle.octets.specs.Lists.{All}
 use Rattle.eif.specs.Numbers.{sizeLimit}
 use Rattle.octets.proofs.Logic.{not-both, zero-or, equal-or-not}
 use Rattle.assembler.specs.Records.{openKind, pieceKind, closeKind, kindIn, numberIn, piecesOf, pieceSizeAt}
@@ -15,7 +16,7 @@ use Rattle.assembler.specs.Step.{freshState}
 use Rattle.assembler.specs.declared.Stepped.{Stepped}
 use Rattle.assembler.proofs.Form.{formed-kinds}
 use Rattle.assembler.proofs.Faults.{accepted-form, accepted-open, accepted-piece, accepted-close}
-use Rattle.assembler_laws.specs.Run.{faultAt, Memory, memory, answer, after, run, Every, Agrees, StaysOpen, AnyBetween}
+use Rattle.assembler_laws.specs.Run.{faultAt, Memory, memory, answer, after, run, Agrees, StaysOpen, AnyBetween}
 use Rattle.assembler_laws.proofs.Lists.{gap-found}
 use Rattle.assembler_laws.proofs.Calls.{refused-keeps, no-fault, close-ends}
 use Rattle.assembler_laws.proofs.Transfer.{InProgress, size-is, open-now, one-piece, close-answer, close-leaves, starts}
@@ -55,8 +56,8 @@ module _ (m x y : List ℕ) (image-room : length m ≤ length x) (mark-room : pi
     one-more : InProgress m x y (after w r)
     one-more = ⊎-elim by-kind (λ h. subst (InProgress m x y) (sym (refused-keeps w r h .1)) g) (zero-or (faultAt w r))
 
-  all-in-progress : (rs : List (List ℕ)) (w : Memory) → InProgress m x y w → Every (Agrees m) rs → StaysOpen w rs → InProgress m x y (run w rs)
-  unfolding run Every StaysOpen
+  all-in-progress : (rs : List (List ℕ)) (w : Memory) → InProgress m x y w → All (Agrees m) rs → StaysOpen w rs → InProgress m x y (run w rs)
+  unfolding run All StaysOpen
   all-in-progress [] w g a s = g
   all-in-progress (r ∷ rs) w g a s = all-in-progress rs (after w r) (one-more w g r (a .0) (s .0)) (a .1) (s .1)
 

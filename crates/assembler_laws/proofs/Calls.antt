@@ -11,6 +11,8 @@ use borrow.Author.Tests.{eqb-true, ne-eqb}
 use lib.Dec.{eqb}
 use lib.ListN.{length, take, drop, getD, set, replicate, length-set, length-replicate}
 use lib.Seq.{length-take-le, take-at, drop-at, getD-set-same, getD-set-other}
+use Rattle.eif_lemmas.proofs.Verdicts.{never}
+use Rattle.octets.specs.Lists.{All}
 use Rattle.octets.specs.Over.{over}
 use Rattle.octets.proofs.Over.{length-over, over-parts}
 use Rattle.octets.specs.Logic.{both, choose}
@@ -27,10 +29,10 @@ use Rattle.assembler.specs.declared.Stepped.{Stepped}
 use Rattle.assembler.proofs.Piece.{place-in, piece-in, held-yes, piece-kept, piece-put}
 use Rattle.assembler.proofs.Faults.{PieceTaken, fault-not-open, accepted-form, accepted-piece}
 use Rattle.assembler.proofs.Steps.{Answers, step-refused, step-taken, step-closed}
-use Rattle.assembler_laws.specs.Run.{Memory, memory, answer, after, faultAt, run, Every, Outside, OutsideTaken, OutsideAll, OtherMark}
+use Rattle.assembler_laws.specs.Run.{Memory, memory, answer, after, faultAt, run, Outside, OutsideTaken, OutsideAll, OtherMark}
 use Rattle.octets.proofs.Same.{equal-same}
 use Rattle.assembler_laws.proofs.Lists.{over-other, gap-found}
-use Rattle.assembler_laws.proofs.Accept.{LongEnough, piece-fine, close-lacks}
+use Rattle.assembler_laws.proofs.Accept.{LongEnough, piece-fine, close-lacks, still-enough, taken-enough}
 
 same-memory : (s t : State) (a b c d : List ℕ) → s ≡ t → a ≡ b → c ≡ d → memory s a c ≡ memory t b d
 same-memory s t a b c d e f g =
@@ -51,7 +53,7 @@ refused-keeps w r h =
 
 -- an accepted call has no fault
 refused-not : (n : ℕ) (v : Verdict) → v ≡ refuse n 0 → v ≡ Accepted → ⊥
-refused-not n v a b = let z : _≡_ {A = ℕ} 0 1 = cc in omega arith
+refused-not n v a b = never _ (sym a ∙ b)
 
 pub no-fault : (w : Memory) (r : List ℕ) → answer w r .verdict ≡ Accepted → faultAt w r ≡ 0
 no-fault w r e =
@@ -99,11 +101,9 @@ module _ (w : Memory) (r : List ℕ) (z : faultAt w r ≡ 0) (k : kindIn r ≡ p
 
   put-fine : faultAt put r ≡ 0
   put-fine =
-      let i = length-over (w .image) (numberIn r) (dataIn r) in
-      let j = length-set (w .marks) (placeIn r) 1 in
       let t = taken in
       piece-fine (w .state) r (put .image) (put .marks) (accepted-form (w .state) r (w .image) (w .marks) z) (t .open-now)
-      (record { image-room = rw i (t .image-room); mark-room = rw j (t .mark-room); image-kept = rw i (t .image-kept); marks-kept = rw j (t .marks-kept) })
+      (still-enough (length-over (w .image) (numberIn r) (dataIn r)) (length-set (w .marks) (placeIn r) 1) (taken-enough t))
       k (t .inside) (t .on-grid) (t .sized)
       (ap (λ (t : Bool). both (isHeld r (put .marks)) (not t)) (equal-same (standing r (put .image)) (dataIn r) put-stands) ∙ both-none (isHeld r (put .marks)))
 
@@ -234,7 +234,7 @@ run-elsewhere [] w i h = refl
 run-elsewhere (r ∷ rs) w i h = run-elsewhere rs (after w r) i (h .1) ∙ image-elsewhere w r i (h .0)
 
 -- nor a mark but those of the pieces that are opened or brought
-pub run-marks-elsewhere : (rs : List (List ℕ)) (w : Memory) (k : ℕ) → Every (OtherMark k) rs → getD (run w rs .marks) k 0 ≡ getD (w .marks) k 0
-unfolding run Every
+pub run-marks-elsewhere : (rs : List (List ℕ)) (w : Memory) (k : ℕ) → All (OtherMark k) rs → getD (run w rs .marks) k 0 ≡ getD (w .marks) k 0
+unfolding run All
 run-marks-elsewhere [] w k h = refl
 run-marks-elsewhere (r ∷ rs) w k h = run-marks-elsewhere rs (after w r) k (h .1) ∙ marks-elsewhere w r k (h .0 .0) (h .0 .1)

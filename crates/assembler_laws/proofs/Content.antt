@@ -10,12 +10,13 @@ use borrow.Author.Tests.{eqb-true, eqb-false}
 use lib.Dec.{eqb}
 use lib.ListN.{length, take, drop, getD, length-take, length-drop, take-append-drop, drop-of-length-le}
 use lib.Seq.{getD-take, getD-drop, drop-drop, ext-getD}
+use Rattle.octets.specs.Lists.{All}
 use Rattle.octets.specs.Logic.{choose}
 use Rattle.eif.specs.Table.{filled}
 use Rattle.eif.specs.Table.{joinFrom}
 use Rattle.eif_lemmas.proofs.Table.{filled-at, length-filled}
 use Rattle.assembler.specs.Records.{pieceSize, numberIn, dataIn, piecesOf, placeIn}
-use Rattle.assembler_laws.specs.Run.{Memory, run, PieceOf, Every, Sent, Pieces, Transfer, Assembled}
+use Rattle.assembler_laws.specs.Run.{Memory, run, PieceOf, Sent, Pieces, Transfer, Assembled}
 use Rattle.assembler_laws.specs.Set.{PieceFor, In, CompleteSet, bytesFor, joinedPieces, AnyOrder, SetTransfer}
 use Rattle.assembler_laws.proofs.Transfer.{assembled}
 
@@ -131,8 +132,8 @@ module _ (n : ℕ) (ps : List (List ℕ)) (all : CompleteSet n ps) where
   pub image-length : length (joinedPieces n ps) ≡ n
   image-length = sym (ap length image-is) ∙ content-length
 
-  every-piece : (rs : List (List ℕ)) → Every (In ps) rs → Every (PieceOf (joinedPieces n ps)) rs
-  unfolding Every
+  every-piece : (rs : List (List ℕ)) → All (In ps) rs → All (PieceOf (joinedPieces n ps)) rs
+  unfolding All
   every-piece [] h = tt
   every-piece (r ∷ rs) h = (subst (λ (l : List ℕ). PieceOf l r) image-is (piece-of r (h .0)), every-piece rs (h .1))
 

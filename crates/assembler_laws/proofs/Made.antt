@@ -10,6 +10,7 @@ use native.Mathlib.Nat.{lt-of-le-of-lt}
 use borrow.Author.Tests.{le-leb}
 use lib.Dec.{lit<}
 use lib.ListN.{length, take, drop, length-take}
+use Rattle.octets.specs.Lists.{All}
 use Rattle.octets.specs.Bytes.{leBytes, leField}
 use Rattle.octets.proofs.Value.{leField-at, length-leBytes}
 use Rattle.octets.proofs.Over.{le-or-lt}
@@ -19,7 +20,7 @@ use Rattle.octets.proofs.Logic.{equal-or-not}
 use Rattle.assembler.specs.Records.{pieceSize, numberSize, openKind, pieceKind, sizeIn, kindIn, numberIn, dataIn, sizeFits, formed, piecesOf, placeIn}
 use Rattle.assembler.specs.Step.{freshState}
 use Rattle.assembler.proofs.Form.{formed-fits}
-use Rattle.assembler_laws.specs.Run.{memory, OpenFor, PieceOf, Close, Every, Sent, Pieces, Transfer}
+use Rattle.assembler_laws.specs.Run.{memory, OpenFor, PieceOf, Close, Sent, Pieces, Transfer}
 use Rattle.assembler_laws.specs.Made.{openRecord, closeRecord, pieceRecordAt, piecesFrom, allPieces}
 
 -- ---- what the fields say
@@ -100,8 +101,8 @@ module _ (m : List ℕ) (h : length m ≤ sizeLimit) (k : ℕ) (b : k < piecesOf
 -- ---- all pieces of m in order
 
 module _ (m : List ℕ) (h : length m ≤ sizeLimit) where
-  every-made : (count k : ℕ) → k + count ≤ piecesOf (length m) → Every (PieceOf m) (piecesFrom m count k)
-  unfolding Every piecesFrom
+  every-made : (count k : ℕ) → k + count ≤ piecesOf (length m) → All (PieceOf m) (piecesFrom m count k)
+  unfolding All piecesFrom
   every-made zero k b = tt
   every-made (suc count) k b = (made-piece m h k (omega arith), every-made count (suc k) (omega arith))
 

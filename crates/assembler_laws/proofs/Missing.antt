@@ -8,6 +8,7 @@ use mathlib.Core.Logic.{⊎-elim}
 use native.Mathlib.Omega.{arith}
 use native.Mathlib.Nat.{lt-of-lt-of-le, zero-add}
 use lib.ListN.{length, getD, replicate, length-replicate, getD-replicate}
+use Rattle.octets.specs.Lists.{All}
 use Rattle.octets.specs.Over.{over}
 use Rattle.octets.proofs.Over.{length-over}
 use Rattle.eif.specs.Numbers.{pieceMissing}
@@ -20,7 +21,7 @@ use Rattle.assembler.specs.declared.Stepped.{Stepped}
 use Rattle.assembler.proofs.Form.{formed-kinds}
 use Rattle.assembler.proofs.Faults.{accepted-form, accepted-open, accepted-close}
 use Rattle.assembler.proofs.Steps.{step-opened, step-taken}
-use Rattle.assembler_laws.specs.Run.{faultAt, Memory, memory, answer, after, run, Every, WithoutPiece}
+use Rattle.assembler_laws.specs.Run.{faultAt, Memory, memory, answer, after, run, WithoutPiece}
 use Rattle.assembler_laws.proofs.Lists.{over-in, gap-found}
 use Rattle.assembler_laws.proofs.Accept.{LongEnough}
 use Rattle.assembler_laws.proofs.Calls.{called, refused-keeps, no-fault, missing-refused, marks-elsewhere, lengths-kept}
@@ -94,8 +95,8 @@ module _ (k : ℕ) (w : Memory) (g : Lacks k w) (r : List ℕ) (other : kindIn r
   still-lacks : Lacks k (after w r)
   still-lacks = ⊎-elim by-kind (λ h. subst (Lacks k) (sym (refused-keeps w r h .1)) g) (zero-or (faultAt w r))
 
-all-lack : (k : ℕ) (rs : List (List ℕ)) (w : Memory) → Lacks k w → Every (λ r. kindIn r ≡ pieceKind → placeIn r ≡ k → ⊥) rs → Lacks k (run w rs)
-unfolding run Every
+all-lack : (k : ℕ) (rs : List (List ℕ)) (w : Memory) → Lacks k w → All (λ r. kindIn r ≡ pieceKind → placeIn r ≡ k → ⊥) rs → Lacks k (run w rs)
+unfolding run All
 all-lack k [] w g h = g
 all-lack k (r ∷ rs) w g h = all-lack k rs (after w r) (still-lacks k w g r (h .0)) (h .1)
 

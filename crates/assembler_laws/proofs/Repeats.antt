@@ -22,10 +22,9 @@ use Rattle.assembler.proofs.Faults.{accepted-form, accepted-open, accepted-piec
 use Rattle.assembler_laws.specs.Run.{faultAt, Memory, answer, after, run, StaysOpen, Repeated}
 use Rattle.octets.proofs.Same.{equal-same, same-equal}
 use Rattle.assembler_laws.proofs.Lists.{over-other}
-use Rattle.assembler_laws.proofs.Accept.{LongEnough, piece-fine}
+use Rattle.assembler_laws.proofs.Accept.{LongEnough, still-enough, taken-enough, piece-fine}
 use Rattle.assembler_laws.proofs.Calls.{no-fault, refused-keeps, repeat-keeps, put, put-left, put-stands, put-held, close-ends}
 
--- equal by the test is equal
 -- ---- a piece that is held with its bytes
 
 -- while a transfer is open, the piece at a start is held with these bytes
@@ -50,7 +49,7 @@ module _ (w : Memory) (r : List ℕ) (z : faultAt w r ≡ 0) (k : kindIn r ≡ p
         inside = t .inside;
         on-grid = t .on-grid;
         sized = t .sized;
-        enough = record { image-room = t .image-room; mark-room = t .mark-room; image-kept = t .image-kept; marks-kept = t .marks-kept };
+        enough = taken-enough t;
         held-now = eqb-false _ _ (not-true _ h);
         stands = same-equal (standing r (w .image)) (dataIn r) (not-false _ other);
       }
@@ -58,14 +57,12 @@ module _ (w : Memory) (r : List ℕ) (z : faultAt w r ≡ 0) (k : kindIn r ≡ p
   from-free : isHeld r (w .marks) ≡ false → Stands (numberIn r) (dataIn r) (put w r z k)
   from-free h =
       let t = accepted-piece (w .state) r (w .image) (w .marks) z k in
-      let i = length-over (w .image) (numberIn r) (dataIn r) in
-      let j = length-set (w .marks) (placeIn r) 1 in
       record {
         open-now = t .open-now;
         inside = t .inside;
         on-grid = t .on-grid;
         sized = t .sized;
-        enough = record { image-room = rw i (t .image-room); mark-room = rw j (t .mark-room); image-kept = rw i (t .image-kept); marks-kept = rw j (t .marks-kept) };
+        enough = still-enough (length-over (w .image) (numberIn r) (dataIn r)) (length-set (w .marks) (placeIn r) 1) (taken-enough t);
         held-now = eqb-false _ _ (not-true _ (put-held w r z k));
         stands = put-stands w r z k;
       }
@@ -120,15 +117,12 @@ module _ (start : ℕ) (bytes : List ℕ) (w : Memory) (g : Stands start bytes w
 
     piece-stays : Stands start bytes (put w r z k)
     piece-stays =
-        let i = length-over (w .image) (numberIn r) (dataIn r) in
-        let j = length-set (w .marks) (placeIn r) 1 in
-        let e = g .enough in
         record {
           open-now = g .open-now;
           inside = g .inside;
           on-grid = g .on-grid;
           sized = g .sized;
-          enough = record { image-room = rw i (e .image-room); mark-room = rw j (e .mark-room); image-kept = rw i (e .image-kept); marks-kept = rw j (e .marks-kept) };
+          enough = still-enough (length-over (w .image) (numberIn r) (dataIn r)) (length-set (w .marks) (placeIn r) 1) (g .enough);
           held-now = λ q. g .held-now (sym (getD-set-other (w .marks) (placeIn r) (start / pieceSize) 1 0 other-place) ∙ q);
           stands = stands-put;
         }

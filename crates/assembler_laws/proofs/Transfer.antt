@@ -9,6 +9,7 @@ use native.Mathlib.Omega.{arith}
 use native.Mathlib.Nat.{zero-add}
 use lib.ListN.{length, take, drop, getD, set, replicate, length-take, length-drop, length-set, length-replicate, getD-replicate}
 use lib.Seq.{getD-take, getD-drop, getD-set-same, getD-set-other, ext-getD, take-at}
+use Rattle.octets.specs.Lists.{All}
 use Rattle.octets.specs.Over.{over}
 use Rattle.octets.proofs.Over.{length-over, le-or-lt}
 use Rattle.eif.specs.Numbers.{sizeLimit}
@@ -22,7 +23,7 @@ use Rattle.assembler.specs.declared.State.{State}
 use Rattle.assembler.specs.declared.Stepped.{Stepped}
 use Rattle.assembler.proofs.Piece.{place-in, piece-in, held-yes, held-no, not-held, piece-kept, piece-put}
 use Rattle.assembler.proofs.Steps.{step-opened, step-taken, step-closed}
-use Rattle.assembler_laws.specs.Run.{Memory, memory, answer, after, run, AllAccepted, OpenFor, PieceOf, Close, Every, Sent, Pieces, Transfer, Assembled}
+use Rattle.assembler_laws.specs.Run.{Memory, memory, answer, after, run, AllAccepted, OpenFor, PieceOf, Close, Sent, Pieces, Transfer, Assembled}
 use Rattle.octets.proofs.Same.{equal-same}
 use Rattle.assembler_laws.proofs.Lists.{over-other, over-in, starts-with, all-held}
 use Rattle.assembler_laws.proofs.Accept.{LongEnough, open-fine, piece-fine, close-fine}
@@ -246,8 +247,8 @@ module _ (m x y : List ℕ) (image-room : length m ≤ length x) (mark-room : pi
     held-all : (k : ℕ) → Sent k rs → getD (run w rs .marks) k 0 ≡ 1
     still : (k : ℕ) → getD (w .marks) k 0 ≡ 1 → getD (run w rs .marks) k 0 ≡ 1
 
-  through : (rs : List (List ℕ)) (w : Memory) → InProgress m x y w → Every (PieceOf m) rs → Through w rs
-  unfolding AllAccepted run Sent Every
+  through : (rs : List (List ℕ)) (w : Memory) → InProgress m x y w → All (PieceOf m) rs → Through w rs
+  unfolding AllAccepted run Sent All
   through [] w g a = record { accepted = tt; open-still = g; held-all = λ k s. absurd s; still = λ k h. h }
   through (r ∷ rs) w g a =
       let o = one-piece w g r (a .0) in

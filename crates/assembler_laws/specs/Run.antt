@@ -6,6 +6,7 @@ use mathlib.Core.Bool.{true, false}
 use mathlib.Core.List.{List, [], _∷_, _++_}
 use mathlib.Core.Logic.{_⊎_}
 use lib.ListN.{length, take, drop, replicate}
+use Rattle.octets.specs.Lists.{All}
 use Rattle.eif.specs.Numbers.{sizeLimit}
 use Rattle.eif.specs.declared.Verdict.the-variants.{Accepted}
 use Rattle.assembler.specs.Records.{pieceSize, openKind, pieceKind, closeKind, kindIn, numberIn, dataIn, formed, piecesOf, pieceSizeAt, placeIn}
@@ -64,10 +65,6 @@ pub record Close (r : List ℕ) : Type 0 where
   pub form : formed r ≡ true
   pub kind : kindIn r ≡ closeKind
 
-unfoldable pub Every : (List ℕ → Type 0) → List (List ℕ) → Type 0
-Every P [] = Unit
-Every P (r ∷ rs) = P r × Every P rs
-
 -- one of the records carries the piece of a place
 unfoldable pub Sent : ℕ → List (List ℕ) → Type 0
 Sent k [] = ⊥
@@ -75,7 +72,7 @@ Sent k (r ∷ rs) = (placeIn r ≡ k) ⊎ Sent k rs
 
 -- the records are pieces of m, in any order and with any repeats, and together they are complete
 pub record Pieces (m : List ℕ) (rs : List (List ℕ)) : Type 0 where
-  pub agree : Every (PieceOf m) rs
+  pub agree : All (PieceOf m) rs
   pub cover : (k : ℕ) → k < piecesOf (length m) → Sent k rs
 
 -- ---- a transfer of m, from a state that is not open: an open that announces its length, its pieces, and a close
@@ -141,7 +138,7 @@ pub record Repeated (w : Memory) (r : List ℕ) (rs : List (List ℕ)) (s : List
 pub record AnyBetween (m : List ℕ) (w : Memory) (o : List ℕ) (rs : List (List ℕ)) (c : List ℕ) : Type 0 where
   pub opens : OpenFor m o
   pub open-accepted : answer w o .verdict ≡ Accepted
-  pub agree : Every (Agrees m) rs
+  pub agree : All (Agrees m) rs
   pub stays-open : StaysOpen (after w o) rs
   pub closes : Close c
   pub close-accepted : answer (run (after w o) rs) c .verdict ≡ Accepted
@@ -152,5 +149,5 @@ pub record WithoutPiece (k : ℕ) (w : Memory) (o : List ℕ) (rs : List (List �
   pub open-kind : kindIn o ≡ openKind
   pub open-accepted : answer w o .verdict ≡ Accepted
   pub of-image : k < piecesOf (numberIn o)
-  pub not-sent : Every (λ r. kindIn r ≡ pieceKind → placeIn r ≡ k → ⊥) rs
+  pub not-sent : All (λ r. kindIn r ≡ pieceKind → placeIn r ≡ k → ⊥) rs
   pub closes : Close c

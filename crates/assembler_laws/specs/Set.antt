@@ -7,12 +7,13 @@ use mathlib.Core.List.{List, [], _∷_}
 use mathlib.Core.Logic.{_⊎_}
 use lib.Dec.{eqb}
 use lib.ListN.{length}
+use Rattle.octets.specs.Lists.{All}
 use Rattle.eif.specs.Numbers.{sizeLimit}
 use Rattle.octets.specs.Logic.{choose}
 use Rattle.eif.specs.Table.{joinFrom}
 use Rattle.assembler.specs.Records.{pieceSize, openKind, pieceKind, kindIn, numberIn, dataIn, formed, piecesOf, pieceSizeAt, placeIn}
 use Rattle.assembler.specs.Rules.{isOpened}
-use Rattle.assembler_laws.specs.Run.{Memory, Close, Every, Sent}
+use Rattle.assembler_laws.specs.Run.{Memory, Close, Sent}
 
 -- a piece of an image of n bytes
 pub record PieceFor (n : ℕ) (r : List ℕ) : Type 0 where
@@ -44,7 +45,7 @@ joinedPieces n ps = joinFrom (bytesFor ps) (piecesOf n) 0
 
 -- any order and any repeats of the set
 pub record AnyOrder (n : ℕ) (ps rs : List (List ℕ)) : Type 0 where
-  pub from-set : Every (In ps) rs
+  pub from-set : All (In ps) rs
   pub cover : (k : ℕ) → k < piecesOf n → Sent k rs
 
 -- an open that announces n, the set in any order and with any repeats, and a close

@@ -1,9 +1,8 @@
 // Runs cases of what the checksum promises, a line each: damage within four neighbouring bytes that are checked and damage to the checksum
 // alone, each tried at every place of a small image and never accepted; and a stretch that reaches into the checksum, of which nothing is
-// promised: two images that differ in four neighbouring bytes of the file, and both are accepted.
+// promised: two images that differ in four neighbouring bytes of the file, and both are accepted. Section types are FORMAT.md's numbers.
 ghost use Prim.Native.Nat.{_<_, _≤_};
 use eif::Header;
-use eif::SectionType;
 use eif::Verdict;
 
 // ---- lines
@@ -24,10 +23,8 @@ fn byte(b: u8) {
 
 // Kernel, command line and a ramdisk of three bytes, and in the reserved bytes before the checksum a number, which nothing judges.
 fn build(image: &mut [u8], reserved: u32) {
-    case_images::put_header(image, 2, 0, 3);
-    case_images::put_section(image, 0, 548, SectionType::KERNEL, 0, b"K");
-    case_images::put_section(image, 1, 561, SectionType::COMMAND_LINE, 0, b"a");
-    case_images::put_section(image, 2, 574, SectionType::RAMDISK, 0, b"abc");
+    let shape = case_images::without_flags(2, 3, [1, 2, 3, 0, 0, 0], [1, 1, 3, 0, 0, 0]);
+    case_images::put_image(image, shape, b"Kaabc");
     octets::put_be32(image, Header::RESERVED_AFTER_AT, reserved);
     case_images::put_checksum(image);
 }

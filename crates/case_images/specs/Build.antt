@@ -7,6 +7,7 @@ use Rattle.octets.specs.Bytes.{beBytes}
 use Rattle.octets.specs.Over.{over}
 use Rattle.eif.specs.Layout.{magicNumber, sectionHeaderSize, sectionFlagsAt, sectionSizeAt, magicAt, versionAt, headerFlagsAt, countAt, offsetsAt, sizesAt, checksumAt, entrySize, entryAt}
 use Rattle.eif.specs.Reading.{checksumOf}
+use Rattle.eif.specs.declared.Place.{Place}
 
 abbrev pub withHeader : List ℕ → ℕ → ℕ → ℕ → List ℕ
 withHeader s version flags count =
@@ -25,3 +26,7 @@ withSection s i at kind flags bytes =
 -- with the right checksum of the whole buffer
 abbrev pub withOwnChecksum : List ℕ → List ℕ
 withOwnChecksum s = over s checksumAt (beBytes 4 (checksumOf s))
+
+-- a place of a plan
+abbrev pub placeWith : ℕ → ℕ → ℕ → Place
+placeWith kind flags length = record { kind = kind; flags = flags; length = record { 0 = length } }

@@ -15,7 +15,7 @@ use Rattle.cose.specs.declared.Claim.{Claim}
 abbrev pub registerSize : ℕ
 registerSize = 48
 
--- no COSE_Sign1 of this form is longer: a law
+-- no COSE_Sign1 of this form is longer: `no-longer` of cose_laws/proofs/Places.antt
 abbrev pub longest : ℕ
 longest = 281
 

@@ -238,16 +238,13 @@ fn resized(s: &[u8], size: u8, at: usize, cut: usize, with: &[u8]) {
 
 // What is damaged is accepted as it is: register 5, value 0 to 47, a signature of 64 bytes. The payload's head stands at 6, its map at 8,
 // names at 9 and 25, the index at 24, the array at 40, its numbers at 42, the signature's head at 114.
-fn array_heads(s: &[u8]) {
+fn outer_arrays(s: &[u8]) {
     // as it is
     spliced(s, 0, 0, b"");
     // array head of two bytes
     spliced(s, 0, 1, b"\x98\x04");
     // array head of three bytes
     spliced(s, 0, 1, b"\x99\x00\x04");
-}
-
-fn array_lengths(s: &[u8]) {
     // array of indefinite length
     spliced(s, 0, 1, b"\x9f");
     // array of three
@@ -258,7 +255,7 @@ fn array_lengths(s: &[u8]) {
     spliced(s, 0, 0, b"\xd2");
 }
 
-fn protected_heads(s: &[u8]) {
+fn protected_headers(s: &[u8]) {
     // protected header of two-byte head
     spliced(s, 1, 1, b"\x58\x03");
     // protected header empty
@@ -267,9 +264,6 @@ fn protected_heads(s: &[u8]) {
     spliced(s, 1, 4, b"\xa1\x01\x26");
     // protected map of indefinite length
     spliced(s, 1, 4, b"\x45\xbf\x01\x26\xff");
-}
-
-fn protected_pairs(s: &[u8]) {
     // protected parameter 2
     spliced(s, 3, 1, b"\x02");
     // algorithm -8
@@ -278,32 +272,26 @@ fn protected_pairs(s: &[u8]) {
     spliced(s, 1, 4, b"\x44\xa1\x01\x38\x06");
 }
 
-fn algorithms(s: &[u8]) {
+fn algorithms_and_second_map(s: &[u8]) {
     // algorithm -35 with 64 bytes
     spliced(s, 1, 4, b"\x44\xa1\x01\x38\x22");
     // algorithm -36 with 64 bytes
     spliced(s, 1, 4, b"\x44\xa1\x01\x38\x23");
     // algorithm -37
     spliced(s, 1, 4, b"\x44\xa1\x01\x38\x24");
-}
-
-fn unprotected(s: &[u8]) {
     // a pair in the second map
     spliced(s, 5, 1, b"\xa1\x04\x40");
     // second map of two-byte head
     spliced(s, 5, 1, b"\xb8\x00");
 }
 
-fn payload_heads(s: &[u8]) {
+fn payloads(s: &[u8]) {
     // nil payload
     spliced(s, 6, 108, b"\xf6");
     // empty payload
     spliced(s, 6, 108, b"\x40");
     // payload head of three bytes
     spliced(s, 6, 1, b"\x59\x00");
-}
-
-fn payload_lengths(s: &[u8]) {
     // payload longer by one
     resized(s, 0x6b, 0, 0, b"");
     // payload shorter by one
@@ -314,30 +302,24 @@ fn payload_lengths(s: &[u8]) {
     spliced(s, 6, 1, b"\x78");
 }
 
-fn first_names(s: &[u8]) {
+fn first_names_and_indexes(s: &[u8]) {
     // first name changed
     spliced(s, 10, 1, b"R");
     // first name in bytes
     spliced(s, 9, 1, b"\x4e");
-}
-
-fn index_heads(s: &[u8]) {
     // index in two bytes
     resized(s, 0x6b, 24, 1, b"\x18\x05");
     // index in three bytes
     resized(s, 0x6c, 24, 1, b"\x19\x00\x05");
     // index 24 in two bytes
     resized(s, 0x6b, 24, 1, b"\x18\x18");
-}
-
-fn wider_indexes(s: &[u8]) {
     // index 255 in three bytes
     resized(s, 0x6c, 24, 1, b"\x19\x00\xff");
     // index 256 in three bytes
     resized(s, 0x6c, 24, 1, b"\x19\x01\x00");
 }
 
-fn index_types(s: &[u8]) {
+fn index_types_and_value_lengths(s: &[u8]) {
     // index -6
     spliced(s, 24, 1, b"\x25");
     // index as a big number
@@ -346,9 +328,6 @@ fn index_types(s: &[u8]) {
     spliced(s, 24, 1, b"\x1c");
     // index head 31
     spliced(s, 24, 1, b"\x1f");
-}
-
-fn value_lengths(s: &[u8]) {
     // value of 47 numbers
     spliced(s, 41, 1, b"\x2f");
     // value of 49 numbers
@@ -357,23 +336,20 @@ fn value_lengths(s: &[u8]) {
     spliced(s, 40, 1, b"\x58");
 }
 
-fn value_heads(s: &[u8]) {
+fn value_numbers(s: &[u8]) {
     // a number 0 in two bytes
     spliced(s, 42, 1, b"\x18\x00");
     // a number 0 in two bytes and length
     resized(s, 0x6b, 42, 1, b"\x18\x00");
     // a number 256
     resized(s, 0x6c, 42, 1, b"\x19\x01\x00");
-}
-
-fn value_numbers(s: &[u8]) {
     // a number 23 in two bytes
     resized(s, 0x6b, 65, 1, b"\x18\x17");
     // a number -1
     spliced(s, 42, 1, b"\x20");
 }
 
-fn signatures(s: &[u8]) {
+fn signatures_and_ends(s: &[u8]) {
     // signature head of three bytes
     spliced(s, 114, 1, b"\x59\x00");
     // signature of 63 bytes
@@ -382,9 +358,6 @@ fn signatures(s: &[u8]) {
     spliced(s, 115, 1, b"\x41\x00");
     // signature nil
     spliced(s, 114, 66, b"\xf6");
-}
-
-fn cut_or_longer(s: &[u8]) {
     // a byte after
     spliced(s, 180, 0, b"\x00");
     // the last byte cut
@@ -398,23 +371,14 @@ fn cut_or_longer(s: &[u8]) {
 }
 
 fn damaged(s: &[u8]) {
-    array_heads(s);
-    array_lengths(s);
-    protected_heads(s);
-    protected_pairs(s);
-    algorithms(s);
-    unprotected(s);
-    payload_heads(s);
-    payload_lengths(s);
-    first_names(s);
-    index_heads(s);
-    wider_indexes(s);
-    index_types(s);
-    value_lengths(s);
-    value_heads(s);
+    outer_arrays(s);
+    protected_headers(s);
+    algorithms_and_second_map(s);
+    payloads(s);
+    first_names_and_indexes(s);
+    index_types_and_value_lengths(s);
     value_numbers(s);
-    signatures(s);
-    cut_or_longer(s);
+    signatures_and_ends(s);
 }
 
 // The two pairs of the payload in the other order.

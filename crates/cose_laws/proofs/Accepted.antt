@@ -100,7 +100,7 @@ module _ (s : List ℕ) where
 
   refused-verdict : refusedSign1 .verdict ≡ Accepted → ⊥
   unfolding refusedSign1
-  refused-verdict e = let z : _≡_ {A = ℕ} 0 1 = cc in omega arith
+  refused-verdict e = never _ e
 
   verdict-true : readSign1 s .verdict ≡ Accepted → accepted s ≡ true
   verdict-true e = by (accepted s) refl

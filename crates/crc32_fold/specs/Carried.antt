@@ -13,5 +13,5 @@ unfoldable pub carried : Carry → ℕ
 carried n = num 64 5 (λ (k : ℕ). getD (n .a ∷ n .b ∷ n .c ∷ n .d ∷ n .e ∷ []) k 0)
 
 -- from the state and what was added to the word at i, the state r after the word, whatever y is added to what comes after it
-abbrev pub TakenIn : List ℕ → ℕ → ℕ → ℕ → ℕ → Type 0
-TakenIn s i state more r = (y : ℕ) → left s (i + 8) (bitXor r y) ≡ left s i (bitXor state (bitXor more (up 64 y)))
+abbrev pub WordTaken : List ℕ → ℕ → ℕ → ℕ → ℕ → Type 0
+WordTaken s i state more r = (y : ℕ) → left s (i + 8) (bitXor r y) ≡ left s i (bitXor state (bitXor more (up 64 y)))

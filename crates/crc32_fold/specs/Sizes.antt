@@ -1,11 +1,11 @@
 -- Sizes of the buffers that the functions of this crate share; src/lib.rt says what each is for.
 -- Assumes nothing.
-use Prim.Native.Nat.{ℕ, _+_, _*_}
-use Rattle.crc32_lemmas.specs.Fold.{windowSize, ringSize}
+use Prim.Native.Nat.{ℕ, _+_, _-_, _*_}
+use Rattle.crc32_lemmas.specs.Fold.{windowSize, ringSize, lowRingPower, highRingPower}
 
 -- five words of 64 bits, in bytes
 abbrev pub carrySize : ℕ
-carrySize = 40
+carrySize = 5 * 8
 
 -- how many bytes are folded before the window is moved back, and a buffer for both
 abbrev pub roundSize : ℕ
@@ -27,3 +27,10 @@ ringBuffer = ringSize + 1
 
 abbrev pub ringBytes : ℕ
 ringBytes = 4 * ringSize
+
+-- how far before a word the two others stand that are added to it, where they are a round behind
+abbrev pub lowBack : ℕ
+lowBack = ringSize - lowRingPower
+
+abbrev pub highBack : ℕ
+highBack = ringSize - highRingPower

@@ -31,9 +31,9 @@ ghost use lib.ListN.{length, take, drop};
 ghost use lib.Bits.{bitXor};
 ghost use Rattle.octets.specs.Bytes.{leValue};
 ghost use Rattle.crc32.specs.Crc.{crcFrom, crc32, ones32, shiftBits};
-ghost use Rattle.crc32_lemmas.specs.Fold.{taps, up64, inverse, left, down, sparse, sparser, spread, mix, windowSize, window, ringSize, ring, added, Words};
-ghost use Rattle.crc32_fold.specs.Sizes.{carrySize, roundSize, bufferSize, emptiedSize, clearedSize, ringBuffer, ringBytes};
-ghost use Rattle.crc32_fold.specs.Carried.{carried, TakenIn};
+ghost use Rattle.crc32_lemmas.specs.Fold.{taps, up64, inverse, left, down, sparse, sparser, spread, mix, windowSize, window, ringSize, pastWord, lowRingPower, highRingPower, ring, added, Words};
+ghost use Rattle.crc32_fold.specs.Sizes.{carrySize, roundSize, bufferSize, emptiedSize, clearedSize, ringBuffer, ringBytes, lowBack, highBack};
+ghost use Rattle.crc32_fold.specs.Carried.{carried, WordTaken};
 
 const ONES: u32 = 0xFFFFFFFF;
 
@@ -50,12 +50,19 @@ const LONGER: usize = 262144;
 const PARTED: usize = 16777216;
 
 // The five words of a carry, in bytes; and with a word before them, which can then be folded.
-const CARRY: usize = 40;
+const CARRY: usize = 5 * 8;
 
 const WORD_AND_CARRY: usize = 8 + CARRY;
 
-// The bytes of the window of `long`, those that it folds before it moves the window back to the front, and a buffer for both.
+// The bytes of the window of `long` and f's powers between, the bytes that it folds before it moves the window back to the front, and a
+// buffer for both.
 const WINDOW: usize = 300;
+
+const LOW_POWER: usize = 89;
+
+const MID_POWER: usize = 117;
+
+const HIGH_POWER: usize = 155;
 
 const ROUND: usize = 1024;
 
@@ -68,8 +75,17 @@ const CLEARED: usize = 468;
 
 const LONG_REST: usize = EMPTIED + CARRY;
 
-// The words of the ring of `longer`, the last of them, and its size in bytes; how many bytes must be left for another round.
+// The words of the ring of `longer`, g's powers between and how far that is back in the ring, the ring's last word and its size in bytes; how
+// many bytes must be left for another round.
 const RING: usize = 3006;
+
+const LOW_RING_POWER: usize = 2215;
+
+const HIGH_RING_POWER: usize = 2866;
+
+const LOW_BACK: usize = RING - LOW_RING_POWER;
+
+const HIGH_BACK: usize = RING - HIGH_RING_POWER;
 
 const RING_LAST: usize = RING - 1;
 
@@ -245,7 +261,7 @@ impl Carry {
 
 // One word further: the word, with what was added to it, is taken away.
 fn fold_bits(n: Carry, word: u64) -> Carry
-    ensures { λ r. ⌜ carried r ≡ bitXor (down 64 (carried n)) (spread sparse 1 236 (bitXor (n .a) word)) ⌝ }
+    ensures { λ r. ⌜ carried r ≡ bitXor (down 64 (carried n)) (spread sparse 1 pastWord (bitXor (n .a) word)) ⌝ }
 {
     let w = n.a ^ word;
     Carry {
@@ -260,7 +276,7 @@ fn fold_bits(n: Carry, word: u64) -> Carry
 // One word taken in, with what was added to it.
 fn take_in(state: u32, more: u64, s: &[u8], i: usize) -> u32
     requires { ⌜ i + 8 ≤ length (now s) ⌝ }
-    ensures { λ r. ⌜ TakenIn (now (s .entry)) i state more r ⌝ }
+    ensures { λ r. ⌜ WordTaken (now (s .entry)) i state more r ⌝ }
 {
     steps64(wide32(state) ^ (more ^ le64(s, i)))
 }
@@ -316,7 +332,7 @@ fn added_to(v: &[u8; BUFFER], j: usize) -> u8
     requires { ⌜ j < roundSize ⌝ }
     ensures { λ r. ⌜ r ≡ added (now (v .entry)) j ⌝ }
 {
-    v[j] ^ v[j + 89] ^ v[j + 117] ^ v[j + 155]
+    v[j] ^ v[j + LOW_POWER] ^ v[j + MID_POWER] ^ v[j + HIGH_POWER]
 }
 
 // n bytes from a position on are taken away.
@@ -361,7 +377,7 @@ fn added_at(v: &[u8], j: usize) -> u64
     requires { ⌜ (length (now v) ≡ clearedSize) × (j + 8 ≤ emptiedSize) ⌝ }
     ensures { λ r. ⌜ r ≡ down (8 * j) (mix sparse 8 (leValue (now (v .entry)))) % 2 ^ 64 ⌝ }
 {
-    le64(v, j) ^ le64(v, j + 89) ^ le64(v, j + 117) ^ le64(v, j + 155)
+    le64(v, j) ^ le64(v, j + LOW_POWER) ^ le64(v, j + MID_POWER) ^ le64(v, j + HIGH_POWER)
 }
 
 // The bytes under the window, folded as bits, eight at a time, until nothing of the window is left.
@@ -380,14 +396,6 @@ fn empty(s: &[u8], at: usize, v: &[u8]) -> Carry
     n
 }
 
-// As many bytes as a round has, or fewer.
-fn in_round(n: usize) -> usize
-    requires { ⌜ 1 ≤ n ⌝ }
-    ensures { λ r. ⌜ (1 ≤ r) × (r ≤ n) × (r ≤ roundSize) ⌝ }
-{
-    if n < ROUND { n } else { ROUND }
-}
-
 fn long(state: u32, s: &[u8]) -> u32
     requires { ⌜ emptiedSize + carrySize ≤ length (now s) ⌝ }
     ensures { λ r. ⌜ r ≡ crcFrom state (now (s .entry)) ⌝ }
@@ -399,7 +407,7 @@ fn long(state: u32, s: &[u8]) -> u32
     v[3] = low8(state >> 24);
     let mut i = 0;
     while LONG_REST < s.len() - i {
-        let n = in_round(s.len() - i - LONG_REST);
+        let n = octets::lesser(s.len() - i - LONG_REST, ROUND);
         fold_bytes(s, i, n, &mut v);
         move_back(n, &mut v);
         i += n;
@@ -413,7 +421,7 @@ fn long(state: u32, s: &[u8]) -> u32
 
 // One word taken away. It takes the place of the oldest, at j; the other two that are added to it stand at p and q.
 fn turn(s: &[u8], at: usize, j: usize, p: usize, q: usize, v: &mut [u32; RING_BUFFER])
-    requires { ⌜ (at + (4 + ringBytes) ≤ length (now s)) × (j < ringSize) × (p ≡ (j + 2215) % ringSize) × (q ≡ (j + 2866) % ringSize) × Words 32 ringBuffer (now v) ⌝ }
+    requires { ⌜ (at + (4 + ringBytes) ≤ length (now s)) × (j < ringSize) × (p ≡ (j + lowRingPower) % ringSize) × (q ≡ (j + highRingPower) % ringSize) × Words 32 ringBuffer (now v) ⌝ }
     ensures { λ r. ⌜ (left (now (s .entry)) (at + 4) (mix sparser 32 (ring (now (v .exit)) (j + 1))) ≡ left (now (s .entry)) at (mix sparser 32 (ring (now (v .entry)) j))) × Words 32 ringBuffer (now (v .exit)) ⌝ }
 {
     let w = v[j] ^ v[p] ^ v[q] ^ le32(s, at);
@@ -424,33 +432,33 @@ fn turn(s: &[u8], at: usize, j: usize, p: usize, q: usize, v: &mut [u32; RING_BU
 // knows the distances from j.
 fn turn_first(s: &[u8], at: usize, v: &mut [u32; RING_BUFFER])
     requires { ⌜ (at + 2 * ringBytes ≤ length (now s)) × Words 32 ringBuffer (now v) ⌝ }
-    ensures { λ r. ⌜ (left (now (s .entry)) (at + 4 * 140) (mix sparser 32 (ring (now (v .exit)) 140)) ≡ left (now (s .entry)) at (mix sparser 32 (ring (now (v .entry)) 0))) × Words 32 ringBuffer (now (v .exit)) ⌝ }
+    ensures { λ r. ⌜ (left (now (s .entry)) (at + 4 * highBack) (mix sparser 32 (ring (now (v .exit)) highBack)) ≡ left (now (s .entry)) at (mix sparser 32 (ring (now (v .entry)) 0))) × Words 32 ringBuffer (now (v .exit)) ⌝ }
 {
     let mut j = 0;
-    while j < 140 {
-        turn(s, at + j * 4, j, j + 2215, j + 2866, v);
+    while j < HIGH_BACK {
+        turn(s, at + j * 4, j, j + LOW_RING_POWER, j + HIGH_RING_POWER, v);
         j += 1;
     }
 }
 
 fn turn_second(s: &[u8], at: usize, v: &mut [u32; RING_BUFFER])
     requires { ⌜ (at + 2 * ringBytes ≤ length (now s)) × Words 32 ringBuffer (now v) ⌝ }
-    ensures { λ r. ⌜ (left (now (s .entry)) (at + 4 * 791) (mix sparser 32 (ring (now (v .exit)) 791)) ≡ left (now (s .entry)) (at + 4 * 140) (mix sparser 32 (ring (now (v .entry)) 140))) × Words 32 ringBuffer (now (v .exit)) ⌝ }
+    ensures { λ r. ⌜ (left (now (s .entry)) (at + 4 * lowBack) (mix sparser 32 (ring (now (v .exit)) lowBack)) ≡ left (now (s .entry)) (at + 4 * highBack) (mix sparser 32 (ring (now (v .entry)) highBack))) × Words 32 ringBuffer (now (v .exit)) ⌝ }
 {
-    let mut j = 140;
-    while j < 791 {
-        turn(s, at + j * 4, j, j + 2215, j - 140, v);
+    let mut j = HIGH_BACK;
+    while j < LOW_BACK {
+        turn(s, at + j * 4, j, j + LOW_RING_POWER, j - HIGH_BACK, v);
         j += 1;
     }
 }
 
 fn turn_third(s: &[u8], at: usize, v: &mut [u32; RING_BUFFER])
     requires { ⌜ (at + 2 * ringBytes ≤ length (now s)) × Words 32 ringBuffer (now v) ⌝ }
-    ensures { λ r. ⌜ (left (now (s .entry)) (at + ringBytes) (mix sparser 32 (ring (now (v .exit)) 0)) ≡ left (now (s .entry)) (at + 4 * 791) (mix sparser 32 (ring (now (v .entry)) 791))) × Words 32 ringBuffer (now (v .exit)) ⌝ }
+    ensures { λ r. ⌜ (left (now (s .entry)) (at + ringBytes) (mix sparser 32 (ring (now (v .exit)) 0)) ≡ left (now (s .entry)) (at + 4 * lowBack) (mix sparser 32 (ring (now (v .entry)) lowBack))) × Words 32 ringBuffer (now (v .exit)) ⌝ }
 {
-    let mut j = 791;
+    let mut j = LOW_BACK;
     while j < RING {
-        turn(s, at + j * 4, j, j - 791, j - 140, v);
+        turn(s, at + j * 4, j, j - LOW_BACK, j - HIGH_BACK, v);
         j += 1;
     }
 }
@@ -477,7 +485,10 @@ fn empty_ring(s: &[u8], at: usize, v: &[u32; RING_BUFFER]) -> Carry
     let mut n = Carry::NONE;
     let mut j = 0;
     while j < RING {
-        let w = pair_at(v, j) ^ pair_at(v, j + 2215) ^ pair_at(v, j + 2866) ^ le64(s, at + j * 4);
+        let w = pair_at(v, j)
+            ^ pair_at(v, j + LOW_RING_POWER)
+            ^ pair_at(v, j + HIGH_RING_POWER)
+            ^ le64(s, at + j * 4);
         let next = fold_bits(n, w);
         n = next;
         j += 2;

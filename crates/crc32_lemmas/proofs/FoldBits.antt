@@ -5,7 +5,7 @@ use mathlib.Core.Path.{_≡_, refl, sym, ap, ap₂, _∙_}
 use mathlib.Core.List.{[], _∷_}
 use lib.ListN.{getD}
 use lib.Bits.{bitXor, xor-zero-l, xor-zero-r}
-use Rattle.crc32_lemmas.specs.Fold.{down, up, taps, mix, sparse, spread, num}
+use Rattle.crc32_lemmas.specs.Fold.{down, up, taps, mix, sparse, spread, num, pastWord, lowPower, midPower, highPower}
 use Rattle.crc32_lemmas.proofs.Sparse.{down-up}
 use Rattle.crc32_lemmas.proofs.Joined.{up-up, up-zero, two-words, num-xor, num-down}
 
@@ -44,10 +44,10 @@ up-3 k t u e =
 
 -- what a word adds, by shifts
 pub spread-bits : (u : ℕ)
-    → spread sparse 1 236 u ≡ five 0 (bitXor (u * 2 ^ 55 % 2 ^ 64) (u * 2 ^ 17 % 2 ^ 64)) (bitXor (bitXor (u * 2 ^ 19 % 2 ^ 64) (u / 2 ^ 9)) (u / 2 ^ 47)) (bitXor (u * 2 ^ 44 % 2 ^ 64) (u / 2 ^ 45)) (u / 2 ^ 20)
+    → spread sparse 1 pastWord u ≡ five 0 (bitXor (u * 2 ^ 55 % 2 ^ 64) (u * 2 ^ 17 % 2 ^ 64)) (bitXor (bitXor (u * 2 ^ 19 % 2 ^ 64) (u / 2 ^ 9)) (u / 2 ^ 47)) (bitXor (u * 2 ^ 44 % 2 ^ 64) (u / 2 ^ 45)) (u / 2 ^ 20)
 unfolding spread mix taps
 spread-bits u =
-    ap₂ bitXor (ap₂ bitXor (ap (bitXor (up 236 u)) (down-up 89 147 u)) (down-up 117 119 u)) (down-up 155 81 u)
+    ap₂ bitXor (ap₂ bitXor (ap (bitXor (up pastWord u)) (down-up lowPower 147 u)) (down-up midPower 119 u)) (down-up highPower 81 u)
     ∙ sym (ap₂ bitXor (ap₂ bitXor (ap₂ bitXor (up-3 44 20 u refl) (up-2 19 45 u refl)) (up-1 55 9 u refl)) (up-1 17 47 u refl))
     ∙ ap (λ (x : ℕ). bitXor (bitXor x (five 0 (u * 2 ^ 55 % 2 ^ 64) (u / 2 ^ 9) 0 0)) (five 0 (u * 2 ^ 17 % 2 ^ 64) (u / 2 ^ 47) 0 0))
     (five-xor 0 0 0 (u * 2 ^ 44 % 2 ^ 64) (u / 2 ^ 20) 0 0 (u * 2 ^ 19 % 2 ^ 64) (u / 2 ^ 45) 0)

@@ -9,6 +9,7 @@ use lib.Dec.{lit≤}
 use lib.Pow.{shr-shr}
 use lib.ListN.{getD, take, drop, replicate}
 use lib.Bits.{bitXor, xor-comm, xor-shifted}
+use Rattle.octets.specs.Lists.{All}
 use Rattle.octets.specs.Bytes.{leValue}
 use Rattle.crc32_lemmas.specs.Fold.{down, up, mix, num, numFrom, window, sparse, windowSize}
 use Rattle.crc32_lemmas.proofs.Sparse.{mix-down, mix-zero}
@@ -93,6 +94,7 @@ bytes-back x a b c d l p q r t =
 
 pub start-window : (x a b c d : ℕ) → ((k : ℕ) → getD (a ∷ b ∷ c ∷ d ∷ replicate 1320 0) k 0 < 2 ^ 8) → x < 2 ^ 32
     → a + 256 * (b + 256 * (c + 256 * (d + 0))) ≡ x → mix sparse 8 (window (a ∷ b ∷ c ∷ d ∷ replicate 1320 0) 0) ≡ x
+unfolding All
 start-window x a b c d h l e =
     ap (mix sparse 8)
     (window-value (a ∷ b ∷ c ∷ d ∷ noughts 1320) h

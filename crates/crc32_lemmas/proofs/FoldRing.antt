@@ -10,7 +10,8 @@ use lib.Pow.{mod-pow-add}
 use lib.ListN.{length, getD, set, replicate}
 use lib.Seq.{getD-set-same, getD-set-other}
 use lib.Bits.{bitXor, xor-zero-r}
-use Rattle.crc32_lemmas.specs.Fold.{down, mix, num, numFrom, ring, left, lowest, sparser, Words, ringSize}
+use Rattle.octets.specs.Lists.{All}
+use Rattle.crc32_lemmas.specs.Fold.{down, mix, num, numFrom, ring, left, lowest, sparser, Words, ringSize, lowRingPower, highRingPower}
 use Rattle.crc32_lemmas.proofs.Sparse.{mix-down, mix-zero, ring-spread}
 use Rattle.crc32_lemmas.proofs.Left.{At}
 use Rattle.crc32_lemmas.proofs.Joined.{up-zero, num-ext, num-down, num-low, num-drop, num-past}
@@ -31,8 +32,9 @@ module _ (v : List ℕ) (h : Words 32 3007 v) where
         ap (λ (i : ℕ). getD (set v j u) i 0) e ∙ getD-set-same v j u 0 (omega arith),
       )
 
-  pub ring-turn : (j p q : ℕ) → j < ringSize → p ≡ (j + 2215) % ringSize → q ≡ (j + 2866) % ringSize → (s : List ℕ) (i w : ℕ) → At s i 4 w → i + 12028 ≤ length s
+  pub ring-turn : (j p q : ℕ) → j < ringSize → p ≡ (j + lowRingPower) % ringSize → q ≡ (j + highRingPower) % ringSize → (s : List ℕ) (i w : ℕ) → At s i 4 w → i + 12028 ≤ length s
       → left s i (mix sparser 32 (ring v j)) ≡ left s (i + 4) (mix sparser 32 (ring (set v j (bitXor (bitXor (bitXor (getD v j 0) (getD v p 0)) (getD v q 0)) w)) (j + 1)))
+  unfolding All
   ring-turn j p q l ep eq s i w a b =
       let o : j ≡ j % ringSize = omega arith in
       let at : ℕ → ℕ = λ (k : ℕ). getD v k 0 in
@@ -49,6 +51,7 @@ ring-round v =
     (λ k m. let e : (ringSize + k) % ringSize ≡ (0 + k) % ringSize = omega arith in ap (λ (i : ℕ). getD v i 0) e)
 
 pub start-ring : (x : ℕ) → x < 2 ^ 32 → mix sparser 32 (ring (x ∷ replicate ringSize 0) 0) ≡ x
+unfolding All
 start-ring x l =
     start-mix sparser 32 3005 (around (x ∷ noughts ringSize)) (lit≤ tt, (lit≤ tt, tt)) l
     (λ k m. let e : suc k % ringSize ≡ suc k = omega arith in ap (λ (i : ℕ). getD (x ∷ noughts ringSize) i 0) e ∙ zeros ringSize k)

@@ -11,14 +11,14 @@ use lib.Pow.{pow-mono, pow-pos}
 use lib.ListN.{length, getD, set, length-set, replicate, length-replicate}
 use lib.Seq.{getD-set-same, getD-set-other}
 use lib.Bits.{bitXor, xor-mod, xor-zero-r}
+use Rattle.octets.specs.Lists.{All}
 use Rattle.crc32_lemmas.specs.Fold.{down, up, mix, spread, taps, num, numFrom, window, left, lowest, added, sparse, Words, windowSize}
 use Rattle.crc32_lemmas.proofs.Sparse.{Spreads, down-add, mix-down, mix-xor, bytes-spread}
 use Rattle.crc32_lemmas.proofs.Left.{At, left-fold}
 use Rattle.crc32_lemmas.proofs.Joined.{up-zero, down-places, num-ext, num-zero, num-down, num-low, num-top, num-drop}
 
 abbrev Within : ℕ → List ℕ → Type 0
-Within n [] = Unit
-Within n (k ∷ ks) = (k ≤ n) × Within n ks
+Within n ks = All (λ (k : ℕ). k ≤ n) ks
 
 -- g is f a word further, with u after it
 abbrev pub Pushed : ℕ → (ℕ → ℕ) → (ℕ → ℕ) → ℕ → ℕ → Type 0
@@ -27,7 +27,7 @@ Pushed n f g j u = ((k : ℕ) → k < n → g (j + 1 + k) ≡ f (j + suc k)) × 
 -- ---- a window of n words of b bits and one more, from j on
 module _ (b n : ℕ) (f : ℕ → ℕ) (j : ℕ) (h : (k : ℕ) → f k < 2 ^ b) where
   lowest-of : (ks : List ℕ) → Within n ks → taps (λ (k : ℕ). down (b * k)) ks (numFrom b (suc n) f j) % 2 ^ b ≡ lowest ks f j
-  unfolding taps numFrom
+  unfolding All taps numFrom
   lowest-of [] w = num-low b n (λ (k : ℕ). f (j + k)) (h (j + 0)) ∙ ap f (add-zero j)
   lowest-of (k ∷ ks) w =
       let g : ℕ → ℕ = λ (i : ℕ). f (j + i) in
@@ -81,6 +81,7 @@ module _ (v : List ℕ) (j : ℕ) (h : (k : ℕ) → getD v k 0 < 2 ^ 8) (l : j 
 
   pub bytes-turn : (s : List ℕ) (i w : ℕ) → At s i 1 w → i + 301 ≤ length s
       → left s i (mix sparse 8 (window v j)) ≡ left s (i + 1) (mix sparse 8 (window (set v (j + windowSize) (bitXor (added v j) w)) (j + 1)))
+  unfolding All
   bytes-turn s i w a b =
       let u : ℕ = bitXor (added v j) w in
       mix-turn sparse 1 299 (lit≤ tt, (lit≤ tt, (lit≤ tt, tt))) bytes-spread (bytes v) j h s i w a (omega arith) (bytes (set v (j + windowSize) u)) (window-push u)
@@ -133,8 +134,7 @@ words-none b n = (length-replicate {A = ℕ} n 0, λ k. rw (zeros n k) (pow-pos 
 
 -- what c bits add, where no place is within them, is themselves
 abbrev Past : ℕ → ℕ → List ℕ → Type 0
-Past c m [] = Unit
-Past c m (k ∷ ks) = (c ≤ m * k) × Past c m ks
+Past c m ks = All (λ (k : ℕ). c ≤ m * k) ks
 
 module _ (c m x : ℕ) (l : x < 2 ^ c) where
   down-small : (k : ℕ) → c ≤ k → down k x ≡ 0
@@ -142,7 +142,7 @@ module _ (c m x : ℕ) (l : x < 2 ^ c) where
   down-small k h = div-eq-of-lt (lt-of-lt-of-le l (pow-mono {i = c} {j = k} h))
 
   pub mix-small : (ks : List ℕ) → Past c m ks → mix ks m x ≡ x
-  unfolding mix taps
+  unfolding All mix taps
   mix-small [] p = refl
   mix-small (k ∷ ks) p = ap₂ bitXor (mix-small ks (p .1)) (down-small (m * k) (p .0)) ∙ xor-zero-r x
 

@@ -10,8 +10,9 @@ use lib.Arith.{lt-one}
 use lib.Dec.{lit≤}
 use lib.Pow.{shl-shr, shr-shr, pow-add}
 use lib.Bits.{bitXor, xor-shr, xor-self, xor-zero-l}
+use Rattle.octets.specs.Lists.{All}
 use Rattle.crc32.specs.Crc.{poly, shiftBit, shiftBits}
-use Rattle.crc32_lemmas.specs.Fold.{down, up, taps, mix, spread, sparse, sparser}
+use Rattle.crc32_lemmas.specs.Fold.{down, up, taps, mix, spread, sparse, sparser, pastWord}
 use Rattle.crc32.proofs.Xor.{xor-assoc, xor-swap, bit-lt, too-big}
 use Rattle.crc32.proofs.Linear.{shiftBits-linear, shiftBits-high, shiftBits-add}
 
@@ -139,12 +140,11 @@ come-down j k u = sym (shiftBits-add j k (u * 2 ^ j)) ∙ ap (shiftBits k) (shif
 
 -- ---- a word of b bits with e bits after it, and places of m bits
 abbrev Below : ℕ → ℕ → List ℕ → Type 0
-Below m e [] = Unit
-Below m e (k ∷ ks) = (m * k ≤ e) × Below m e ks
+Below m e ks = All (λ (k : ℕ). m * k ≤ e) ks
 
 module _ (m b e u : ℕ) where
   top : (ks : List ℕ) → Below m e ks → shiftBits (e + b) (taps (λ (k : ℕ). down (m * k)) ks (up e u)) ≡ taps (places m) ks (shiftBits b u)
-  unfolding taps
+  unfolding All taps
   top [] w = come-down e b u
   top (k ∷ ks) w =
       let l = w .0 in
@@ -162,13 +162,16 @@ module _ (m b e u : ℕ) where
 abbrev pub Spreads : List ℕ → ℕ → ℕ → ℕ → Type 0
 Spreads ks m b e = Below m e ks × (shiftBits (e + b) poly ≡ taps (places m) ks poly)
 
-pub bits-spread : Spreads sparse 1 64 236
+pub bits-spread : Spreads sparse 1 64 pastWord
+unfolding All
 bits-spread = ((lit≤ tt, (lit≤ tt, (lit≤ tt, tt))), sparse-multiple)
 
 pub bytes-spread : Spreads sparse 8 8 2392
+unfolding All
 bytes-spread = ((lit≤ tt, (lit≤ tt, (lit≤ tt, tt))), to-8 sparse 300 sparse-multiple)
 
 pub ring-spread : Spreads sparser 32 32 96160
+unfolding All
 ring-spread = ((lit≤ tt, (lit≤ tt, tt)), double sparser 3006 16 (double sparser 3006 8 (to-8 sparser 3006 sparser-multiple)))
 
 pub spread-steps : (ks : List ℕ) (m b e : ℕ) → Spreads ks m b e → (u : ℕ) → u < 2 ^ b → shiftBits (e + b) (shiftBits b u) ≡ shiftBits (e + b) (spread ks m e u)

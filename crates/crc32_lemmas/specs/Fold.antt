@@ -14,7 +14,8 @@ unfoldable pub taps : (ℕ → ℕ → ℕ) → List ℕ → ℕ → ℕ
 taps f [] x = x
 taps f (k ∷ ks) x = bitXor (taps f ks x) (f k x)
 
--- k places down and up; and up within 64 bits
+-- k places down and up; and up within 64 bits. FIPS 180-4 has the first and the last under names of its own, and sha384_block/specs/Fips
+-- keeps these: both are the same by definition, and no law speaks of both.
 unfoldable pub down : ℕ → ℕ → ℕ
 down k x = x / 2 ^ k
 
@@ -33,11 +34,26 @@ abbrev pub powers : List ℕ
 powers = 26 ∷ 23 ∷ 22 ∷ 16 ∷ 12 ∷ 11 ∷ 10 ∷ 8 ∷ 7 ∷ 5 ∷ 4 ∷ 2 ∷ 1 ∷ []
 
 -- the sparse multiples of the polynomial, x^300 + x^155 + x^117 + x^89 + 1 and x^3006 + x^2866 + x^2215 + 1: their powers but the first and 0
+abbrev pub lowPower : ℕ
+lowPower = 89
+
+abbrev pub midPower : ℕ
+midPower = 117
+
+abbrev pub highPower : ℕ
+highPower = 155
+
 abbrev pub sparse : List ℕ
-sparse = 155 ∷ 117 ∷ 89 ∷ []
+sparse = highPower ∷ midPower ∷ lowPower ∷ []
+
+abbrev pub lowRingPower : ℕ
+lowRingPower = 2215
+
+abbrev pub highRingPower : ℕ
+highRingPower = 2866
 
 abbrev pub sparser : List ℕ
-sparser = 2866 ∷ 2215 ∷ []
+sparser = highRingPower ∷ lowRingPower ∷ []
 
 -- what a number whose places, of m bits each, were taken away adds to what comes after it, by the powers ks of a multiple
 unfoldable pub mix : List ℕ → ℕ → ℕ → ℕ
@@ -61,6 +77,10 @@ windowSize = 300
 
 abbrev pub ringSize : ℕ
 ringSize = 3006
+
+-- how many of the 300 bits are past a word
+abbrev pub pastWord : ℕ
+pastWord = windowSize - 64
 
 abbrev pub window : List ℕ → ℕ → ℕ
 window v j = numFrom 8 windowSize (λ (k : ℕ). getD v k 0) j

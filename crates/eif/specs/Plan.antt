@@ -3,11 +3,11 @@
 -- Assumes nothing.
 use Prim.Native.Nat.{ℕ, zero, suc, _+_, _<_, _≤_}
 use mathlib.Core.Bool.{not}
-use mathlib.Core.List.{List, [], _∷_, _++_, map}
+use mathlib.Core.List.{List, [], _++_, map}
 use mathlib.Core.Path.{_≡_}
 use lib.Dec.{ltb, eqb}
 use lib.ListN.{length, take, drop, getD}
-use Rattle.octets.specs.Bytes.{beBytes}
+use Rattle.octets.specs.Bytes.{beBytes, beBytesEach}
 use Rattle.crc32.specs.Crc.{crc32}
 use Rattle.eif.specs.Numbers.{sizeLimit, placeCount, imageTooLong, sectionMissing, outputTooShort, dataLengthDiffers}
 use Rattle.octets.specs.Logic.{choose}
@@ -82,11 +82,6 @@ writeVerdict p given room =
 
 -- ---- the plain image
 
--- 8 bytes for each number
-abbrev pub entries : List ℕ → List ℕ
-entries [] = []
-entries (x ∷ xs) = beBytes entrySize x ++ entries xs
-
 -- the header up to the table, 28 bytes: magic, version, flags, default_mem, default_cpus, reserved, num_sections
 unfoldable pub fixedFields : Plan → List ℕ
 fixedFields p =
@@ -101,10 +96,10 @@ abbrev pub sizesOf : List Place → ℕ → List ℕ
 sizesOf l count = filled (plannedSize l) 0 placeCount count
 
 unfoldable pub offsetTable : List Place → ℕ → List ℕ
-offsetTable l count = entries (offsetsOf l count)
+offsetTable l count = beBytesEach entrySize (offsetsOf l count)
 
 unfoldable pub sizeTable : List Place → ℕ → List ℕ
-sizeTable l count = entries (sizesOf l count)
+sizeTable l count = beBytesEach entrySize (sizesOf l count)
 
 -- the header up to the checksum, 544 bytes: its last field is reserved
 unfoldable pub headerBytes : Plan → List ℕ

@@ -1,5 +1,5 @@
 -- The worked roll and its neighbours, R1 to R11 of FORMAT.md, The boot roll, each behind a flags record, and neighbours of the flags
--- record: one table, one claim for all rows.
+-- record: one table, one claim for all rows. Numbers are written out, as FORMAT.md prints them.
 -- Assumes nothing.
 use Prim.Native.Nat.{ℕ, zero, suc, _+_, _-_}
 use mathlib.Core.Path.{_≡_, refl}

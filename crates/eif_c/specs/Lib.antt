@@ -1,4 +1,3 @@
-pub mod Flat
 pub mod Measure
 pub mod Listed
 pub mod Arrival

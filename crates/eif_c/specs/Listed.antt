@@ -2,15 +2,11 @@
 -- Assumes nothing.
 use mathlib.Core.List.{List, map}
 use Rattle.eif.specs.Stream.{sectionsAnswer}
-use Rattle.eif.specs.declared.Section.{Section}
 use Rattle.eif.specs.declared.Stream.{Stream}
 use Rattle.eif.specs.declared.StreamSections.{StreamSections}
-use Rattle.eif_c.specs.Flat.{flatSection}
-use Rattle.eif_c.specs.declared.EifSection.{EifSection}
+use Rattle.eif_flat.specs.Flat.{flatSection, readSection}
+use Rattle.eif_flat.specs.declared.EifSection.{EifSection}
 use Rattle.eif_c.specs.declared.sections.EifStreamSections.{EifStreamSections}
-
-abbrev pub readSection : EifSection → Section
-readSection x = record { kind = x .kind; flags = x .flags; position = x .position; length = x .length }
 
 abbrev pub flatListed : StreamSections → EifStreamSections
 flatListed l = record { count = l .count; sections = map flatSection (l .sections) }

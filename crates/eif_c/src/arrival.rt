@@ -12,7 +12,7 @@ use arriving::Fed;
 #[repr(C)]
 pub struct EifArrivingFinished {
     pub state: Arriving,
-    pub reading: crate::EifReading,
+    pub reading: eif_flat::EifReading,
 }
 
 // The state before the first byte.
@@ -39,6 +39,6 @@ pub extern "C" fn eif_arriving_finish(state: Arriving) -> EifArrivingFinished
     let reading = done.reading;
     EifArrivingFinished {
         state: told,
-        reading: crate::flat_reading(reading),
+        reading: eif_flat::flat_reading(reading),
     }
 }

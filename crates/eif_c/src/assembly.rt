@@ -39,10 +39,10 @@ pub extern "C" fn eif_assembler_step(
     let verdict = done.verdict;
     let next = done.state;
     EifStepped {
-        number: crate::number_of(verdict),
+        number: eif_flat::number_of(verdict),
         reserved: [0u8; 7],
-        index: crate::index_of(verdict),
-        position: crate::position_of(verdict),
+        index: eif_flat::index_of(verdict),
+        position: eif_flat::position_of(verdict),
         state: next,
         length: done.length,
     }

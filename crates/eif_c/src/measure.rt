@@ -4,6 +4,7 @@ ghost use Rattle.sha384.specs.State.{initialState, updated, digestFrom};
 ghost use Rattle.eif_registers.specs.Registers.{registersAnswer};
 ghost use Rattle.eif_c.specs.Measure.{flatFed, flatDigest, flatRegisters};
 use eif_registers::Digest;
+use eif_registers::Measurement;
 use sha384::State;
 
 // The answer to a piece; beside a refusal, the state is as it was. `reserved` is 0.
@@ -42,10 +43,10 @@ pub extern "C" fn eif_sha384_update(state: State, piece: &[u8]) -> EifSha384Fed
     let verdict = done.verdict;
     let after = done.state;
     EifSha384Fed {
-        number: crate::number_of(verdict),
+        number: eif_flat::number_of(verdict),
         reserved: [0u8; 7],
-        index: crate::index_of(verdict),
-        position: crate::position_of(verdict),
+        index: eif_flat::index_of(verdict),
+        position: eif_flat::position_of(verdict),
         state: after,
     }
 }
@@ -58,18 +59,23 @@ pub extern "C" fn eif_sha384_finish(state: State) -> Digest
     Digest(digest)
 }
 
+pub fn flat_registers(measured: Measurement) -> EifRegisters
+    ensures { λ r. ⌜ r ≡ flatRegisters measured ⌝ }
+{
+    let verdict = measured.verdict;
+    let registers = measured.registers;
+    EifRegisters {
+        number: eif_flat::number_of(verdict),
+        reserved: [0u8; 7],
+        index: eif_flat::index_of(verdict),
+        position: eif_flat::position_of(verdict),
+        registers,
+    }
+}
+
 #[no_mangle]
 pub extern "C" fn eif_registers(image: &[u8]) -> EifRegisters
     ensures { λ r. ⌜ r ≡ flatRegisters (registersAnswer (now (image .entry))) ⌝ }
 {
-    let measured = eif_registers::registers(image);
-    let verdict = measured.verdict;
-    let registers = measured.registers;
-    EifRegisters {
-        number: crate::number_of(verdict),
-        reserved: [0u8; 7],
-        index: crate::index_of(verdict),
-        position: crate::position_of(verdict),
-        registers,
-    }
+    flat_registers(eif_registers::registers(image))
 }

@@ -1,19 +1,17 @@
 // The sections of a measured stream of an image already read, and copying from them, for programs in C and Rust.
 ghost use mathlib.Core.Path.{_≡_};
-ghost use mathlib.Core.List.{map};
 ghost use lib.ListN.{length};
 ghost use Rattle.eif.specs.Stream.{copyListedAnswer, copyListedOutput};
 ghost use Rattle.eif.specs.declared.Stream.the-variants.{Whole, Boot, App};
-ghost use Rattle.eif_c.specs.Flat.{flatCopied};
-ghost use Rattle.eif_c.specs.Listed.{readSection, listedOf, listOf};
-use crate::EifAnswer;
-use crate::EifReading;
-use crate::EifSection;
+ghost use Rattle.eif_flat.specs.Flat.{flatCopied};
+ghost use Rattle.eif_c.specs.Listed.{listedOf, listOf};
 use eif::PLACES;
-use eif::Section;
 use eif::Stream;
 use eif::StreamPosition;
 use eif::StreamSections;
+use eif_flat::EifAnswer;
+use eif_flat::EifReading;
+use eif_flat::EifSection;
 
 // The sections of a stream, in its order: the first `count` places. The others are zero.
 #[repr(C)]
@@ -22,41 +20,14 @@ pub struct EifStreamSections {
     pub sections: [EifSection; PLACES],
 }
 
-// ---- sections as C has them
-
-fn read_section(x: EifSection) -> Section
-    ensures { λ r. ⌜ r ≡ readSection x ⌝ }
-{
-    let position = x.position;
-    let length = x.length;
-    Section {
-        kind: x.kind,
-        flags: x.flags,
-        position,
-        length,
-    }
-}
-
-fn read_sections(sections: [EifSection; PLACES]) -> [Section; PLACES]
-    ensures { λ r. ⌜ r ≡ map readSection sections ⌝ }
-{
-    let mut all = [Section::BLANK; PLACES];
-    let mut i: usize = 0;
-    while i < PLACES {
-        all[i] = read_section(sections[i]);
-        i += 1;
-    }
-    all
-}
-
 fn listed(sections: [EifSection; PLACES], stream: Stream) -> EifStreamSections
     ensures { λ r. ⌜ r ≡ listedOf sections stream ⌝ }
 {
-    let list = stream_reader::sections(read_sections(sections), stream);
+    let list = stream_reader::sections(eif_flat::read_sections(sections), stream);
     let found = list.sections;
     EifStreamSections {
         count: list.count,
-        sections: crate::flat_sections(found),
+        sections: eif_flat::flat_sections(found),
     }
 }
 
@@ -101,9 +72,7 @@ pub extern "C" fn eif_copy_sections(
     let sections = list.sections;
     let found = StreamSections {
         count: list.count,
-        sections: read_sections(sections),
+        sections: eif_flat::read_sections(sections),
     };
-    let done = stream_reader::copy_listed(image, found, from, out);
-    let verdict = done.verdict;
-    crate::answer(verdict, done.count)
+    eif_flat::flat_copied(stream_reader::copy_listed(image, found, from, out))
 }

@@ -3,12 +3,12 @@ ghost use mathlib.Core.Path.{_≡_};
 ghost use lib.ListN.{length};
 ghost use Rattle.cose.specs.Write.{sign1Answer, sign1Output};
 ghost use Rattle.cose.specs.Read.{readSign1};
-ghost use Rattle.eif_c.specs.Flat.{flatWritten};
+ghost use Rattle.eif_flat.specs.Flat.{flatWritten};
 ghost use Rattle.eif_c.specs.Signature.{flatSign1};
-use crate::EifAnswer;
 use cose::Claim;
 use cose::Sign1Position;
 use eif::DataLength;
+use eif_flat::EifAnswer;
 
 // The claim, and where the signature's own bytes stand; beside a refusal, all zero. `reserved` is 0.
 #[repr(C)]
@@ -32,10 +32,10 @@ pub extern "C" fn eif_sign1_read(bytes: &[u8]) -> EifSign1Reading
     let position = reading.position;
     let length = reading.length;
     EifSign1Reading {
-        number: crate::number_of(verdict),
+        number: eif_flat::number_of(verdict),
         reserved: [0u8; 7],
-        index: crate::index_of(verdict),
-        position: crate::position_of(verdict),
+        index: eif_flat::index_of(verdict),
+        position: eif_flat::position_of(verdict),
         claim,
         signature_position: position,
         signature_length: length,
@@ -47,7 +47,5 @@ pub extern "C" fn eif_sign1_write(claim: Claim, signature: &[u8], out: &mut [u8]
     ensures { λ r. ⌜ r ≡ flatWritten (sign1Answer claim (now (signature .entry)) (length (now (out .entry)))) ⌝ }
     ensures { λ _. ⌜ now (out .exit) ≡ sign1Output claim (now (signature .entry)) (now (out .entry)) ⌝ }
 {
-    let done = cose_writer::write(claim, signature, out);
-    let verdict = done.verdict;
-    crate::answer(verdict, done.length)
+    eif_flat::flat_written(cose_writer::write(claim, signature, out))
 }

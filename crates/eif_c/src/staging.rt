@@ -5,7 +5,7 @@ ghost use lib.ListN.{length};
 ghost use Rattle.staged.specs.Staged.{stagedRollAnswer, stagedRollOutput, stagedRollLength};
 ghost use Rattle.staged.specs.View.{stagedPlace};
 ghost use Rattle.eif_registers.specs.Registers.{stagedRegisters};
-ghost use Rattle.eif_c.specs.Flat.{flatWritten};
+ghost use Rattle.eif_flat.specs.Flat.{flatWritten};
 ghost use Rattle.eif_c.specs.Measure.{flatRegisters};
 ghost use Rattle.eif_c.specs.Staging.{flatPart};
 use eif::DataLength;
@@ -35,11 +35,11 @@ pub extern "C" fn eif_staged_part(
     let verdict = found.verdict;
     let length = found.length;
     EifStagedPart {
-        number: crate::number_of(verdict),
+        number: eif_flat::number_of(verdict),
         in_replacement: found.in_replacement,
         reserved: [0u8; 6],
-        index: crate::index_of(verdict),
-        position: crate::position_of(verdict),
+        index: eif_flat::index_of(verdict),
+        position: eif_flat::position_of(verdict),
         start: found.start,
         length,
     }
@@ -51,13 +51,11 @@ pub extern "C" fn eif_staged_roll_write<'a>(
     replacement: &'a [u8],
     replaced: u64,
     out: &mut [u8],
-) -> crate::EifAnswer
+) -> eif_flat::EifAnswer
     ensures { λ r. ⌜ r ≡ flatWritten (stagedRollAnswer (now (base .entry)) (now (replacement .entry)) replaced (length (now (out .entry)))) ⌝ }
     ensures { λ _. ⌜ now (out .exit) ≡ stagedRollOutput (now (base .entry)) (now (replacement .entry)) replaced (now (out .entry)) ⌝ }
 {
-    let done = roll_writer::write_staged(base, replacement, replaced, out);
-    let verdict = done.verdict;
-    crate::answer(verdict, done.length)
+    eif_flat::flat_written(roll_writer::write_staged(base, replacement, replaced, out))
 }
 
 #[no_mangle]
@@ -65,12 +63,10 @@ pub extern "C" fn eif_staged_roll_length(
     base: &[u8],
     replacement: &[u8],
     replaced: u64,
-) -> crate::EifAnswer
+) -> eif_flat::EifAnswer
     ensures { λ r. ⌜ r ≡ flatWritten (stagedRollLength (now (base .entry)) (now (replacement .entry)) replaced) ⌝ }
 {
-    let found = roll_writer::length_staged(base, replacement, replaced);
-    let verdict = found.verdict;
-    crate::answer(verdict, found.length)
+    eif_flat::flat_written(roll_writer::length_staged(base, replacement, replaced))
 }
 
 #[no_mangle]
@@ -82,13 +78,5 @@ pub extern "C" fn eif_staged_registers<'a>(
     ensures { λ r. ⌜ r ≡ flatRegisters (stagedRegisters (now (base .entry)) (now (replacement .entry)) replaced) ⌝ }
 {
     let measured = eif_registers::registers_staged(base, replacement, replaced);
-    let verdict = measured.verdict;
-    let registers = measured.registers;
-    crate::measure::EifRegisters {
-        number: crate::number_of(verdict),
-        reserved: [0u8; 7],
-        index: crate::index_of(verdict),
-        position: crate::position_of(verdict),
-        registers,
-    }
+    crate::measure::flat_registers(measured)
 }

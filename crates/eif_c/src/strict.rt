@@ -4,7 +4,7 @@ ghost use Rattle.json.specs.Verdict.{IsVerdict};
 ghost use Rattle.json.specs.declared.JsonVerdict.{JsonVerdict};
 ghost use Rattle.json_machine.specs.Machine.{jsonVerdict};
 ghost use Rattle.strict_reader.specs.Strict.{readStrict};
-ghost use Rattle.eif_c.specs.Flat.{flatReading};
+ghost use Rattle.eif_flat.specs.Flat.{flatReading};
 ghost use Rattle.eif_c.specs.Strict.{textFlag, faultPlace, flatJson};
 use json::JsonVerdict;
 
@@ -45,10 +45,10 @@ fn flat_json(verdict: JsonVerdict) -> EifJson
 }
 
 #[no_mangle]
-pub extern "C" fn eif_read_strict(image: &[u8]) -> crate::EifReading
+pub extern "C" fn eif_read_strict(image: &[u8]) -> eif_flat::EifReading
     ensures { λ r. ⌜ r ≡ flatReading (readStrict (now (image .entry))) ⌝ }
 {
-    crate::flat_reading(strict_reader::read_strict(image))
+    eif_flat::flat_reading(strict_reader::read_strict(image))
 }
 
 // What the checker computes, which is the verdict that the grammar says is the right one.

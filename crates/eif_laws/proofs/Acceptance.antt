@@ -18,8 +18,8 @@ use Rattle.eif.specs.Reading.{sectionFault, checksumOf, verdictOf}
 use Rattle.eif.specs.Acceptance.{AllowedType, Present, MeetsRules}
 use Rattle.eif.specs.declared.Verdict.the-variants.{Accepted}
 use Rattle.octets.proofs.Logic.{choose-zero, both-true, not-both, either-false, equal-or-not}
-use Rattle.eif_lemmas.proofs.View.{SoundHeader, Sound, sound-of, order-of, no-fault, fault-order}
-use Rattle.eif_lemmas.proofs.Accept.{Passes, passes, →accepted, file-ends}
+use Rattle.eif_lemmas.proofs.View.{SoundHeader, no-fault, fault-order}
+use Rattle.eif_lemmas.proofs.Accept.{Passes, passes, →accepted, file-ends, sound-at, order-at}
 
 -- ---- a test and the fact it stands for
 
@@ -104,7 +104,7 @@ module _ (kinds : ℕ → ℕ) (i : ℕ) where
 
   none-seen : orderFault kinds (kinds i) i ≡ 0 → (kinds i ≡ ramdisk → ⊥) → seen kinds (kinds i) i ≡ false
   unfolding orderFault
-  none-seen e h = choose-zero (seen kinds (kinds i) i) 10 0 (simp (ne-eqb (kinds i) ramdisk h) at e) .0
+  none-seen e h = choose-zero (seen kinds (kinds i) i) _ 0 (simp (ne-eqb (kinds i) ramdisk h) at e) .0
 
   order-zero : (kinds i ≡ ramdisk → seen kinds kernel i ≡ true) → ((kinds i ≡ ramdisk → ⊥) → seen kinds (kinds i) i ≡ false) → orderFault kinds (kinds i) i ≡ 0
   unfolding orderFault
@@ -157,12 +157,12 @@ module _ (s : List ℕ) where
         right-magic = h .magic;
         known-version = (h .low, h .high);
         known-count = (h .some, h .few);
-        starts = λ i l. entry i l .starts;
+        starts = λ i l. sound-at s e i l .starts;
         file-ends = file-ends s e;
-        in-file = λ i l. entry i l .ends;
-        sizes-agree = λ i l. entry i l .same;
-        types-allowed = λ i l. allowed→ (versionOf s) (kindAt s i) (entry i l .known);
-        kernel-before = λ i l r. seen→ (kindAt s) kernel i (kernel-seen (kindAt s) i (order i l) r);
+        in-file = λ i l. sound-at s e i l .ends;
+        sizes-agree = λ i l. sound-at s e i l .same;
+        types-allowed = λ i l. allowed→ (versionOf s) (kindAt s i) (sound-at s e i l .known);
+        kernel-before = λ i l r. seen→ (kindAt s) kernel i (kernel-seen (kindAt s) i (order-at s e i l) r);
         single = single;
         has-kernel = seen→ (kindAt s) kernel (countOf s) (c .kernel-there);
         has-command-line = seen→ (kindAt s) commandLine (countOf s) (c .line-there);
@@ -176,17 +176,11 @@ module _ (s : List ℕ) where
       h : SoundHeader (viewOf s)
       h = p .head
 
-      entry : (i : ℕ) → i < countOf s → Sound (viewOf s) i
-      entry i l = sound-of (viewOf s) i (p .sections i l)
-
-      order : (i : ℕ) → i < countOf s → orderFault (kindAt s) (kindAt s i) i ≡ 0
-      order i l = order-of (viewOf s) i (p .sections i l)
-
       c : Complete (kindAt s) (versionOf s) (countOf s)
       c = complete→ (kindAt s) (versionOf s) (countOf s) (p .complete)
 
       single : (i j : ℕ) → j < i → i < countOf s → kindAt s j ≡ kindAt s i → kindAt s i ≡ ramdisk
-      single i j l m q = ⊎-elim (λ r. r) (λ r. not-both (sym (none-seen (kindAt s) i (order i m) r) ∙ →seen (kindAt s) (kindAt s i) i j l q)) (equal-or-not (kindAt s i) ramdisk)
+      single i j l m q = ⊎-elim (λ r. r) (λ r. not-both (sym (none-seen (kindAt s) i (order-at s e i m) r) ∙ →seen (kindAt s) (kindAt s i) i j l q)) (equal-or-not (kindAt s i) ramdisk)
 
   meets-accepted : MeetsRules s → verdictOf s ≡ Accepted
   meets-accepted m =

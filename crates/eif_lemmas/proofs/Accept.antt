@@ -8,6 +8,7 @@ use native.Mathlib.Omega.{arith}
 use borrow.Author.Tests.{eq-eqb, eqb-true, ltb-false, not-false}
 use lib.Dec.{eqb}
 use lib.ListN.{length, length-take, length-drop}
+use Rattle.octets.specs.Lists.{All}
 use Rattle.eif.specs.Numbers.{placeCount}
 use Rattle.eif.specs.Rules.{orderFault, missing}
 use Rattle.eif.specs.Layout.{View, viewOf, version, count, checksum, versionOf, countOf, startAt, kindAt}
@@ -16,9 +17,9 @@ use Rattle.eif.specs.declared.Section.{Section}
 use Rattle.eif.specs.declared.Verdict.the-variants.{Accepted}
 use Rattle.octets.proofs.Logic.{choose-zero}
 use Rattle.eif_lemmas.proofs.Verdicts.{then-accepted, whole-zero, whole-at-zero, all-accepted, walk-accepted, walk-all}
-use Rattle.eif_lemmas.proofs.Table.{All, all-filled}
+use Rattle.eif_lemmas.proofs.Table.{all-filled}
 use Rattle.eif_lemmas.proofs.Position.{located-accepted}
-use Rattle.eif_lemmas.proofs.View.{SoundHeader, header, header-fields, sound-of, order-of}
+use Rattle.eif_lemmas.proofs.View.{SoundHeader, header, header-fields, sound-of, order-of, Sound}
 use Rattle.eif_lemmas.proofs.Fields.{fields-fine}
 
 pub record Passes (v : View) (computed : ℕ) : Type 0 where
@@ -31,7 +32,7 @@ pub record Passes (v : View) (computed : ℕ) : Type 0 where
 module _ (v : View) where
   missing-zero : missingFault v ≡ 0 → missing (v .kind) (version v) (count v) ≡ false
   unfolding missingFault
-  missing-zero e = choose-zero (missing (v .kind) (version v) (count v)) 11 0 e .0
+  missing-zero e = choose-zero (missing (v .kind) (version v) (count v)) _ 0 e .0
 
   zero-missing : missing (v .kind) (version v) (count v) ≡ false → missingFault v ≡ 0
   unfolding missingFault
@@ -39,7 +40,7 @@ module _ (v : View) where
 
   tail-zero : tailFault v ≡ 0 → hasTail v ≡ false
   unfolding tailFault
-  tail-zero e = choose-zero (hasTail v) 19 0 e .0
+  tail-zero e = choose-zero (hasTail v) _ 0 e .0
 
   zero-tail : hasTail v ≡ false → tailFault v ≡ 0
   unfolding tailFault
@@ -47,7 +48,7 @@ module _ (v : View) where
 
   sum-zero : (computed : ℕ) → checksumFault v computed ≡ 0 → checksum v ≡ computed
   unfolding checksumFault
-  sum-zero computed e = eqb-true _ _ (not-false _ (choose-zero (not (eqb (checksum v) computed)) 12 0 e .0))
+  sum-zero computed e = eqb-true _ _ (not-false _ (choose-zero (not (eqb (checksum v) computed)) _ 0 e .0))
 
   zero-sum : (computed : ℕ) → checksum v ≡ computed → checksumFault v computed ≡ 0
   unfolding checksumFault
@@ -110,6 +111,9 @@ module _ (s : List ℕ) (e : verdictOf s ≡ Accepted) where
 
   pub sum-of : checksum (viewOf s) ≡ checksumOf s
   sum-of = passes .sum
+
+  pub sound-at : (i : ℕ) → i < countOf s → Sound (viewOf s) i
+  sound-at i h = sound-of (viewOf s) i (passes .sections i h)
 
   pub order-at : (i : ℕ) → i < countOf s → orderFault (kindAt s) (kindAt s i) i ≡ 0
   order-at i h = order-of (viewOf s) i (passes .sections i h)

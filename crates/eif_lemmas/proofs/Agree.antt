@@ -12,7 +12,7 @@ use Rattle.octets.specs.Logic.{choose}
 use Rattle.eif.specs.Answers.{refuse, indexOf, wholeAt, wholeVerdict}
 use Rattle.eif.specs.Rules.{fieldFault, firstFault}
 use Rattle.eif.specs.Table.{filled}
-use Rattle.eif.specs.Layout.{headerSize, sectionHeaderSize, entrySize, offsetsAt, sizesAt, entryAt, checksumAt, View, version, count, offset, tableSize, end, start}
+use Rattle.eif.specs.Layout.{headerSize, sectionHeaderSize, entrySize, offsetsAt, sizesAt, entryAt, checksumAt, View, version, count, offset, tableSize, end, start, headerFlags, defaultMem, defaultCpus, headerFlagsAt, defaultMemAt, defaultCpusAt}
 use Rattle.eif.specs.Reading.{headerFault, entryFault, sectionFault, missingFault, tailFault, checksumFault, positionIn, located, judged, early, verdictIn, blankSection, section, sections, readingOf, readView}
 use Rattle.eif.specs.declared.Verdict.{Verdict}
 use Rattle.eif.specs.declared.Verdict.the-variants.{Accepted, Refused}
@@ -207,12 +207,12 @@ module _ (v w : View) (same : Agree v w) where
     reading-same Accepted h =
         let f = good (h refl) in
         let n = sections-same (f .whole) (f .few) (f .walked) in
-        let g = same .headers (f .whole) 2 6 (omega arith) in
-        let m = same .headers (f .whole) 8 8 (omega arith) in
-        let c = same .headers (f .whole) 8 16 (omega arith) in
+        let g = same .headers (f .whole) 2 headerFlagsAt (omega arith) in
+        let m = same .headers (f .whole) 8 defaultMemAt (omega arith) in
+        let c = same .headers (f .whole) 8 defaultCpusAt (omega arith) in
         made (version-same (f .whole)) g m c (count-same (f .whole)) n
       where
-        made : version v ≡ version w → v .header 2 6 ≡ w .header 2 6 → v .header 8 8 ≡ w .header 8 8 → v .header 8 16 ≡ w .header 8 16
+        made : version v ≡ version w → headerFlags v ≡ headerFlags w → defaultMem v ≡ defaultMem w → defaultCpus v ≡ defaultCpus w
             → count v ≡ count w → sections v ≡ sections w → readingOf v Accepted ≡ readingOf w Accepted
         made a b c d e f = cc
 

@@ -42,8 +42,8 @@ pub record Fields (version count : ℕ) : Type 0 where
 pub fields : (version count : ℕ) → fieldFault version count ≡ 0 → Fields version count
 unfolding fieldFault
 fields version count e =
-    let a = choose-zero (not (versionKnown version)) 3 _ e in
-    let b = choose-zero (not (countKnown count)) 4 _ (a .1) in
+    let a = choose-zero (not (versionKnown version)) _ _ e in
+    let b = choose-zero (not (countKnown count)) _ _ (a .1) in
     let k = both-true _ _ (not-false _ (a .0)) in
     let n = both-true _ _ (not-false _ (b .0)) in
     record { low = leb-true _ _ (k .0); high = leb-true _ _ (k .1); some = leb-true _ _ (n .0); few = leb-true _ _ (n .1) }

@@ -10,7 +10,7 @@ use lib.Dec.{eqb, ltb}
 use lib.ListN.{length}
 use Rattle.octets.specs.Bytes.{leField}
 use Rattle.octets.specs.Logic.{either}
-use Rattle.eif.specs.Roll.{recordHeadSize, headOf, flagsType, flagsLength, flagsRecordSize, flagsRecord, flagsFault}
+use Rattle.eif.specs.Roll.{recordHeadSize, headOf, flagsType, flagsLength, flagsRecordSize, flagsRecord, flagsFault, recordTypeAt, recordLengthAt}
 use Rattle.octets.proofs.Logic.{choose-zero, either-false}
 
 pub length-flags : (f : ℕ) → length (flagsRecord f) ≡ flagsRecordSize
@@ -19,16 +19,16 @@ length-flags f = refl
 
 pub record Flagged (s : List ℕ) : Type 0 where
   pub whole : flagsRecordSize ≤ length s
-  pub kind : leField 2 8 s ≡ flagsType
-  pub size : leField 8 0 s ≡ flagsLength
+  pub kind : leField 2 recordTypeAt s ≡ flagsType
+  pub size : leField 8 recordLengthAt s ≡ flagsLength
 
 module _ (s : List ℕ) where
   pub flags-zero : flagsFault s ≡ 0 → Flagged s
   unfolding flagsFault
   flags-zero e =
-      let a = choose-zero (ltb (length s) recordHeadSize) 15 _ e in
-      let b = choose-zero (either (not (eqb (leField 2 8 s) flagsType)) (not (eqb (leField 8 0 s) flagsLength))) 16 _ (a .1) in
-      let c = choose-zero (ltb (length s) flagsRecordSize) 15 0 (b .1) in
+      let a = choose-zero (ltb (length s) recordHeadSize) _ _ e in
+      let b = choose-zero (either (not (eqb (leField 2 recordTypeAt s) flagsType)) (not (eqb (leField 8 recordLengthAt s) flagsLength))) _ _ (a .1) in
+      let c = choose-zero (ltb (length s) flagsRecordSize) _ 0 (b .1) in
       let t = either-false _ _ (b .0) in
       record { whole = ltb-false _ _ (c .0); kind = eqb-true _ _ (not-false _ (t .0)); size = eqb-true _ _ (not-false _ (t .1)) }
 

@@ -9,3 +9,4 @@ pub mod Accept
 pub mod Agree
 pub mod Mark
 pub mod Flags
+pub mod RollEnd

@@ -1,7 +1,7 @@
 -- The steps of reading: all rules but 13 from what each step before answered, then 13; and what a reading's verdict is.
 -- Assumes nothing.
 use Prim.Native.Nat.{ℕ, _<_}
-use mathlib.Core.Path.{_≡_, refl, ap}
+use mathlib.Core.Path.{_≡_, refl, sym, ap, _∙_}
 use mathlib.Core.List.{List}
 use borrow.Author.Tests.{lt-ltb, eq-eqb, ne-eqb}
 use Rattle.eif.specs.Numbers.{sizeLimit, imageTooLong, checksumDiffers}
@@ -9,6 +9,7 @@ use Rattle.eif.specs.Answers.{refuse, refuseAt}
 use Rattle.eif.specs.Rules.{firstFault}
 use Rattle.eif.specs.Layout.{checksumAt, View, viewOf, count, checksum}
 use Rattle.eif.specs.Reading.{headerFault, sectionFault, checksumFault, positionIn, located, judged, early, verdictIn, verdictOf, blankReading, readingOf, readView, readImage}
+use Rattle.eif.specs.declared.Reading.{Reading}
 use Rattle.eif.specs.declared.Refusal.{Refusal}
 use Rattle.eif.specs.declared.Verdict.{Verdict}
 use Rattle.eif.specs.declared.Verdict.the-variants.{Accepted, Refused}
@@ -57,3 +58,14 @@ read-too-long v computed h = simp (lt-ltb sizeLimit (v .size) h)
 pub reading-accepted : (s : List ℕ) → verdictOf s ≡ Accepted → readImage s ≡ readingOf (viewOf s) Accepted
 unfolding readView
 reading-accepted s e = ap (readingOf (viewOf s)) e
+
+module _ (s : List ℕ) (r : Reading) (is : r ≡ readImage s) where
+  pub verdict-is : r .verdict ≡ verdictOf s
+  verdict-is = ap (λ (x : Reading). x .verdict) is ∙ reading-verdict s
+
+  module _ (told : r .verdict ≡ Accepted) where
+    pub told-accepted : verdictOf s ≡ Accepted
+    told-accepted = sym verdict-is ∙ told
+
+    pub reading-is : r ≡ readingOf (viewOf s) Accepted
+    reading-is = is ∙ reading-accepted s told-accepted

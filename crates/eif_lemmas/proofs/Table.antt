@@ -7,6 +7,7 @@ use native.Mathlib.Omega.{arith}
 use native.Mathlib.Numerals.{add-one}
 use native.Mathlib.Nat.{not-suc-le-zero, le-of-suc-le-suc, le-trans}
 use lib.ListN.{length, getD, set, replicate, length-replicate}
+use Rattle.octets.specs.Lists.{All}
 use Rattle.eif.specs.Table.{filled}
 
 pub filled-none {ℓ} : {A : Type ℓ} (f : ℕ → A) (d : A) (m : ℕ) → filled f d m 0 ≡ replicate m d
@@ -47,10 +48,6 @@ filled-same f g d (suc m) (suc n) h =
     ap₂ (λ x xs. x ∷ xs) (h 0 (omega arith)) (filled-same (λ k. f (suc k)) (λ k. g (suc k)) d m n (λ j l. h (suc j) (omega arith)))
 
 -- ---- what holds of every element
-
-unfoldable pub All {ℓ} : {A : Type ℓ} → (A → Type 0) → List A → Type 0
-All P [] = Unit
-All P (x ∷ xs) = P x × All P xs
 
 pub all-filled {ℓ} : {A : Type ℓ} (P : A → Type 0) (f : ℕ → A) (d : A) (m n : ℕ) → P d → ((i : ℕ) → i < n → P (f i)) → All P (filled f d m n)
 unfolding All

@@ -57,11 +57,11 @@ pub record Sound (v : View) (i : ℕ) : Type 0 where
 pub sound : (v : View) (i : ℕ) → entryFault v i ≡ 0 → Sound v i
 unfolding entryFault
 sound v i e =
-    let a = choose-zero (ltb (offset v i) (start v i)) 5 _ e in
-    let p = choose-zero (not (eqb (offset v i) (start v i))) 19 _ (a .1) in
-    let b = choose-zero (ltb (v .size) (end v i)) 6 _ (p .1) in
-    let d = choose-zero (not (eqb (v .ownSize i) (tableSize v i))) 7 _ (b .1) in
-    let f = choose-zero (not (allowedIn (version v) (v .kind i))) 8 _ (d .1) in
+    let a = choose-zero (ltb (offset v i) (start v i)) _ _ e in
+    let p = choose-zero (not (eqb (offset v i) (start v i))) _ _ (a .1) in
+    let b = choose-zero (ltb (v .size) (end v i)) _ _ (p .1) in
+    let d = choose-zero (not (eqb (v .ownSize i) (tableSize v i))) _ _ (b .1) in
+    let f = choose-zero (not (allowedIn (version v) (v .kind i))) _ _ (d .1) in
     record {
       starts = eqb-true _ _ (not-false _ (p .0));
       ends = ltb-false _ _ (b .0);
@@ -112,9 +112,9 @@ pub record SoundHeader (v : View) : Type 0 where
 pub header : (v : View) → headerFault v ≡ 0 → SoundHeader v
 unfolding headerFault
 header v e =
-    let a = choose-zero (ltb sizeLimit (v .size)) 0 _ e in
-    let b = choose-zero (ltb (v .size) headerSize) 1 _ (a .1) in
-    let d = choose-zero (not (eqb (magic v) magicNumber)) 2 _ (b .1) in
+    let a = choose-zero (ltb sizeLimit (v .size)) _ _ e in
+    let b = choose-zero (ltb (v .size) headerSize) _ _ (a .1) in
+    let d = choose-zero (not (eqb (magic v) magicNumber)) _ _ (b .1) in
     let f = fields (version v) (count v) (d .1) in
     record {
       small = ltb-false _ _ (a .0);

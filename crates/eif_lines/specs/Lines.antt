@@ -83,9 +83,13 @@ rowLines i (s ∷ rest) = rowLine i s ++ rowLines (suc i) rest
 unfoldable pub headLine : ℕ → ℕ → List ℕ
 headLine version count = eifWord ++ (numberThen version blank ++ numberThen count lineFeed)
 
+-- refused NUMBER at INDEX byte POSITION, and a text after it
+unfoldable pub refusalThen : Refusal → List ℕ → List ℕ
+refusalThen r text = refusedWord ++ (numberThen (r .number) atWord ++ (numberThen (r .index) byteWord ++ numberThen (r .position) text))
+
 -- refused NUMBER at INDEX byte POSITION
-unfoldable pub refusalLine : Refusal → List ℕ
-refusalLine r = refusedWord ++ (numberThen (r .number) atWord ++ (numberThen (r .index) byteWord ++ numberThen (r .position) lineFeed))
+abbrev pub refusalLine : Refusal → List ℕ
+refusalLine r = refusalThen r lineFeed
 
 -- the head line, and a row for each section that is counted and has a place
 unfoldable pub acceptedLines : Reading → List ℕ

@@ -9,7 +9,7 @@ use Rattle.eif.specs.Answers.{refuseAt}
 use Rattle.eif.specs.declared.Section.{Section}
 use Rattle.eif.specs.declared.Reading.{Reading}
 use Rattle.eif.specs.declared.Verdict.the-variants.{Accepted}
-use Rattle.eif_lines.specs.Lines.{digitsBy, digitCount, decimalText, numberThen, rowLine, rowLines, headLine, refusalLine, acceptedLines, linesOf, mostDigits}
+use Rattle.eif_lines.specs.Lines.{digitsBy, digitCount, decimalText, numberThen, rowLine, rowLines, headLine, refusalThen, acceptedLines, linesOf, mostDigits}
 
 -- 0, 9, 10, 548, 65536
 decimals : map decimalText (0 ∷ 9 ∷ 10 ∷ 548 ∷ 65536 ∷ [])
@@ -54,5 +54,5 @@ small-lines = refl
 refused-lines : linesOf (blankReading (refuseAt 13 0 544))
     ≡ 114 ∷ 101 ∷ 102 ∷ 117 ∷ 115 ∷ 101 ∷ 100 ∷ 32 ∷ 49 ∷ 51 ∷ 32 ∷ 97 ∷ 116 ∷ 32 ∷ 48
     ∷ 32 ∷ 98 ∷ 121 ∷ 116 ∷ 101 ∷ 32 ∷ 53 ∷ 52 ∷ 52 ∷ 10 ∷ []
-unfolding digitsBy digitCount decimalText numberThen refusalLine
+unfolding digitsBy digitCount decimalText numberThen refusalThen
 refused-lines = refl

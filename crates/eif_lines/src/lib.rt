@@ -1,12 +1,13 @@
 // The lines of the small programs, as bytes in a buffer: a line with an image's version and its number of sections, then a row for each
 // section; or a line for a refusal.
 ghost use mathlib.Core.Path.{_≡_};
+ghost use mathlib.Core.List.{[]};
 ghost use Prim.Native.Nat.{_+_, _≤_, min};
 ghost use lib.ListN.{length, take, replicate};
 ghost use Rattle.io.specs.Counts.{Counts};
 ghost use Rattle.octets.specs.Over.{over};
 ghost use Rattle.eif.specs.Numbers.{placeCount};
-ghost use Rattle.eif_lines.specs.Lines.{numberThen, tableOffset, rowLine, rowLines, headLine, refusalLine, acceptedLines, linesOf, mostDigits, longestLine, roomSize, inBuffer};
+ghost use Rattle.eif_lines.specs.Lines.{numberThen, tableOffset, rowLine, rowLines, headLine, refusalThen, refusalLine, acceptedLines, linesOf, mostDigits, longestLine, roomSize, inBuffer};
 use eif::PLACES;
 use eif::Reading;
 use eif::Refusal;
@@ -29,13 +30,14 @@ pub struct Text {
     pub length: usize,
 }
 
-// ---- the parts, each written at a position; the answer is where it ends
-
-fn empty() -> [u8; SIZE]
+// A buffer with no text.
+pub fn empty() -> [u8; SIZE]
     ensures { λ r. ⌜ r ≡ replicate roomSize 0 ⌝ }
 {
     [0u8; SIZE]
 }
+
+// ---- the parts, each written at a position; the answer is where it ends
 
 // A number in decimal, and a text after it.
 fn put_number(out: &mut [u8], at: usize, n: u64, text: &[u8]) -> usize
@@ -104,16 +106,17 @@ fn put_head(out: &mut [u8], version: u16, count: u16) -> usize
     put_number(out, count_at, count as u64, b"\n")
 }
 
-// A refusal's number, its index and its position.
-fn put_refusal(out: &mut [u8], r: Refusal) -> usize
-    ensures { λ l. ⌜ l ≡ length (refusalLine r) ⌝ }
+// A refusal's number, its index and its position, and a text after them.
+fn put_refusal(out: &mut [u8], r: Refusal, text: &[u8]) -> usize
+    requires { ⌜ length (now text) ≤ 1 ⌝ }
+    ensures { λ l. ⌜ l ≡ length (refusalThen r (now (text .entry))) ⌝ }
     ensures { λ l. ⌜ l ≤ longestLine ⌝ }
-    ensures { λ _. ⌜ now (out .exit) ≡ over (now (out .entry)) 0 (refusalLine r) ⌝ }
+    ensures { λ _. ⌜ now (out .exit) ≡ over (now (out .entry)) 0 (refusalThen r (now (text .entry))) ⌝ }
 {
     octets::copy(out, 0, b"refused ");
     let index_at = put_number(out, 8, r.number as u64, b" at ");
     let position_at = put_number(out, index_at, r.index, b" byte ");
-    put_number(out, position_at, r.position, b"\n")
+    put_number(out, position_at, r.position, text)
 }
 
 // ---- the whole
@@ -130,14 +133,31 @@ fn accepted(reading: Reading) -> Text
     Text { bytes, length }
 }
 
+// A refusal, and a text after it.
+fn refused(r: Refusal, text: &[u8]) -> Text
+    requires { ⌜ length (now text) ≤ 1 ⌝ }
+    ensures { λ l. ⌜ l ≡ inBuffer (refusalThen r (now (text .entry))) ⌝ }
+    ensures { λ l. ⌜ Counts (l .length) (l .bytes) ⌝ }
+{
+    let mut bytes = empty();
+    let length = put_refusal(&mut bytes, r, text);
+    Text { bytes, length }
+}
+
 // The line of a refusal: its number, its index and its position.
 pub fn refusal(r: Refusal) -> Text
     ensures { λ l. ⌜ l ≡ inBuffer (refusalLine r) ⌝ }
     ensures { λ l. ⌜ Counts (l .length) (l .bytes) ⌝ }
 {
-    let mut bytes = empty();
-    let length = put_refusal(&mut bytes, r);
-    Text { bytes, length }
+    refused(r, b"\n")
+}
+
+// The same with no line feed.
+pub fn refusal_text(r: Refusal) -> Text
+    ensures { λ l. ⌜ l ≡ inBuffer (refusalThen r []) ⌝ }
+    ensures { λ l. ⌜ Counts (l .length) (l .bytes) ⌝ }
+{
+    refused(r, b"")
 }
 
 // The lines of a reading.

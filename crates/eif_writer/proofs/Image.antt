@@ -8,15 +8,15 @@ use native.Mathlib.Nat.{zero-add}
 use borrow.Author.Tests.{lt-ltb, le-ltb}
 use lib.ListN.{length, take, drop, length-append, length-take, length-drop}
 use lib.Seq.{take-at, drop-at}
-use Rattle.octets.specs.Bytes.{beBytes}
+use Rattle.octets.specs.Bytes.{beBytes, beBytesEach}
 use Rattle.octets.specs.Over.{over}
 use Rattle.octets.proofs.Over.{over-parts, over-start, over-own, over-joined, length-over}
 use Rattle.crc32.specs.Crc.{crc32}
 use Rattle.eif.specs.Numbers.{outputTooShort}
-use Rattle.eif.specs.Layout.{headerSize, checksumAt, offsetsAt, reservedAfterAt, sizesAt}
+use Rattle.eif.specs.Layout.{headerSize, checksumAt, offsetsAt, reservedAfterAt, sizesAt, entrySize, defaultMemAt}
 use Rattle.eif.specs.Answers.{refuse}
 use Rattle.eif.specs.Reading.{checksumOf}
-use Rattle.eif.specs.Plan.{dataBefore, plainSize, entries, fixedFields, offsetTable, sizeTable, headerBytes, bodyBytes, plainImage, planVerdict, writeVerdict, writeAnswer, writeOutput, offsetsOf, sizesOf}
+use Rattle.eif.specs.Plan.{dataBefore, plainSize, fixedFields, offsetTable, sizeTable, headerBytes, bodyBytes, plainImage, planVerdict, writeVerdict, writeAnswer, writeOutput, offsetsOf, sizesOf}
 use Rattle.eif.specs.declared.Plan.{Plan}
 use Rattle.eif.specs.declared.Refusal.{Refusal}
 use Rattle.eif.specs.declared.Written.{Written}
@@ -28,12 +28,12 @@ use Rattle.eif_writer.specs.Parts.{firstFields, nextFields, withChecksum
 
 module _ (p : Plan) where
   abbrev offsets : List ℕ
-  offsets = entries (offsetsOf (p .places) (p .count))
+  offsets = beBytesEach entrySize (offsetsOf (p .places) (p .count))
 
   abbrev sizes : List ℕ
-  sizes = entries (sizesOf (p .places) (p .count))
+  sizes = beBytesEach entrySize (sizesOf (p .places) (p .count))
 
-  length-first : length (firstFields p) ≡ 8
+  length-first : length (firstFields p) ≡ defaultMemAt
   unfolding firstFields
   length-first = refl
 
@@ -53,13 +53,13 @@ module _ (p : Plan) where
   unfolding headerBytes fixedFields offsetTable sizeTable firstFields nextFields
   header-parts = simp append-assoc
 
-  pub header-over : (d d₁ d₂ d₃ d₄ d₅ : List ℕ) → d₁ ≡ over d 0 (firstFields p) → d₂ ≡ over d₁ 8 (nextFields p) → d₃ ≡ over d₂ offsetsAt offsets
+  pub header-over : (d d₁ d₂ d₃ d₄ d₅ : List ℕ) → d₁ ≡ over d 0 (firstFields p) → d₂ ≡ over d₁ defaultMemAt (nextFields p) → d₃ ≡ over d₂ offsetsAt offsets
       → d₄ ≡ over d₃ sizesAt sizes → d₅ ≡ over d₄ reservedAfterAt (beBytes 4 0) → d₅ ≡ over d 0 (headerBytes p)
   header-over d d₁ d₂ d₃ d₄ d₅ e₁ e₂ e₃ e₄ e₅ =
       over-joined _ _ _ _ e₁
       (over-joined _ _ _ _ e₂
       (over-joined _ _ _ _ e₃ (over-joined _ _ _ _ e₄ e₅ (ap (λ (n : ℕ). sizesAt + n) length-size-entries)) (ap (λ (n : ℕ). offsetsAt + n) length-offset-entries))
-      (ap (λ (n : ℕ). 8 + n) length-next))
+      (ap (λ (n : ℕ). defaultMemAt + n) length-next))
       (ap (λ (n : ℕ). 0 + n) length-first)
       ∙ ap (over d 0) header-parts
 

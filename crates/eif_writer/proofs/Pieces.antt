@@ -4,26 +4,14 @@ use Prim.Native.Nat.{ℕ, suc, _+_, _-_, _<_, _≤_}
 use mathlib.Core.Path.{_≡_, refl, sym, ap, _∙_}
 use mathlib.Core.List.{List, _++_}
 use native.Mathlib.Omega.{arith}
-use lib.ListN.{length, drop, getD, drop-of-length-le}
-use lib.Seq.{drop-cons}
-use Rattle.octets.specs.Bytes.{beBytes}
+use lib.ListN.{length}
 use Rattle.octets.specs.Over.{over}
-use Rattle.octets.proofs.Over.{over-append, over-joined}
+use Rattle.octets.proofs.Over.{over-joined}
 use Rattle.eif.specs.Numbers.{sizeLimit}
 use Rattle.eif.specs.Layout.{sectionHeaderSize}
-use Rattle.eif.specs.Plan.{entries, placeAt, plannedSize, packedAt, dataBefore, pieceAt, sectionHeader, sectionBytes}
+use Rattle.eif.specs.Plan.{placeAt, plannedSize, packedAt, dataBefore, pieceAt, sectionHeader, sectionBytes}
 use Rattle.eif.specs.declared.Place.{Place}
 use Rattle.plain_laws.proofs.Shape.{packed-le, packed-suc, before-le, before-suc, length-sectionHeader, length-piece, section-suc}
-
--- ---- a table
-
-module _ (l : List ℕ) (i : ℕ) where
-  pub table-over : i < length l → (d : List ℕ) (at : ℕ) → over (over d at (beBytes 8 (getD l i 0))) (at + 8) (entries (drop (suc i) l)) ≡ over d at (entries (drop i l))
-  table-over h d at = sym (over-append d at (beBytes 8 (getD l i 0)) (entries (drop (suc i) l))) ∙ ap (λ (t : List ℕ). over d at (entries t)) (sym (drop-cons l i 0 h))
-
-  pub table-done : length l ≤ i → (d : List ℕ) (at : ℕ) → over d at (entries (drop i l)) ≡ d
-  unfolding over
-  table-done h d at = ap (λ (t : List ℕ). over d at (entries t)) (drop-of-length-le l h)
 
 -- ---- the sections
 

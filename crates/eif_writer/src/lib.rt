@@ -4,10 +4,11 @@
 ghost use mathlib.Core.Path.{_≡_};
 ghost use Prim.Native.Nat.{_≤_};
 ghost use lib.ListN.{length};
+ghost use Rattle.octets.specs.Bytes.{beBytesEach};
 ghost use Rattle.octets.specs.Over.{over};
 ghost use Rattle.eif.specs.Numbers.{placeCount, sizeLimit};
-ghost use Rattle.eif.specs.Layout.{headerSize, defaultMemAt};
-ghost use Rattle.eif.specs.Plan.{packedAt, dataBefore, plainSize, entries, headerBytes, sectionHeader, sectionBytes, writeAnswer, writeOutput, offsetsOf, sizesOf};
+ghost use Rattle.eif.specs.Layout.{headerSize, defaultMemAt, entrySize};
+ghost use Rattle.eif.specs.Plan.{packedAt, dataBefore, plainSize, headerBytes, sectionHeader, sectionBytes, writeAnswer, writeOutput, offsetsOf, sizesOf};
 ghost use Rattle.eif_writer.specs.Parts.{firstFields, nextFields, withChecksum};
 use eif::Header;
 use eif::PLACES;
@@ -50,10 +51,10 @@ fn sizes(places: [Place; PLACES], count: usize) -> [u64; PLACES]
     table
 }
 
-// A table, 8 bytes for each entry.
+// A table, its entries one after the other.
 fn put_table(out: &mut [u8], at: usize, table: [u64; PLACES])
     requires { ⌜ at ≤ headerSize ⌝ }
-    ensures { λ _. ⌜ now (out .exit) ≡ over (now (out .entry)) at (entries table) ⌝ }
+    ensures { λ _. ⌜ now (out .exit) ≡ over (now (out .entry)) at (beBytesEach entrySize table) ⌝ }
 {
     let mut i: usize = 0;
     while i < PLACES {

@@ -22,7 +22,7 @@ CanBegin p = (t : List ℕ) × IsText (p ++ t)
 
 -- of bytes that are no such text: p is the place of the first byte that no such text can have after the bytes before it, or, if
 -- there is none, the end
-pub record FirstFault (s : List ℕ) (p : ℕ) : Type 0 where
+pub record FaultsFirstAt (s : List ℕ) (p : ℕ) : Type 0 where
   pub no-text : IsText s → ⊥
   pub within : p ≤ length s
   pub before : CanBegin (take p s)
@@ -30,4 +30,4 @@ pub record FirstFault (s : List ℕ) (p : ℕ) : Type 0 where
 
 abbrev pub IsVerdict : List ℕ → JsonVerdict → Type 0
 IsVerdict s Text = IsText s
-IsVerdict s (Fault p) = FirstFault s p
+IsVerdict s (Fault p) = FaultsFirstAt s p

@@ -11,10 +11,11 @@ use borrow.Author.Tests.{lt-ltb, le-ltb, eq-eqb, ne-eqb}
 use lib.Dec.{eqb}
 use lib.ListN.{getD, length, drop, drop-of-length-le}
 use lib.Seq.{drop-cons}
+use Rattle.octets.specs.Lists.{joined}
 use Rattle.json.specs.Verdict.{IsVerdict}
 use Rattle.json.specs.declared.JsonVerdict.{JsonVerdict}
 use Rattle.json.specs.declared.JsonVerdict.the-variants.{Text, Fault}
-use Rattle.json_machine.specs.Table.{classes, rows, joined}
+use Rattle.json_machine.specs.Table.{classes, rows}
 use Rattle.json_machine.specs.Machine.{stackLimit, afterOf, entryOf, actOf, Kind, goes, stops, closes, faults, opens, kindOf, turnMode, turnStack, endsOf, walkFrom, jsonVerdict}
 use Rattle.json_laws.proofs.Laws.{right-verdict}
 

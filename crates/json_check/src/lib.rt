@@ -8,7 +8,8 @@ mod tables;
 ghost use mathlib.Core.Path.{_≡_};
 ghost use Prim.Native.Nat.{_<_, _≤_};
 ghost use Rattle.json.specs.Verdict.{IsVerdict};
-ghost use Rattle.json_machine.specs.Table.{classes, rows, joined};
+ghost use Rattle.octets.specs.Lists.{joined};
+ghost use Rattle.json_machine.specs.Table.{classes, rows};
 ghost use Rattle.json_machine.specs.Machine.{faultEntry, afterOf, actOf, kindOf, turnMode, turnStack, endsOf, jsonVerdict};
 use json::JsonVerdict;
 

@@ -3,18 +3,19 @@
 use Prim.Native.Nat.{ℕ, zero, suc, _+_, _*_, _/_, _%_, _<_, _≤_}
 use mathlib.Core.Path.{_≡_, refl, ap, sym, _∙_, subst}
 use mathlib.Core.Bool.{Bool, true, false}
-use mathlib.Core.List.{List, [], _∷_, tail}
-use mathlib.Core.Logic.{⊎-elim}
+use mathlib.Core.List.{List, [], _∷_}
 use native.Mathlib.Omega.{arith}
-use native.Mathlib.Nat.{not-suc-le-zero, le-of-suc-le-suc, eq-or-lt-of-le, zero-add, suc-add, add-suc}
+use native.Mathlib.Nat.{not-suc-le-zero, le-of-suc-le-suc, zero-add, suc-add, add-suc}
 use lib.Dec.{eqb, ltb}
 use lib.ListN.{length, getD, List·getD-append}
 use lib.Seq.{getD-append-add}
 use borrow.Author.Tests.{eq-eqb, ne-eqb, ltb-true, eqb-true}
+use Rattle.octets.specs.Lists.{joined}
 use Rattle.json.specs.Verdict.{depthLimit}
-use Rattle.json_machine.specs.Table.{classes, rows, joined}
+use Rattle.json_machine.specs.Table.{classes, rows}
 use Rattle.octets.specs.Logic.{both, choose}
 use Rattle.json_machine.specs.Machine.{faultEntry, stackLimit, afterOf, entryOf, Kind, goes, stops, closes, faults, opens, kindOf, bit}
+use Rattle.octets.proofs.Lists.{valuesBelow}
 use Rattle.octets.proofs.Logic.{both-true}
 use Rattle.json_machine.proofs.Modes.{Token, Str, Mode, m-value, m-after, m-firstItem, m-firstMember, m-key, m-colon, m-token, m-string, m-name, tokenNumber, stringNumber, nameNumber}
 use Rattle.json_machine.proofs.Modes as T
@@ -212,27 +213,11 @@ turnSpot (opens f) a (suc d) fs = spot (1 + bit f) d (f ∷ fs)
 abbrev pub does : ℕ → List Bool → ℕ → ℕ
 does n fs b = choose (eqb (cell n b) 53) (cell (afterNumber fs) b) (cell n b)
 
-abbrev pub all : ℕ → (ℕ → Spot) → List Spot
-all zero f = []
-all (suc n) f = f n ∷ all n f
-
-abbrev pub firstOf : List Spot → Spot
-firstOf [] = impossible
-firstOf (x ∷ l) = x
-
-pub each : (f g : ℕ → Spot) (n : ℕ) → all n f ≡ all n g → (b : ℕ) → b < n → f b ≡ g b
-each f g zero e b h = absurd (not-suc-le-zero h)
-each f g (suc n) e b h =
-    ⊎-elim
-    (λ (q : b ≡ n). subst (λ (m : ℕ). f m ≡ g m) (sym q) (ap firstOf e))
-    (λ (q : b < n). each f g n (ap tail e) b q)
-    (eq-or-lt-of-le (le-of-suc-le-suc h))
-
 abbrev pub turnAt : Mode → ℕ → List Bool → ℕ → Spot
 turnAt m d fs b = turnSpot (kindOf (does (modeNumber m fs) (frames m fs) b)) (does (modeNumber m fs) (frames m fs) b) d (frames m fs)
 
 abbrev pub Same : Mode → ℕ → List Bool → Type 0
-Same m d fs = all 256 (λ b. spotOf (step m d fs b)) ≡ all 256 (λ b. turnAt m d fs b)
+Same m d fs = valuesBelow 256 (λ b. spotOf (step m d fs b)) ≡ valuesBelow 256 (λ b. turnAt m d fs b)
 
 same-token : (t : Token) (d : ℕ) (fs : List Bool) → Same (m-token t) d fs
 unfolding actAt cell kindOf

@@ -10,7 +10,7 @@ use native.Mathlib.Nat.{eq-or-lt-of-le}
 use lib.ListN.{length, take, drop, take-append-drop}
 use lib.Seq.{take-take, take-length}
 use Rattle.octets.proofs.Over.{le-or-lt}
-use Rattle.json.specs.Verdict.{IsText, CanBegin, FirstFault, IsVerdict}
+use Rattle.json.specs.Verdict.{IsText, CanBegin, FaultsFirstAt, IsVerdict}
 use Rattle.json.specs.declared.JsonVerdict.{JsonVerdict}
 use Rattle.json.specs.declared.JsonVerdict.the-variants.{Text, Fault}
 use Rattle.json_machine.specs.Machine.{jsonVerdict}
@@ -28,17 +28,17 @@ begins-with n p (t, i) =
 
 module _ (s : List ℕ) where
   -- the place is the first such: no byte before it is at fault
-  pub none-before : (p : ℕ) → FirstFault s p → (q : ℕ) → q ≤ p → CanBegin (take q s)
+  pub none-before : (p : ℕ) → FaultsFirstAt s p → (q : ℕ) → q ≤ p → CanBegin (take q s)
   none-before p f q h = subst (λ (l : List ℕ). CanBegin l) (take-take q p s h) (begins-with q (take p s) (f .before))
 
   -- where the place is the end, the bytes only stop early: a text can go on from them
-  pub stops-early : FirstFault s (length s) → CanBegin s
+  pub stops-early : FaultsFirstAt s (length s) → CanBegin s
   stops-early f = subst (λ (l : List ℕ). CanBegin l) (take-length s) (f .before)
 
-  not-less : (p q : ℕ) → FirstFault s p → FirstFault s q → p < q → ⊥
+  not-less : (p q : ℕ) → FaultsFirstAt s p → FaultsFirstAt s q → p < q → ⊥
   not-less p q f g h = let w = g .within in f .there (omega arith) (none-before q g (suc p) h)
 
-  same-place : (p q : ℕ) → FirstFault s p → FirstFault s q → p ≡ q
+  same-place : (p q : ℕ) → FaultsFirstAt s p → FaultsFirstAt s q → p ≡ q
   same-place p q f g =
       ⊎-elim
       (λ (h : p ≤ q). ⊎-elim (λ (e : p ≡ q). e) (λ (l : p < q). absurd (not-less p q f g l)) (eq-or-lt-of-le h))
@@ -70,5 +70,5 @@ module _ (s : List ℕ) where
   accepted-exactly-when = (is-verdict Text, verdict-is Text)
 
   -- otherwise the place is that of the first fault
-  pub place-exactly-when : (p : ℕ) → (jsonVerdict s ≡ Fault p → FirstFault s p) × (FirstFault s p → jsonVerdict s ≡ Fault p)
+  pub place-exactly-when : (p : ℕ) → (jsonVerdict s ≡ Fault p → FaultsFirstAt s p) × (FaultsFirstAt s p → jsonVerdict s ≡ Fault p)
   place-exactly-when p = (is-verdict (Fault p), verdict-is (Fault p))

@@ -9,6 +9,7 @@ use native.Mathlib.Omega.{arith}
 use lib.Dec.{eqb}
 use lib.ListN.{length}
 use borrow.Author.Tests.{lt-ltb, le-ltb, ne-eqb}
+use Rattle.octets.proofs.Lists.{each-below}
 use Rattle.octets.proofs.Logic.{both-none}
 use Rattle.json.specs.Verdict.{depthLimit}
 use Rattle.json_machine.specs.Machine.{faultEntry, afterOf, entryOf, actOf, Kind, goes, stops, closes, faults, opens, kindOf, bit, turnMode, turnStack, endsOf}
@@ -18,7 +19,7 @@ use Rattle.json_machine.proofs.Modes.{Token, Str, Mode, m-value, m-after, m-fir
 use Rattle.json_machine.proofs.Modes as T
 use Rattle.json_machine.proofs.Step.{Next, refused, at, step, still, modeNumber, frames, afterNumber}
 use Rattle.json_machine.proofs.Within.{class-past, step-past}
-use Rattle.json_laws.proofs.Coded.{stackOf, stack-pos, stack-after, stack-up, stack-full, stack-room, entry-cell, after-below, number-below, Spot, stopped, impossible, spot, spotOf, turnSpot, does, turnAt, each, coded-same}
+use Rattle.json_laws.proofs.Coded.{stackOf, stack-pos, stack-after, stack-up, stack-full, stack-room, entry-cell, after-below, number-below, Spot, stopped, impossible, spot, spotOf, turnSpot, does, turnAt, coded-same}
 
 abbrev pub CodedSpot : Spot → ℕ → ℕ → Type 0
 CodedSpot stopped mo st = mo ≡ faultEntry
@@ -58,7 +59,7 @@ Onward n a st = Coded n (turnMode (kindOf a) a st) (turnStack (kindOf a) st)
 
 onward-below : (m : Mode) (d : ℕ) (fs : List Bool) (b : ℕ) → b < 256 → (mo st : ℕ) → Coded (at m d fs) mo st → Onward (step m d fs b) (actOf mo st b) st
 onward-below m d fs b l mo st (p, q, h) =
-    let e = each (λ b. spotOf (step m d fs b)) (λ b. turnAt m d fs b) 256 (coded-same m d fs) b l in
+    let e = each-below impossible (λ b. spotOf (step m d fs b)) (λ b. turnAt m d fs b) 256 (coded-same m d fs) b l in
     let a = does (modeNumber m fs) (frames m fs) b in
     let t = turned (step m d fs b) a (kindOf a) d (frames m fs) h e in
     let S = stackOf (frames m fs) in

@@ -9,7 +9,7 @@ use borrow.Author.Tests.{eqb-true, eqb-false}
 use lib.Dec.{eqb}
 use lib.ListN.{length, take, drop, take-append-drop, length-append}
 use lib.Seq.{take-at}
-use Rattle.json.specs.Verdict.{IsText, CanBegin, FirstFault, IsVerdict}
+use Rattle.json.specs.Verdict.{IsText, CanBegin, FaultsFirstAt, IsVerdict}
 use Rattle.json.specs.declared.JsonVerdict.{JsonVerdict}
 use Rattle.json.specs.declared.JsonVerdict.the-variants.{Text, Fault}
 use Rattle.octets.specs.Logic.{choose}
@@ -89,7 +89,7 @@ module _ (p : List ℕ) (mo st : ℕ) (small : mo < faultEntry) (coded : Coded (
     coded-more =
         subst (λ (n : Next). Onward n (actOf mo st b) st) (sym (run-append p begin (b ∷ []))) (coded-turn (runOver begin p) mo st b small coded)
 
-    right-fault : turnMode (kindOf (actOf mo st b)) (actOf mo st b) st ≡ faultEntry → FirstFault (p ++ (b ∷ t)) (length p)
+    right-fault : turnMode (kindOf (actOf mo st b)) (actOf mo st b) st ≡ faultEntry → FaultsFirstAt (p ++ (b ∷ t)) (length p)
     right-fault e =
         let no : CanBegin more → ⊥ = cannot-begin more (coded-refused (runOver begin more) _ _ coded-more e) in
         let cut : take (suc (length p)) (p ++ (b ∷ t)) ≡ more =

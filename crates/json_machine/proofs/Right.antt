@@ -1,32 +1,17 @@
 -- What may still come after a byte is what the table says: antt computes both for each mode and byte.
 -- Assumes nothing.
-use Prim.Native.Nat.{ℕ, zero, suc, _<_}
-use mathlib.Core.Path.{_≡_, refl, ap, sym, subst}
+use Prim.Native.Nat.{ℕ, zero, suc}
+use mathlib.Core.Path.{_≡_, refl}
 use mathlib.Core.Bool.{Bool, true, false}
-use mathlib.Core.List.{List, [], _∷_, headD, tail}
-use mathlib.Core.Logic.{⊎-elim}
-use native.Mathlib.Nat.{not-suc-le-zero, le-of-suc-le-suc, eq-or-lt-of-le}
-use Rattle.json.specs.Abnf.{Abnf}
+use mathlib.Core.List.{List, [], _∷_}
+use Rattle.octets.proofs.Lists.{valuesBelow}
 use Rattle.json_machine.proofs.Derive.{rests}
 use Rattle.json_machine.proofs.Modes.{Token, Str, Mode, m-value, m-after, m-firstItem, m-firstMember, m-key, m-colon, m-token, m-string, m-name}
 use Rattle.json_machine.proofs.Modes as T
 use Rattle.json_machine.proofs.Step.{actAt, still, step, stills}
 
-abbrev pub all : ℕ → (ℕ → List (List Abnf)) → List (List (List Abnf))
-all zero f = []
-all (suc n) f = f n ∷ all n f
-
-pub each : (f g : ℕ → List (List Abnf)) (n : ℕ) → all n f ≡ all n g → (b : ℕ) → b < n → f b ≡ g b
-unfolding headD
-each f g zero e b h = absurd (not-suc-le-zero h)
-each f g (suc n) e b h =
-    ⊎-elim
-    (λ (q : b ≡ n). subst (λ (m : ℕ). f m ≡ g m) (sym q) (ap (λ (l : List (List (List Abnf))). headD l []) e))
-    (λ (q : b < n). each f g n (ap tail e) b q)
-    (eq-or-lt-of-le (le-of-suc-le-suc h))
-
 abbrev pub Right : Mode → ℕ → List Bool → Type 0
-Right m d fs = all 256 (λ b. rests b (still m d fs)) ≡ all 256 (λ b. stills (step m d fs b))
+Right m d fs = valuesBelow 256 (λ b. rests b (still m d fs)) ≡ valuesBelow 256 (λ b. stills (step m d fs b))
 
 right-token : (t : Token) (d : ℕ) (fs : List Bool) → Right (m-token t) d fs
 unfolding actAt

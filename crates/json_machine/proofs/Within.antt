@@ -11,6 +11,7 @@ use borrow.Author.Tests.{lt-leb, ltb-true}
 use lib.Dec.{ltb, leb}
 use lib.ListN.{getD, List·getD-eq-default}
 use Rattle.octets.proofs.Logic.{both-true, both-none}
+use Rattle.octets.proofs.Lists.{each-below}
 use Rattle.octets.proofs.Over.{le-or-lt}
 use Rattle.json.specs.Abnf.{Abnf, range, _·_, _or_, empty, many}
 use Rattle.json_machine.specs.Table.{classes}
@@ -20,7 +21,7 @@ use Rattle.json_machine.proofs.Plain.{plainValue}
 use Rattle.json_machine.proofs.Modes.{Token, Str, Mode, m-value, m-after, m-firstItem, m-firstMember, m-key, m-colon, m-token, m-string, m-name, Act}
 use Rattle.json_machine.proofs.Modes as T
 use Rattle.json_machine.proofs.Step.{still, step, stills, act, actAt, modeNumber, frames, afterNumber, afterValue, colon, token, str, refused}
-use Rattle.json_machine.proofs.Right.{each, right}
+use Rattle.json_machine.proofs.Right.{right}
 
 -- each range is one of 1 to 255
 abbrev within : Abnf → Bool
@@ -132,7 +133,7 @@ module _ (m : Mode) (d : ℕ) (fs : List Bool) where
       ap₂ (λ (x y : Act). act x d (frames m fs) (act y d (frames m fs) refused)) (row-past (modeNumber m fs) b h) (row-past (afterNumber (frames m fs)) b h)
 
   below : (b : ℕ) → b < 256 → rests b (still m d fs) ≡ stills (step m d fs b)
-  below b l = each (λ b. rests b (still m d fs)) (λ b. stills (step m d fs b)) 256 (right m d fs) b l
+  below b l = each-below [] (λ b. rests b (still m d fs)) (λ b. stills (step m d fs b)) 256 (right m d fs) b l
 
   past : (b : ℕ) → 256 ≤ b → rests b (still m d fs) ≡ stills (step m d fs b)
   past b h =

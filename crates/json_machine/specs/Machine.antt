@@ -10,7 +10,8 @@ use Rattle.octets.specs.Logic.{both, either, choose}
 use Rattle.json.specs.Verdict.{depthLimit}
 use Rattle.json.specs.declared.JsonVerdict.{JsonVerdict}
 use Rattle.json.specs.declared.JsonVerdict.the-variants.{Text, Fault}
-use Rattle.json_machine.specs.Table.{classes, rows, joined}
+use Rattle.octets.specs.Lists.{joined}
+use Rattle.json_machine.specs.Table.{classes, rows}
 
 -- the modes of the tables that are named here: before a value, where an array begins (and an object: one more), after a value with nothing open, in an array and in an
 -- object, and in a number that may end

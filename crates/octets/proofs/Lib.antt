@@ -4,3 +4,4 @@ pub mod Fields
 pub mod Logic
 pub mod Lists
 pub mod Same
+pub mod Each

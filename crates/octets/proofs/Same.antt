@@ -4,17 +4,16 @@ use Prim.Native.Nat.{ℕ}
 use mathlib.Core.Bool.{Bool, true, false}
 use mathlib.Core.Path.{_≡_, refl, sym, ap₂}
 use mathlib.Core.List.{List, [], _∷_}
-use native.Mathlib.Omega.{arith}
 use borrow.Author.Tests.{eqb-true, eq-eqb}
 use lib.Dec.{eqb}
 use Rattle.octets.specs.Same.{sameBytes}
-use Rattle.octets.proofs.Logic.{both-true}
+use Rattle.octets.proofs.Logic.{not-both, both-true}
 
 pub same-equal : (x y : List ℕ) → sameBytes x y ≡ true → x ≡ y
 unfolding sameBytes
 same-equal [] [] e = refl
-same-equal [] (b ∷ y) e = absurd (let z : _≡_ {A = ℕ} 0 1 = cc in omega arith)
-same-equal (a ∷ x) [] e = absurd (let z : _≡_ {A = ℕ} 0 1 = cc in omega arith)
+same-equal [] (b ∷ y) e = not-both e
+same-equal (a ∷ x) [] e = not-both e
 same-equal (a ∷ x) (b ∷ y) e =
     let h = both-true (eqb a b) (sameBytes x y) e in
     ap₂ (λ (u : ℕ) (v : List ℕ). u ∷ v) (eqb-true a b (h .0)) (same-equal x y (h .1))
@@ -38,4 +37,4 @@ not-same x y differ = by (sameBytes x y) refl
 -- an answer that is true exactly when the two are equal is the test
 pub is-same : (r : Bool) (x y : List ℕ) → (r ≡ true → x ≡ y) → (x ≡ y → r ≡ true) → r ≡ sameBytes x y
 is-same true x y f g = sym (equal-same x y (f refl))
-is-same false x y f g = sym (not-same x y (λ e. let h = g e in let z : _≡_ {A = ℕ} 0 1 = cc in omega arith))
+is-same false x y f g = sym (not-same x y (λ e. not-both (g e)))

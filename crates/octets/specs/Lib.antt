@@ -1,4 +1,5 @@
 pub mod Logic
+pub mod Lists
 pub mod Bytes
 pub mod Over
 pub mod ByteOrder

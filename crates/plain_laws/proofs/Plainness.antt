@@ -17,14 +17,14 @@ use Rattle.eif.specs.declared.Plan.{Plan}
 use Rattle.eif.specs.declared.Verdict.the-variants.{Accepted}
 use Rattle.eif_lemmas.proofs.Types.{order-same, missing-same}
 use Rattle.eif_lemmas.proofs.Table.{filled-past}
-use Rattle.eif_lemmas.proofs.Accept.{none-missing-of, order-at}
+use Rattle.eif_lemmas.proofs.Accept.{none-missing-of, order-at, sound-at}
 use Rattle.plain_laws.proofs.Shape.{packed-suc, packed-zero}
 use Rattle.plain_laws.proofs.PlanRules.{Planned, →planned}
 use Rattle.plain_laws.specs.RoundTrip.{Fits}
 use Rattle.plain_laws.proofs.Written.{read-count, offset-entry, size-entry, read-reserved, read-reserved-after}
 use Rattle.plain_laws.proofs.ReadBack.{plain-accepted}
 use Rattle.plain_laws.proofs.Joined.{bytes-joined, length-joined}
-use Rattle.plain_laws.proofs.WriteBack.{plan, piece, given, head, entry, place-is, kind-is, size-is, length-piece-is}
+use Rattle.plain_laws.proofs.WriteBack.{plan, piece, given, head, place-is, kind-is, size-is, length-piece-is}
 
 -- ---- what is written is plain
 
@@ -57,14 +57,14 @@ module _ (s : List ℕ) (ok : verdictOf s ≡ Accepted) where
   start-le zero h = let z = packed-zero places in omega arith
   start-le (suc i) h =
       let r = start-le i (omega arith) in
-      let b = entry s ok i h .starts in
+      let b = sound-at s ok i h .starts in
       let z = size-is s ok i h in
       let q = packed-suc places i in
       omega arith
 
   pub start-inside : (n : ℕ) → countOf s ≡ n → startAt s n ≤ length s
   start-inside zero e = head s ok .whole
-  start-inside (suc n) e = entry s ok n (omega arith) .ends
+  start-inside (suc n) e = sound-at s ok n (omega arith) .ends
 
   pub plan-planned : Planned (plan s) (length (given s))
   plan-planned =
@@ -76,7 +76,7 @@ module _ (s : List ℕ) (ok : verdictOf s ≡ Accepted) where
         high = h .high;
         some = h .some;
         few = h .few;
-        allowed = λ i q. ap (allowedIn (versionOf s)) (kind-is s ok i q) ∙ entry s ok i q .known;
+        allowed = λ i q. ap (allowedIn (versionOf s)) (kind-is s ok i q) ∙ sound-at s ok i q .known;
         order = λ i q.
             ap (λ (k : ℕ). orderFault (plannedKind places) k i) (kind-is s ok i q)
             ∙ order-same (plannedKind places) (kindAt s) (kindAt s i) i (λ j g. kind-is s ok j (omega arith)) ∙ order-at s ok i q;

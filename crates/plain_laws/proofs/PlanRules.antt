@@ -33,7 +33,7 @@ pub record Planned (p : Plan) (given : ℕ) : Type 0 where
 module _ (version : ℕ) (l : List Place) (i : ℕ) where
   place-zero : typeFault version (plannedKind l) i ≡ 0 → (allowedIn version (plannedKind l i) ≡ true) × (orderFault (plannedKind l) (plannedKind l i) i ≡ 0)
   unfolding typeFault
-  place-zero e = let a = choose-zero (not (allowedIn version (plannedKind l i))) 8 _ e in (not-false _ (a .0), a .1)
+  place-zero e = let a = choose-zero (not (allowedIn version (plannedKind l i))) _ _ e in (not-false _ (a .0), a .1)
 
   zero-place : allowedIn version (plannedKind l i) ≡ true → orderFault (plannedKind l) (plannedKind l i) i ≡ 0 → typeFault version (plannedKind l) i ≡ 0
   unfolding typeFault
@@ -55,9 +55,9 @@ module _ (p : Plan) (given : ℕ) where
       let b = then-accepted _ _ (a .1) in
       let f = fields (p .version) (p .count) (whole-zero _ (a .0)) in
       let w = whole-zero _ (b .1) in
-      let x = choose-zero (missing (plannedKind l) (p .version) (p .count)) 11 _ w in
-      let y = choose-zero (ltb sizeLimit (plainSize p)) 0 _ (x .1) in
-      let z = choose-zero (not (eqb given (dataBefore l (p .count)))) 14 _ (y .1) in
+      let x = choose-zero (missing (plannedKind l) (p .version) (p .count)) _ _ w in
+      let y = choose-zero (ltb sizeLimit (plainSize p)) _ _ (x .1) in
+      let z = choose-zero (not (eqb given (dataBefore l (p .count)))) _ _ (y .1) in
       record {
         low = f .low;
         high = f .high;

@@ -11,7 +11,7 @@ use Rattle.octets.specs.Bytes.{AreBytes}
 use Rattle.eif.specs.Numbers.{placeCount}
 use Rattle.eif.specs.Rules.{allowedIn, orderFault, missing}
 use Rattle.eif.specs.Table.{filled}
-use Rattle.eif.specs.Layout.{viewOf, architecture, versionOf, countOf, startAt, kindAt}
+use Rattle.eif.specs.Layout.{viewOf, architecture, versionOf, countOf, startAt, kindAt, sectionHeaderSize}
 use Rattle.eif.specs.Reading.{entryFault, hasTail, checksumOf, verdictOf, sectionAt, blankSection, sectionsOf, markOf, readImage}
 use Rattle.eif.specs.Plan.{plannedKind, packedAt, plainSize, plainImage}
 use Rattle.eif.specs.declared.Place.{Place}
@@ -105,7 +105,7 @@ module _ (p : Plan) (d : List ℕ) (a : Planned p (length d)) where
       section-back i h =
           let k = read-kind p d a i h in
           let f = read-section-flags p d a i h (c .section-flags i h) in
-          let o = ap (λ (x : ℕ). x + 12) (read-offset p d a i h) in
+          let o = ap (λ (x : ℕ). x + sectionHeaderSize) (read-offset p d a i h) in
           let z = read-size p d a i h in
           λ t. record { kind = k t; flags = f t; position = record { 0 = o t }; length = record { 0 = z t } }
 

@@ -7,14 +7,14 @@ use mathlib.Core.List.{List, _++_}
 use native.Mathlib.Omega.{arith}
 use lib.Dec.{ltb, eqb}
 use lib.ListN.{take, drop}
-use Rattle.octets.specs.Bytes.{beBytes}
+use Rattle.octets.specs.Bytes.{beBytes, beBytesEach}
 use Rattle.crc32.specs.Crc.{crc32}
 use Rattle.eif.specs.Numbers.{sizeLimit, placeCount, imageTooLong, typeNotAllowed, sectionMissing, dataLengthDiffers}
 use Rattle.octets.specs.Logic.{choose}
 use Rattle.eif.specs.Answers.{wholeVerdict}
 use Rattle.eif.specs.Rules.{typeFault, allowedIn, orderFault, missing, firstFault, fieldFault}
-use Rattle.eif.specs.Layout.{magicNumber, sectionHeaderSize}
-use Rattle.eif.specs.Plan.{entries, placeAt, plannedKind, plannedSize, packedAt, dataBefore, plainSize, sizeFault, planFault, planVerdict, fixedFields, offsetTable, sizeTable, headerBytes, pieceAt, sectionHeader, sectionBytes, bodyBytes, plainImage}
+use Rattle.eif.specs.Layout.{magicNumber, sectionHeaderSize, entrySize}
+use Rattle.eif.specs.Plan.{placeAt, plannedKind, plannedSize, packedAt, dataBefore, plainSize, sizeFault, planFault, planVerdict, fixedFields, offsetTable, sizeTable, headerBytes, pieceAt, sectionHeader, sectionBytes, bodyBytes, plainImage}
 use Rattle.eif.specs.declared.Place.{Place}
 use Rattle.eif.specs.declared.Plan.{Plan}
 use Rattle.plain_laws.specs.Packed.{SamePlan}
@@ -43,11 +43,11 @@ module _ (l m : List Place) (count : ℕ) (same : (i : ℕ) → i < count → pl
 
   offsets-same : offsetTable l count ≡ offsetTable m count
   unfolding offsetTable
-  offsets-same = ap entries (filled-same (packedAt l) (packedAt m) 0 placeCount count (λ i h. packed-same i (omega arith)))
+  offsets-same = ap (beBytesEach entrySize) (filled-same (packedAt l) (packedAt m) 0 placeCount count (λ i h. packed-same i (omega arith)))
 
   sizes-same : sizeTable l count ≡ sizeTable m count
   unfolding sizeTable
-  sizes-same = ap entries (filled-same (plannedSize l) (plannedSize m) 0 placeCount count size-same)
+  sizes-same = ap (beBytesEach entrySize) (filled-same (plannedSize l) (plannedSize m) 0 placeCount count size-same)
 
   piece-same : (d : List ℕ) (i : ℕ) → i < count → pieceAt l d i ≡ pieceAt m d i
   piece-same d i h = ap₂ (λ (n b : ℕ). take n (drop b d)) (size-same i h) (before-same i (omega arith))

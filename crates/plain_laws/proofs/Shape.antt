@@ -8,17 +8,18 @@ use native.Mathlib.Omega.{arith}
 use native.Mathlib.Nat.{add-zero, sub-zero, eq-or-lt-of-le}
 use lib.ListN.{length, take, drop, length-append, length-take, length-drop}
 use lib.Seq.{take-at, drop-at, drop-drop}
-use Rattle.octets.specs.Bytes.{AreBytes, beBytes}
+use Rattle.octets.proofs.Each.{length-each, bytes-each}
+use Rattle.octets.specs.Bytes.{AreBytes, beBytes, beBytesEach}
 use Rattle.octets.proofs.Value.{bytes-append, bytes-take, bytes-drop}
 use Rattle.crc32.specs.Crc.{crc32}
 use Rattle.eif.specs.Numbers.{placeCount}
 use Rattle.eif.specs.Table.{filled}
-use Rattle.eif.specs.Layout.{magicNumber, headerSize, sectionHeaderSize, checksumAt, offsetsAt}
-use Rattle.eif.specs.Plan.{entries, placeAt, plannedSize, packedAt, dataBefore, plainSize, pieceAt, fixedFields, offsetTable, sizeTable, headerBytes, sectionHeader, sectionBytes, bodyBytes, plainImage}
+use Rattle.eif.specs.Layout.{magicNumber, headerSize, sectionHeaderSize, checksumAt, offsetsAt, entrySize}
+use Rattle.eif.specs.Plan.{placeAt, plannedSize, packedAt, dataBefore, plainSize, pieceAt, fixedFields, offsetTable, sizeTable, headerBytes, sectionHeader, sectionBytes, bodyBytes, plainImage}
 use Rattle.eif.specs.declared.Plan.{Plan}
 use Rattle.eif.specs.declared.Place.{Place}
 use Rattle.eif_lemmas.proofs.Table.{length-filled}
-use Rattle.plain_laws.proofs.Fields.{Bytes, be, join, length-entries, bytes-entries}
+use Rattle.plain_laws.proofs.Fields.{Bytes, be, join}
 
 -- ---- positions grow with the place
 
@@ -60,11 +61,11 @@ module _ (l : List Place) where
 module _ (l : List Place) (count : ℕ) where
   pub length-offsets : length (offsetTable l count) ≡ 256
   unfolding offsetTable
-  length-offsets = length-entries (filled (packedAt l) 0 placeCount count) ∙ ap (λ (n : ℕ). 8 * n) (length-filled (packedAt l) 0 placeCount count)
+  length-offsets = length-each entrySize (filled (packedAt l) 0 placeCount count) ∙ ap (λ (n : ℕ). entrySize * n) (length-filled (packedAt l) 0 placeCount count)
 
   pub length-sizes : length (sizeTable l count) ≡ 256
   unfolding sizeTable
-  length-sizes = length-entries (filled (plannedSize l) 0 placeCount count) ∙ ap (λ (n : ℕ). 8 * n) (length-filled (plannedSize l) 0 placeCount count)
+  length-sizes = length-each entrySize (filled (plannedSize l) 0 placeCount count) ∙ ap (λ (n : ℕ). entrySize * n) (length-filled (plannedSize l) 0 placeCount count)
 
 module _ (p : Plan) where
   pub length-fixed : length (fixedFields p) ≡ offsetsAt
@@ -87,8 +88,8 @@ module _ (p : Plan) where
       (join (be 4 magicNumber) (join (be 2 (p .version)) (join (be 2 (p .flags)) (join (be 8 (p .«default_mem»)) (join (be 8 (p .«default_cpus»)) (join (be 2 0) (be 2 (p .count))))))))
       (join (table (filled (packedAt (p .places)) 0 placeCount (p .count))) (join (table (filled (plannedSize (p .places)) 0 placeCount (p .count))) (be 4 0))) .are
     where
-      table : (l : List ℕ) → Bytes (entries l)
-      table l = record { are = bytes-entries l }
+      table : (l : List ℕ) → Bytes (beBytesEach entrySize l)
+      table l = record { are = bytes-each entrySize l }
 
 -- ---- the sections
 
@@ -179,7 +180,7 @@ module _ (p : Plan) (d : List ℕ) where
         let x : List ℕ = pieceAt l d i ++ sectionBytes l d (p .count - suc i) (suc i) in
         let f : drop (packedAt l i) s ≡ sectionHeader (placeAt l i) ++ x = e ∙ ap (λ (m : ℕ). sectionBytes l d m i) n ∙ section-suc l d (p .count - suc i) i in
         ap (λ (m : ℕ). drop m s) (packed-suc l i)
-        ∙ sym (drop-drop (plannedSize l i) (packedAt l i + 12) s)
+        ∙ sym (drop-drop (plannedSize l i) (packedAt l i + sectionHeaderSize) s)
         ∙ ap (drop (plannedSize l i)) (sym (drop-drop 12 (packedAt l i) s) ∙ ap (drop 12) f ∙ drop-at (sectionHeader (placeAt l i)) x 12 (length-sectionHeader (placeAt l i)))
         ∙ drop-at (pieceAt l d i) (sectionBytes l d (p .count - suc i) (suc i)) (plannedSize l i) (length-piece l d (p .count) sized i h)
 

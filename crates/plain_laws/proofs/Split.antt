@@ -6,9 +6,9 @@ use mathlib.Core.List.{List, _∷_, _++_, append-assoc}
 use native.Mathlib.Omega.{arith}
 use lib.ListN.{length, take, drop, take-append-drop}
 use lib.Seq.{drop-drop}
-use Rattle.octets.specs.Bytes.{AreBytes, beValue, beBytes, field, leValue, leBytes, leField}
+use Rattle.eif.specs.Layout.{entrySize}
+use Rattle.octets.specs.Bytes.{AreBytes, beValue, beBytes, field, leValue, leBytes, leField, beBytesEach}
 use Rattle.eif.specs.Table.{filled}
-use Rattle.eif.specs.Plan.{entries}
 use Rattle.octets.proofs.Value.{beBytes-beValue, leBytes-leValue, field-length, bytes-take, bytes-drop}
 use Rattle.eif_lemmas.proofs.Table.{filled-none}
 
@@ -37,19 +37,19 @@ module _ (s : List ℕ) (w : AreBytes s) where
       (sym (leBytes-leValue b (bytes-take k (drop at s) (bytes-drop at s w))) ∙ ap (λ (n : ℕ). leBytes n (leValue b)) (field-length k at s h))
       (drop-drop k at s)
 
-  pub table-split : (n at : ℕ) (g : ℕ → ℕ) → ((i : ℕ) → i < n → field 8 (at + 8 * i) s ≡ g i) → at + 8 * n ≤ length s
-      → drop at s ≡ entries (filled g 0 n n) ++ drop (at + 8 * n) s
-  table-split zero at g e h = let z : at ≡ at + 8 * 0 = omega arith in ap (λ (m : ℕ). drop m s) z
+  pub table-split : (n at : ℕ) (g : ℕ → ℕ) → ((i : ℕ) → i < n → field entrySize (at + entrySize * i) s ≡ g i) → at + entrySize * n ≤ length s
+      → drop at s ≡ beBytesEach entrySize (filled g 0 n n) ++ drop (at + entrySize * n) s
+  table-split zero at g e h = let z : at ≡ at + entrySize * 0 = omega arith in ap (λ (m : ℕ). drop m s) z
   table-split (suc n) at g e h =
-      let y : at ≡ at + 8 * 0 = omega arith in
-      let z : field 8 at s ≡ g 0 = ap (λ (m : ℕ). field 8 m s) y ∙ e 0 (omega arith) in
-      let q : at + 8 + 8 * n ≡ at + 8 * suc n = omega arith in
-      split 8 (g 0) at z (omega arith)
-      ∙ ap (λ (l : List ℕ). beBytes 8 (g 0) ++ l)
-      (table-split n (at + 8) (λ i. g (suc i))
-      (λ i l. let r : at + 8 + 8 * i ≡ at + 8 * suc i = omega arith in ap (λ (m : ℕ). field 8 m s) r ∙ e (suc i) (omega arith)) (omega arith)
-      ∙ ap (λ (m : ℕ). entries (filled (λ i. g (suc i)) 0 n n) ++ drop m s) q)
-      ∙ sym (append-assoc (beBytes 8 (g 0)) (entries (filled (λ i. g (suc i)) 0 n n)) (drop (at + 8 * suc n) s))
+      let y : at ≡ at + entrySize * 0 = omega arith in
+      let z : field entrySize at s ≡ g 0 = ap (λ (m : ℕ). field entrySize m s) y ∙ e 0 (omega arith) in
+      let q : at + entrySize + entrySize * n ≡ at + entrySize * suc n = omega arith in
+      split entrySize (g 0) at z (omega arith)
+      ∙ ap (λ (l : List ℕ). beBytes entrySize (g 0) ++ l)
+      (table-split n (at + entrySize) (λ i. g (suc i))
+      (λ i l. let r : at + entrySize + entrySize * i ≡ at + entrySize * suc i = omega arith in ap (λ (m : ℕ). field entrySize m s) r ∙ e (suc i) (omega arith)) (omega arith)
+      ∙ ap (λ (m : ℕ). beBytesEach entrySize (filled (λ i. g (suc i)) 0 n n) ++ drop m s) q)
+      ∙ sym (append-assoc (beBytes entrySize (g 0)) (beBytesEach entrySize (filled (λ i. g (suc i)) 0 n n)) (drop (at + entrySize * suc n) s))
 
 -- a table whose other places are zero
 pub filled-full : (f g : ℕ → ℕ) (m n : ℕ) → n ≤ m → ((i : ℕ) → i < n → g i ≡ f i) → ((i : ℕ) → n ≤ i → i < m → g i ≡ 0) → filled g 0 m m ≡ filled f 0 m n

@@ -7,18 +7,18 @@ use native.Mathlib.Omega.{arith}
 use lib.ListN.{length, take, drop, getD, take-append-drop, length-take, length-drop, List·getD-map}
 use lib.Seq.{take-at, drop-drop, drop-length}
 use Rattle.eif.specs.Table.{joinFrom}
-use Rattle.octets.specs.Bytes.{AreBytes, beBytes, field}
+use Rattle.octets.specs.Bytes.{AreBytes, beBytes, field, beBytesEach}
 use Rattle.crc32.specs.Crc.{crc32}
 use Rattle.eif.specs.Numbers.{placeCount}
-use Rattle.eif.specs.Layout.{magicNumber, headerSize, sectionHeaderSize, checksumAt, viewOf, headerFlags, defaultMem, defaultCpus, checksum, versionOf, countOf, offsetAt, sizeAt, startAt, kindAt, flagsAt, offsetsAt, reservedAfterAt, sizesAt}
+use Rattle.eif.specs.Layout.{magicNumber, headerSize, sectionHeaderSize, checksumAt, viewOf, headerFlags, defaultMem, defaultCpus, checksum, versionOf, countOf, offsetAt, sizeAt, startAt, kindAt, flagsAt, offsetsAt, reservedAfterAt, sizesAt, entrySize}
 use Rattle.eif.specs.Reading.{checksumOf, verdictOf, sectionAt, blankSection, sectionsOf, readingOf, dataOf}
-use Rattle.eif.specs.Plan.{entries, placeAt, plannedKind, plannedSize, packedAt, pieceAt, fixedFields, offsetTable, sizeTable, headerBytes, sectionHeader, sectionBytes, bodyBytes, plainImage, Plain, placeOf, planOf, dataJoined}
+use Rattle.eif.specs.Plan.{placeAt, plannedKind, plannedSize, packedAt, pieceAt, fixedFields, offsetTable, sizeTable, headerBytes, sectionHeader, sectionBytes, bodyBytes, plainImage, Plain, placeOf, planOf, dataJoined}
 use Rattle.eif.specs.declared.Place.{Place}
 use Rattle.eif.specs.declared.Plan.{Plan}
 use Rattle.eif.specs.declared.Verdict.the-variants.{Accepted}
 use Rattle.eif_lemmas.proofs.Table.{filled-at}
-use Rattle.eif_lemmas.proofs.View.{SoundHeader, Sound, sound-of}
-use Rattle.eif_lemmas.proofs.Accept.{passes, sum-of, file-ends}
+use Rattle.eif_lemmas.proofs.View.{SoundHeader}
+use Rattle.eif_lemmas.proofs.Accept.{passes, sum-of, file-ends, sound-at}
 use Rattle.plain_laws.proofs.Shape.{packed-suc, packed-zero, length-header}
 use Rattle.plain_laws.proofs.Split.{split, table-split, filled-full}
 use Rattle.plain_laws.proofs.Joined.{piece-is, join-same}
@@ -49,9 +49,6 @@ module _ (s : List ℕ) where
     abbrev pub head : SoundHeader (viewOf s)
     head = passes s ok .head
 
-    pub entry : (i : ℕ) → i < countOf s → Sound (viewOf s) i
-    entry i h = sound-of (viewOf s) i (passes s ok .sections i h)
-
     pub place-is : (i : ℕ) → i < countOf s → placeAt (plan .places) i ≡ placeOf (sectionAt s i)
     place-is i h =
         List·getD-map placeOf (sectionsOf s) i blankSection ∙ ap placeOf (filled-at (sectionAt s) blankSection blankSection placeCount (countOf s) i h (head .few))
@@ -63,7 +60,7 @@ module _ (s : List ℕ) where
     size-is i h = ap (λ (x : Place). x .length .0) (place-is i h)
 
     pub length-piece-is : (i : ℕ) → i < countOf s → length (piece i) ≡ plannedSize (plan .places) i
-    length-piece-is i h = let e = entry i h .ends in simp (length-take, length-drop) (omega arith) ∙ sym (size-is i h)
+    length-piece-is i h = let e = sound-at s ok i h .ends in simp (length-take, length-drop) (omega arith) ∙ sym (size-is i h)
 
     pub piece-given : (i : ℕ) → i < countOf s → pieceAt (plan .places) given i ≡ piece i
     piece-given = piece-is (plan .places) (countOf s) piece length-piece-is
@@ -98,7 +95,7 @@ module _ (s : List ℕ) (w : AreBytes s) (pl : Plain s) where
   packed-is : (i : ℕ) → i ≤ countOf s → packedAt l i ≡ startAt s i
   packed-is zero h = packed-zero l
   packed-is (suc i) h =
-      packed-suc l i ∙ ap₂ (λ (x y : ℕ). x + 12 + y) (packed-is i (omega arith) ∙ sym (entry s ok i h .starts)) (size-is s ok i h)
+      packed-suc l i ∙ ap₂ (λ (x y : ℕ). x + sectionHeaderSize + y) (packed-is i (omega arith) ∙ sym (sound-at s ok i h .starts)) (size-is s ok i h)
 
   abbrev b1 : List ℕ
   b1 = beBytes 4 magicNumber
@@ -139,15 +136,15 @@ module _ (s : List ℕ) (w : AreBytes s) (pl : Plain s) where
   offsets-split =
       let q = whole in
       table-split s w placeCount offsetsAt (offsetAt s) (λ i h. refl) (omega arith)
-      ∙ ap (λ (t : List ℕ). entries t ++ drop sizesAt s)
-      (filled-full (packedAt l) (offsetAt s) placeCount (countOf s) few (λ i h. entry s ok i h .starts ∙ sym (packed-is i (omega arith))) (pl .unused .unused-offset))
+      ∙ ap (λ (t : List ℕ). beBytesEach entrySize t ++ drop sizesAt s)
+      (filled-full (packedAt l) (offsetAt s) placeCount (countOf s) few (λ i h. sound-at s ok i h .starts ∙ sym (packed-is i (omega arith))) (pl .unused .unused-offset))
 
   sizes-split : drop sizesAt s ≡ sizeTable l (countOf s) ++ drop reservedAfterAt s
   unfolding sizeTable
   sizes-split =
       let q = whole in
       table-split s w placeCount sizesAt (sizeAt s) (λ i h. refl) (omega arith)
-      ∙ ap (λ (t : List ℕ). entries t ++ drop reservedAfterAt s)
+      ∙ ap (λ (t : List ℕ). beBytesEach entrySize t ++ drop reservedAfterAt s)
       (filled-full (plannedSize l) (sizeAt s) placeCount (countOf s) few (λ i h. sym (size-is s ok i h)) (pl .unused .unused-size))
 
   header-split : s ≡ headerBytes p ++ drop checksumAt s
@@ -164,21 +161,21 @@ module _ (s : List ℕ) (w : AreBytes s) (pl : Plain s) where
   unfolding sectionHeader
   section-split i h =
       let o : ℕ = offsetAt s i in
-      let q = entry s ok i h in
+      let q = sound-at s ok i h in
       let e = q .ends in
       let x = place-is s ok i h in
-      let z12 : o + 2 + 2 + 8 ≡ o + 12 = omega arith in
+      let z12 : o + 2 + 2 + 8 ≡ o + sectionHeaderSize = omega arith in
       let z4 : o + 2 + 2 ≡ o + 4 = omega arith in
-      ap (λ (n : ℕ). drop n s) (sym (entry s ok i h .starts))
+      ap (λ (n : ℕ). drop n s) (sym (sound-at s ok i h .starts))
       ∙ split s w 2 (kindAt s i) o refl (omega arith)
       ∙ ap (λ (r : List ℕ). beBytes 2 (kindAt s i) ++ r) (split s w 2 (flagsAt s i) (o + 2) refl (omega arith)
       ∙ ap (λ (r : List ℕ). beBytes 2 (flagsAt s i) ++ r)
       (split s w 8 (sizeAt s i) (o + 2 + 2) (ap (λ (n : ℕ). field 8 n s) z4 ∙ q .same) (omega arith)
       ∙ ap (λ (n : ℕ). beBytes 8 (sizeAt s i) ++ drop n s) z12
-      ∙ ap (λ (r : List ℕ). beBytes 8 (sizeAt s i) ++ r) (sym (take-append-drop (sizeAt s i) (drop (o + 12) s)))))
-      ∙ regroup3 (beBytes 2 (kindAt s i)) (beBytes 2 (flagsAt s i)) (beBytes 8 (sizeAt s i)) (piece s i ++ drop (sizeAt s i) (drop (o + 12) s))
+      ∙ ap (λ (r : List ℕ). beBytes 8 (sizeAt s i) ++ r) (sym (take-append-drop (sizeAt s i) (drop (o + sectionHeaderSize) s)))))
+      ∙ regroup3 (beBytes 2 (kindAt s i)) (beBytes 2 (flagsAt s i)) (beBytes 8 (sizeAt s i)) (piece s i ++ drop (sizeAt s i) (drop (o + sectionHeaderSize) s))
       ∙ ap₂ (λ (y : Place) (r : List ℕ). (beBytes 2 (y .kind) ++ (beBytes 2 (y .flags) ++ beBytes 8 (y .length .0))) ++ r) (sym x)
-      (ap₂ (λ (y r : List ℕ). y ++ r) (sym (piece-given s ok i h)) (drop-drop (sizeAt s i) (o + 12) s))
+      (ap₂ (λ (y r : List ℕ). y ++ r) (sym (piece-given s ok i h)) (drop-drop (sizeAt s i) (o + sectionHeaderSize) s))
 
   sections-split : (n i : ℕ) → i + n ≡ countOf s → drop (startAt s i) s ≡ sectionBytes l d n i
   unfolding sectionBytes

@@ -12,13 +12,13 @@ use Rattle.crc32.specs.Crc.{crc32}
 use Rattle.crc32.proofs.Bounds.{crc32-lt}
 use Rattle.eif.specs.Numbers.{sizeLimit, placeCount}
 use Rattle.eif.specs.Table.{filled}
-use Rattle.eif.specs.Layout.{magicNumber, magicAt, versionAt, headerFlagsAt, defaultMemAt, defaultCpusAt, reservedAt, countAt, offsetsAt, sizesAt, reservedAfterAt, entrySize, entryAt, viewOf, magic, headerFlags, defaultMem, defaultCpus, reserved, reservedAfter, checksum, versionOf, countOf, offsetAt, sizeAt, endAt, startAt, kindAt, flagsAt, ownSizeAt, checksumAt}
+use Rattle.eif.specs.Layout.{magicNumber, magicAt, versionAt, headerFlagsAt, defaultMemAt, defaultCpusAt, reservedAt, countAt, offsetsAt, sizesAt, reservedAfterAt, entrySize, entryAt, viewOf, magic, headerFlags, defaultMem, defaultCpus, reserved, reservedAfter, checksum, versionOf, countOf, offsetAt, sizeAt, endAt, startAt, kindAt, flagsAt, ownSizeAt, checksumAt, sectionFlagsAt, sectionHeaderSize, sectionSizeAt}
 use Rattle.eif.specs.Reading.{checksumOf}
 use Rattle.eif.specs.Plan.{placeAt, plannedKind, plannedSize, packedAt, pieceAt, fixedFields, offsetTable, sizeTable, headerBytes, sectionHeader, bodyBytes, plainImage}
 use Rattle.eif.specs.declared.Plan.{Plan}
 use Rattle.eif.specs.declared.Place.{Place}
-use Rattle.eif_lemmas.proofs.Table.{length-filled, filled-at}
-use Rattle.plain_laws.proofs.Fields.{skip, here, last, below-filled, entry-at}
+use Rattle.eif_lemmas.proofs.Table.{length-filled, filled-at, all-filled}
+use Rattle.plain_laws.proofs.Fields.{skip, here, last, entry-at}
 use Rattle.plain_laws.proofs.Shape.{packed-le, packed-suc, packed-zero, length-fixed, length-offsets, length-sizes, length-header, bytes-header, bytes-sections, length-piece, past-header, before-sum, at-section, length-sectionHeader}
 use Rattle.plain_laws.proofs.PlanRules.{Planned, allowed-small}
 
@@ -64,26 +64,26 @@ module _ (p : Plan) (r : List ℕ) where
   past-default-cpus : (w k : ℕ) → field w (8 + k) (from-default-cpus ++ r) ≡ field w k (from-reserved ++ r)
   past-default-cpus w k = skip w k 8 (beBytes 8 (p .«default_cpus»)) from-reserved r refl
 
-  fixed-magic : field 4 0 t ≡ magicNumber
+  fixed-magic : field 4 magicAt t ≡ magicNumber
   unfolding fixedFields
   fixed-magic = here 4 magicNumber from-version r (omega arith)
 
-  fixed-version : p .version < 2 ^ 16 → field 2 4 t ≡ p .version
+  fixed-version : p .version < 2 ^ 16 → field 2 versionAt t ≡ p .version
   fixed-version h = past-magic 2 0 ∙ here 2 (p .version) from-flags r h
 
-  fixed-flags : p .flags < 2 ^ 16 → field 2 6 t ≡ p .flags
+  fixed-flags : p .flags < 2 ^ 16 → field 2 headerFlagsAt t ≡ p .flags
   fixed-flags h = past-magic 2 2 ∙ past-version 2 0 ∙ here 2 (p .flags) from-default-mem r h
 
-  fixed-default-mem : p .«default_mem» < 2 ^ 64 → field 8 8 t ≡ p .«default_mem»
+  fixed-default-mem : p .«default_mem» < 2 ^ 64 → field 8 defaultMemAt t ≡ p .«default_mem»
   fixed-default-mem h = past-magic 8 4 ∙ past-version 8 2 ∙ past-flags 8 0 ∙ here 8 (p .«default_mem») from-default-cpus r h
 
-  fixed-default-cpus : p .«default_cpus» < 2 ^ 64 → field 8 16 t ≡ p .«default_cpus»
+  fixed-default-cpus : p .«default_cpus» < 2 ^ 64 → field 8 defaultCpusAt t ≡ p .«default_cpus»
   fixed-default-cpus h = past-magic 8 12 ∙ past-version 8 10 ∙ past-flags 8 8 ∙ past-default-mem 8 0 ∙ here 8 (p .«default_cpus») from-reserved r h
 
-  fixed-reserved : field 2 24 t ≡ 0
+  fixed-reserved : field 2 reservedAt t ≡ 0
   fixed-reserved = past-magic 2 20 ∙ past-version 2 18 ∙ past-flags 2 16 ∙ past-default-mem 2 8 ∙ past-default-cpus 2 0 ∙ here 2 0 from-count r (omega arith)
 
-  fixed-count : p .count < 2 ^ 16 → field 2 26 t ≡ p .count
+  fixed-count : p .count < 2 ^ 16 → field 2 countAt t ≡ p .count
   fixed-count h =
       past-magic 2 22 ∙ past-version 2 20 ∙ past-flags 2 18 ∙ past-default-mem 2 10 ∙ past-default-cpus 2 2
       ∙ skip 2 0 2 (beBytes 2 0) from-count r refl ∙ last 2 (p .count) r h
@@ -95,11 +95,11 @@ module _ (x : Place) (r : List ℕ) where
   unfolding sectionHeader
   header-kind h = here 2 (x .kind) (beBytes 2 (x .flags) ++ beBytes 8 (x .length .0)) r h
 
-  header-flags : x .flags < 2 ^ 16 → field 2 2 (sectionHeader x ++ r) ≡ x .flags
+  header-flags : x .flags < 2 ^ 16 → field 2 sectionFlagsAt (sectionHeader x ++ r) ≡ x .flags
   unfolding sectionHeader
   header-flags h = skip 2 0 2 (beBytes 2 (x .kind)) (beBytes 2 (x .flags) ++ beBytes 8 (x .length .0)) r refl ∙ here 2 (x .flags) (beBytes 8 (x .length .0)) r h
 
-  header-size : x .length .0 < 2 ^ 64 → field 8 4 (sectionHeader x ++ r) ≡ x .length .0
+  header-size : x .length .0 < 2 ^ 64 → field 8 sectionSizeAt (sectionHeader x ++ r) ≡ x .length .0
   unfolding sectionHeader
   header-size h =
       skip 8 2 2 (beBytes 2 (x .kind)) (beBytes 2 (x .flags) ++ beBytes 8 (x .length .0)) r refl
@@ -186,7 +186,7 @@ module _ (p : Plan) (d : List ℕ) (a : Planned p (length d)) where
       ap (field entrySize (entryAt offsetsAt i)) (parts p d)
       ∙ field-past entrySize (entrySize * i) offsetsAt (fixedFields p) rest (length-fixed p)
       ∙ entry-at i t (sizes p d ++ after-sizes p d) (omega arith)
-      (below-filled (256 ^ 8) (packedAt l) placeCount (p .count) (omega arith) (λ j q. let m = packed-small j (omega arith) in omega arith))
+      (all-filled (λ n. n < 256 ^ entrySize) (packedAt l) 0 placeCount (p .count) (omega arith) (λ j q. let m = packed-small j (omega arith) in omega arith))
 
   pub read-offset : (i : ℕ) → i < p .count → offsetAt image i ≡ packedAt l i
   read-offset i h = let f = a .few in offset-entry i (omega arith) ∙ filled-at (packedAt l) 0 0 placeCount (p .count) i h f
@@ -199,7 +199,7 @@ module _ (p : Plan) (d : List ℕ) (a : Planned p (length d)) where
       ap (field entrySize (entryAt sizesAt i)) (parts p d ∙ sym (append-assoc (fixedFields p) (offsets p d) (sizes p d ++ after-sizes p d)))
       ∙ field-past entrySize (entrySize * i) sizesAt (fixedFields p ++ offsets p d) (sizes p d ++ after-sizes p d) (length-to-sizes p d)
       ∙ entry-at i t (after-sizes p d) (omega arith)
-      (below-filled (256 ^ 8) (plannedSize l) placeCount (p .count) (omega arith) (λ j q. let m = size-small j q in omega arith))
+      (all-filled (λ n. n < 256 ^ entrySize) (plannedSize l) 0 placeCount (p .count) (omega arith) (λ j q. let m = size-small j q in omega arith))
 
   pub read-size : (i : ℕ) → i < p .count → sizeAt image i ≡ plannedSize l i
   read-size i h = let f = a .few in size-entry i (omega arith) ∙ filled-at (plannedSize l) 0 0 placeCount (p .count) i h f
@@ -231,20 +231,20 @@ module _ (p : Plan) (d : List ℕ) (a : Planned p (length d)) where
       ap (λ (o : ℕ). field 2 o image) z ∙ section-field 2 0 i h ∙ header-kind (placeAt l i) _ (omega arith)
 
   pub read-section-flags : (i : ℕ) → i < p .count → placeAt l i .flags < 2 ^ 16 → flagsAt image i ≡ placeAt l i .flags
-  read-section-flags i h q = section-field 2 2 i h ∙ header-flags (placeAt l i) _ q
+  read-section-flags i h q = section-field 2 sectionFlagsAt i h ∙ header-flags (placeAt l i) _ q
 
   pub read-own-size : (i : ℕ) → i < p .count → ownSizeAt image i ≡ plannedSize l i
-  read-own-size i h = let m = size-small i h in section-field 8 4 i h ∙ header-size (placeAt l i) _ (omega arith)
+  read-own-size i h = let m = size-small i h in section-field 8 sectionSizeAt i h ∙ header-size (placeAt l i) _ (omega arith)
 
   pub read-end : (i : ℕ) → i < p .count → endAt image i ≡ packedAt l (suc i)
-  read-end i h = ap₂ (λ (x y : ℕ). x + 12 + y) (read-offset i h) (read-size i h) ∙ sym (packed-suc l i)
+  read-end i h = ap₂ (λ (x y : ℕ). x + sectionHeaderSize + y) (read-offset i h) (read-size i h) ∙ sym (packed-suc l i)
 
   pub read-start : (i : ℕ) → i < p .count → startAt image i ≡ packedAt l i
   read-start zero h = sym (packed-zero l)
   read-start (suc i) h = read-end i (omega arith)
 
-  pub read-data : (i : ℕ) → i < p .count → take (plannedSize l i) (drop (packedAt l i + 12) image) ≡ pieceAt l d i
+  pub read-data : (i : ℕ) → i < p .count → take (plannedSize l i) (drop (packedAt l i + sectionHeaderSize) image) ≡ pieceAt l d i
   read-data i h =
       ap (take (plannedSize l i))
-      (sym (drop-drop 12 (packedAt l i) image) ∙ ap (drop 12) (at-section p d (a .sized) i h) ∙ drop-at (sectionHeader (placeAt l i)) _ 12 (length-sectionHeader (placeAt l i)))
+      (sym (drop-drop sectionHeaderSize (packedAt l i) image) ∙ ap (drop sectionHeaderSize) (at-section p d (a .sized) i h) ∙ drop-at (sectionHeader (placeAt l i)) _ sectionHeaderSize (length-sectionHeader (placeAt l i)))
       ∙ take-at (pieceAt l d i) _ (plannedSize l i) (length-piece l d (p .count) (a .sized) i h)

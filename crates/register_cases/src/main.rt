@@ -1,7 +1,7 @@
 // Runs the cases of the registers: a line for each image with its answer, and a line for each register in hexadecimal. First images
-// of every shape of streams, then refused ones, then the step over a reading and less than its image.
+// of every shape of streams, then refused ones, then the step over a reading and less than its image. Section types are FORMAT.md's numbers.
+use case_images::Shape;
 use eif::Header;
-use eif::Refusal;
 use eif::SectionType;
 use eif::Verdict;
 use eif_registers::Digest;
@@ -13,24 +13,11 @@ fn text(bytes: &[u8]) {
     io::write_all(libc::STDOUT_FILENO, bytes);
 }
 
-fn number(n: u64) {
-    io::print_decimal(libc::STDOUT_FILENO, n);
-}
-
-fn refusal(r: Refusal) {
-    text(b"refused ");
-    number(r.number as u64);
-    text(b" at ");
-    number(r.index);
-    text(b" byte ");
-    number(r.position);
-}
-
 fn answer(verdict: Verdict) {
-    match verdict {
-        Verdict::Accepted => text(b"accepted"),
-        Verdict::Refused(r) => refusal(r),
-    }
+    let said = case_lines::answer(verdict);
+    let bytes = said.bytes;
+    let length = said.length;
+    text(&bytes[..length]);
 }
 
 fn register(name: &[u8], bytes: [u8; DIGEST_SIZE]) {
@@ -75,131 +62,72 @@ fn step(label: &[u8], image: &[u8], size: usize) {
     register(b"  PCR2 ", second);
 }
 
-// ---- images; sections are packed, each at the end of the one before it
-
-fn put(image: &mut [u8], i: u8, at: u32, kind: u16, lent: &[u8]) {
-    case_images::put_section(image, i, at, kind, 0, lent);
-}
-
-// Kernel and command line of one byte each, for an image of so many sections; they end at 574.
-fn put_small(image: &mut [u8], count: u16) {
-    case_images::put_header(image, 2, 0, count);
-    put(image, 0, 548, SectionType::KERNEL, b"K");
-    put(image, 1, 561, SectionType::COMMAND_LINE, b"a");
-}
-
-// Kernel, command line and three ramdisks, without its checksum; 633 bytes.
-fn put_ordinary(image: &mut [u8]) {
-    case_images::put_header(image, 2, 0, 5);
-    put(image, 0, 548, SectionType::KERNEL, b"kernel");
-    put(image, 1, 566, SectionType::COMMAND_LINE, b"cmd");
-    put_ramdisks(image);
-}
-
-fn put_ramdisks(image: &mut [u8]) {
-    put(image, 2, 581, SectionType::RAMDISK, b"first");
-    put(image, 3, 598, SectionType::RAMDISK, b"second");
-    put(image, 4, 616, SectionType::RAMDISK, b"third");
-}
-
 // ---- cases
 
-// The worked example: kernel 4b, command line 61, an empty ramdisk.
-fn worked() {
-    let mut image = [0u8; 586];
-    put_small(&mut image, 3);
-    put(&mut image, 2, 574, SectionType::RAMDISK, b"");
-    case_images::put_checksum(&mut image);
-    registers(b"the worked example", &image);
+// Room for the longest image.
+const ROOM: usize = 1165;
+
+fn registers_of(label: &[u8], shape: Shape, lent: &[u8]) {
+    let mut image = [0u8; ROOM];
+    let size = case_images::put_image(&mut image, shape, lent);
+    registers(label, &image[..size]);
 }
 
-fn no_ramdisk() {
-    let mut image = [0u8; 574];
-    put_small(&mut image, 2);
-    case_images::put_checksum(&mut image);
-    registers(b"no ramdisk", &image);
+fn one_byte_each() {
+    registers_of(b"the worked example", Shape::WORKED, b"Ka");
+    registers_of(b"no ramdisk", Shape::NO_RAMDISK, b"Ka");
 }
 
-fn ordinary() {
-    let mut image = [0u8; 633];
-    put_ordinary(&mut image);
-    case_images::put_checksum(&mut image);
-    registers(b"three ramdisks", &image);
-    step(b"the step over the same", &image, 633);
-    step(b"the same, with the image cut at 600", &image, 600);
-    step(b"the same, with no image", &image, 0);
+fn in_order(image: &[u8]) {
+    registers(b"three ramdisks", image);
+    step(b"the step over the same", image, 633);
+    step(b"the same, with the image cut at 600", image, 600);
+    step(b"the same, with no image", image, 0);
 }
 
 // A kernel of a block and one byte, and ramdisks that end and start inside blocks.
 fn long_sections() {
-    let mut image = [0u8; 1165];
-    let data = [b'x'; 300];
-    case_images::put_header(&mut image, 2, 0, 4);
-    put(&mut image, 0, 548, SectionType::KERNEL, &data[..129]);
-    put(&mut image, 1, 689, SectionType::COMMAND_LINE, &data[..127]);
-    long_ramdisks(&mut image, &data);
-    case_images::put_checksum(&mut image);
-    registers(b"sections longer than a block", &image);
+    let mut lent = [b'x'; 569];
+    octets::copy(&mut lent, 256, b"first ramdisk");
+    registers_of(
+        b"sections longer than a block",
+        case_images::without_flags(2, 4, [1, 2, 3, 3, 0, 0], [129, 127, 13, 300, 0, 0]),
+        &lent,
+    );
 }
 
-fn long_ramdisks(image: &mut [u8], data_of: &[u8]) {
-    put(image, 2, 828, SectionType::RAMDISK, b"first ramdisk");
-    put(image, 3, 853, SectionType::RAMDISK, data_of);
+fn command_lines() {
+    registers_of(
+        b"command line before the kernel",
+        Shape::COMMAND_LINE_FIRST,
+        b"cmdkernelram",
+    );
+    registers_of(
+        b"command line between two ramdisks",
+        Shape::COMMAND_LINE_BETWEEN,
+        b"kernelonecmdtwo",
+    );
+    registers_of(
+        b"command line after the ramdisks",
+        Shape::COMMAND_LINE_LAST,
+        b"kernelonetwocmd",
+    );
 }
 
-// Kernel and two ramdisks, the command line at a place among them; 611 bytes.
-fn put_three(image: &mut [u8]) {
-    case_images::put_header(image, 2, 0, 4);
-    put(image, 0, 548, SectionType::KERNEL, b"kernel");
-    put(image, 1, 566, SectionType::RAMDISK, b"one");
-}
-
-fn command_line_first() {
-    let mut image = [0u8; 596];
-    case_images::put_header(&mut image, 2, 0, 3);
-    put(&mut image, 0, 548, SectionType::COMMAND_LINE, b"cmd");
-    put(&mut image, 1, 563, SectionType::KERNEL, b"kernel");
-    put(&mut image, 2, 581, SectionType::RAMDISK, b"ram");
-    case_images::put_checksum(&mut image);
-    registers(b"command line before the kernel", &image);
-}
-
-fn command_line_between() {
-    let mut image = [0u8; 611];
-    put_three(&mut image);
-    put(&mut image, 2, 581, SectionType::COMMAND_LINE, b"cmd");
-    put(&mut image, 3, 596, SectionType::RAMDISK, b"two");
-    case_images::put_checksum(&mut image);
-    registers(b"command line between two ramdisks", &image);
-}
-
-fn command_line_last() {
-    let mut image = [0u8; 611];
-    put_three(&mut image);
-    put(&mut image, 2, 581, SectionType::RAMDISK, b"two");
-    put(&mut image, 3, 596, SectionType::COMMAND_LINE, b"cmd");
-    case_images::put_checksum(&mut image);
-    registers(b"command line after the ramdisks", &image);
-}
-
-fn refused() {
-    let mut image = [0u8; 633];
-    put_ordinary(&mut image);
-    case_images::put_checksum(&mut image);
-    octets::put_be16(&mut image, Header::FLAGS_AT, 1);
-    registers(b"its checksum wrong", &image);
-    octets::put_be16(&mut image, 598, SectionType::KERNEL);
-    registers(b"a second kernel", &image);
-    registers(b"nothing", &image[..0]);
+fn refused(image: &mut [u8]) {
+    octets::put_be16(image, Header::FLAGS_AT, 1);
+    registers(b"its checksum wrong", image);
+    octets::put_be16(image, 598, SectionType::KERNEL);
+    registers(b"a second kernel", image);
+    registers(b"nothing", b"");
 }
 
 fn main() {
-    worked();
-    no_ramdisk();
-    ordinary();
+    let mut image = [0u8; 633];
+    case_images::put_image(&mut image, Shape::IN_ORDER, b"kernelcmdfirstsecondthird");
+    one_byte_each();
+    in_order(&image);
     long_sections();
-    command_line_first();
-    command_line_between();
-    command_line_last();
-    refused();
+    command_lines();
+    refused(&mut image);
 }

@@ -1,7 +1,7 @@
 -- Demand 3 (PROMISES.md): what a boot roll tells of its image. Images and rolls are byte strings where it is said; an accepted
 -- image is one whose reading is accepted. Assumes nothing.
 use Prim.Native.Nat.{ℕ, _+_, _<_, _≤_}
-use mathlib.Core.Path.{_≡_, sym, ap, ap₂, _∙_}
+use mathlib.Core.Path.{_≡_, sym, ap, subst, ap₂, _∙_}
 use mathlib.Core.Bool.{Bool}
 use mathlib.Core.Logic.{_⊎_, ⊎-elim}
 use mathlib.Core.List.{List, _++_, append-assoc, map}
@@ -31,7 +31,7 @@ use Rattle.roll_laws.proofs.Prefix.{prefix-same}
 use Rattle.roll_laws.proofs.Positions.{sizes, kinds}
 use Rattle.roll_laws.proofs.Flags.{flags-past, flags-back, read-on, flags-same}
 use Rattle.roll_laws.proofs.RollRules.{→roll}
-use Rattle.roll_laws.specs.Told.{ImageOf, ReadsList, ListOf}
+use Rattle.roll_laws.specs.Told.{ImageOf, ReadsList}
 use Rattle.roll_laws.proofs.ImageOfRoll.{image-of-roll}
 use Rattle.roll_laws.proofs.RollOfImage.{image-fit, image-few, roll-whole, shorter}
 use Rattle.roll_laws.proofs.Listing.{found-from, listing-is}
@@ -101,7 +101,7 @@ unfolding rollBytes
 flags-of-roll s w = flags-back (headerFlagsOf s) (rollOf (recordsOf s)) (field-lt 2 6 s w)
 
 -- The roll's reader gives the list of the image, said from the image's sections alone.
-pub list-of-image : (s : List ℕ) → AreBytes s → verdictOf s ≡ Accepted → ReadsList s
+pub list-of-image : (s : List ℕ) → AreBytes s → verdictOf s ≡ Accepted → ReadsList (rollBytes s) s
 list-of-image s w ok =
     record {
       reading = listing-of-roll s ok ∙ ap (λ (f : ℕ). listingOf f (recordsOf s)) (flags-of-roll s w);
@@ -109,24 +109,16 @@ list-of-image s w ok =
       found = found-in-roll s;
     }
 
-pub list-of-roll : (t : List ℕ) (i : ImageOf t) → readRoll t ≡ listingOf (headerFlagsOf (i .image)) (recordsOf (i .image))
-list-of-roll t i = ap readRoll (sym (i .roll)) ∙ list-of-image (i .image) (i .bytes) (i .accepted) .reading
+pub list-of-roll : (t : List ℕ) (i : ImageOf t) → ReadsList t (i .image)
+list-of-roll t i = subst (λ (x : List ℕ). ReadsList x (i .image)) (i .roll) (list-of-image (i .image) (i .bytes) (i .accepted))
 
--- The roll's reader gives the list of any roll it accepts.
-pub list-of-accepted : (t : List ℕ) → AreBytes t → readRoll t .verdict ≡ Accepted → ListOf t
-list-of-accepted t w ok =
-    let i = image-of-roll t w ok in
-    let l = list-of-image (i .image) (i .bytes) (i .accepted) in
-    record {
-      of = i;
-      reading = list-of-roll t i;
-      few = l .few;
-      found = ap (λ (x : List ℕ). map (foundIn x) (listFrom flagsRecordSize (recordsOf (i .image)))) (sym (i .roll)) ∙ l .found;
-    }
+-- The roll's reader gives, for any roll it accepts, the list of an accepted image whose roll it is.
+pub list-of-accepted : (t : List ℕ) → AreBytes t → readRoll t .verdict ≡ Accepted → (i : ImageOf t) × ReadsList t (i .image)
+list-of-accepted t w ok = let i = image-of-roll t w ok in (i, list-of-roll t i)
 
 -- Whatever bytes the roll's reader is handed, it accepts them exactly when they are the roll of some accepted image.
 pub accepted-exactly-when : (t : List ℕ) → AreBytes t → (readRoll t .verdict ≡ Accepted → ImageOf t) × (ImageOf t → readRoll t .verdict ≡ Accepted)
-accepted-exactly-when t w = (image-of-roll t w, λ i. ap (λ (r : RollReading). r .verdict) (list-of-roll t i))
+accepted-exactly-when t w = (image-of-roll t w, λ i. ap (λ (r : RollReading). r .verdict) (list-of-roll t i .reading))
 
 -- A roll cut short must not pass for a whole one.
 pub no-cut : (t : List ℕ) → AreBytes t → readRoll t .verdict ≡ Accepted → (n : ℕ) → n < length t → readRoll (take n t) .verdict ≡ Accepted → ⊥

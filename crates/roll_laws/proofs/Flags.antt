@@ -13,7 +13,7 @@ use Rattle.octets.specs.Bytes.{AreBytes, leBytes, leField}
 use Rattle.octets.proofs.Value.{leField-at}
 use Rattle.octets.specs.Logic.{choose}
 use Rattle.eif.specs.Answers.{refuse}
-use Rattle.eif.specs.Roll.{headOf, flagsType, flagsLength, flagsRecordSize, flagsRecord, flagsFault, rollFlags, restOf, refusedRoll, readRest, readRoll}
+use Rattle.eif.specs.Roll.{headOf, flagsType, flagsLength, flagsRecordSize, flagsRecord, flagsFault, rollFlags, restOf, refusedRoll, readRest, readRoll, recordHeadSize, recordTypeAt, recordLengthAt}
 use Rattle.eif.specs.declared.Verdict.the-variants.{Accepted}
 use Rattle.eif_lemmas.proofs.Verdicts.{never}
 use Rattle.eif_lemmas.proofs.Flags.{length-flags, flags-zero, zero-flags}
@@ -37,8 +37,8 @@ module _ (f : ℕ) (r : List ℕ) where
       zero-flags (flagsRecord f ++ r)
       (record {
         whole = omega arith;
-        kind = ap (leField 2 8) head-first ∙ head-kind flagsLength flagsType _ (omega arith);
-        size = ap (leField 8 0) head-first ∙ head-size flagsLength flagsType _ (omega arith);
+        kind = ap (leField 2 recordTypeAt) head-first ∙ head-kind flagsLength flagsType _ (omega arith);
+        size = ap (leField 8 recordLengthAt) head-first ∙ head-size flagsLength flagsType _ (omega arith);
       })
 
   pub flags-back : f < 2 ^ 16 → rollFlags (flagsRecord f ++ r) ≡ f
@@ -61,7 +61,8 @@ flags-same f g r q hf hg e = (
 
 module _ (s : List ℕ) (w : AreBytes s) where
   -- a head and what stands after it
-  pub head-split : (at : ℕ) → at + 10 ≤ length s → drop at s ≡ headOf (leField 8 at s) (leField 2 (at + 8) s) ++ drop (at + 10) s
+  pub head-split : (at : ℕ) → at + recordHeadSize ≤ length s
+      → drop at s ≡ headOf (leField 8 at s) (leField 2 (at + recordTypeAt) s) ++ drop (at + recordHeadSize) s
   unfolding headOf
   head-split at h =
       let e : at + 8 + 2 ≡ at + 10 = omega arith in

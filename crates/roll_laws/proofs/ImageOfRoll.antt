@@ -10,6 +10,7 @@ use borrow.Author.Tests.{ne-eqb, le-leb, eqb-true, not-false}
 use lib.Dec.{eqb}
 use lib.ListN.{length, take, drop, replicate, take-append-drop, length-take, length-drop}
 use lib.Seq.{drop-drop, drop-length}
+use Rattle.eif.specs.Layout.{sectionHeaderSize}
 use Rattle.octets.specs.Bytes.{AreBytes}
 use Rattle.octets.proofs.Value.{bytes-take, bytes-drop, leField-lt}
 use Rattle.eif.specs.Numbers.{placeCount, oldestVersion, kernel, commandLine, ramdisk}
@@ -124,7 +125,7 @@ module _ (f : ℕ) (f-fits : f < 2 ^ 16) (s : List ℕ) (w : AreBytes s) (n : �
 
   pub packed-is : (i : ℕ) → i ≤ n → packedAt l i ≡ sizeAsImage s i
   packed-is zero h = packed-zero l ∙ sym (first-size s)
-  packed-is (suc i) h = packed-suc l i ∙ ap₂ (λ (x y : ℕ). x + 12 + y) (packed-is i (omega arith)) (size-is i h) ∙ sym (next-size s i)
+  packed-is (suc i) h = packed-suc l i ∙ ap₂ (λ (x y : ℕ). x + sectionHeaderSize + y) (packed-is i (omega arith)) (size-is i h) ∙ sym (next-size s i)
 
   length-piece-is : (i : ℕ) → i < n → length (rollPiece s i) ≡ plannedSize l i
   length-piece-is i h =

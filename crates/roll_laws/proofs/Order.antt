@@ -8,6 +8,7 @@ use native.Mathlib.Omega.{arith}
 use borrow.Author.Tests.{ne-eqb}
 use lib.Dec.{eqb}
 use lib.ListN.{length, getD}
+use Rattle.octets.specs.Lists.{All}
 use Rattle.eif.specs.Numbers.{kernel, ramdisk, ramdiskBeforeKernel, typeRepeated}
 use Rattle.octets.specs.Logic.{choose, either}
 use Rattle.eif.specs.Rules.{seen, orderFault, bootType}
@@ -110,9 +111,8 @@ module _ (s : List ℕ) (kinds : ℕ → ℕ) where
 
 -- ---- from records to their places in a roll
 
-abbrev pub AllInRoll : List Record → Type 0
-AllInRoll [] = Unit
-AllInRoll (r ∷ rs) = (bootType (r .kind) ≡ true) × AllInRoll rs
+abbrev pub InRoll : Record → Type 0
+InRoll r = bootType (r .kind) ≡ true
 
 module _ (kinds : ℕ → ℕ) where
   -- the places from i on have the records' types
@@ -125,8 +125,9 @@ module _ (kinds : ℕ → ℕ) where
   first-type : (i : ℕ) (r : Record) (rs : List Record) → Types i (r ∷ rs) → r .kind ≡ kinds i
   first-type i r rs q = let z : i + 0 ≡ i = omega arith in sym (q 0 (omega arith)) ∙ ap kinds z
 
-  pub order-of-records : (rs : List Record) (i : ℕ) (e : List ℕ) → AllInRoll rs → Types i rs → Knows kinds i e → Ordered e rs
+  pub order-of-records : (rs : List Record) (i : ℕ) (e : List ℕ) → All InRoll rs → Types i rs → Knows kinds i e → Ordered e rs
       → (j : ℕ) → j < length rs → orderFault kinds (kinds (i + j)) (i + j) ≡ 0
+  unfolding All
   order-of-records [] i e a q k o j h = absurd (omega arith)
   order-of-records (r ∷ rs) i e a q k o zero h =
       let z : i + 0 ≡ i = omega arith in

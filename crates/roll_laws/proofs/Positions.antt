@@ -2,15 +2,17 @@
 -- Assumes nothing.
 use Prim.Native.Nat.{ℕ, zero, suc, _+_, _^_, _<_, _≤_}
 use mathlib.Core.Path.{_≡_, refl, sym, ap, _∙_}
-use mathlib.Core.List.{List, [], _∷_, _++_, append-assoc}
+use mathlib.Core.List.{List, [], _++_, append-assoc}
 use native.Mathlib.Omega.{arith}
 use lib.ListN.{length, drop, getD}
 use lib.Seq.{drop-at, drop-drop, drop-cons}
+use Rattle.eif_lemmas.proofs.Table.{all-at}
+use Rattle.octets.specs.Lists.{All}
 use Rattle.octets.specs.Bytes.{leBytes, leField}
 use Rattle.octets.proofs.Value.{leField-at, leField-drop, leField-drop0}
 use Rattle.eif.specs.Layout.{headerSize, sectionHeaderSize}
-use Rattle.eif.specs.Roll.{Record, recordHeadSize, headOf, rollOf, recordAt, recordSize, recordKind, sizeAsImage}
-use Rattle.roll_laws.proofs.Prefix.{Fit}
+use Rattle.eif.specs.Roll.{Record, recordHeadSize, headOf, rollOf, recordAt, recordSize, recordKind, sizeAsImage, recordTypeAt, recordLengthAt}
+use Rattle.roll_laws.proofs.Prefix.{Fits}
 
 -- ---- one record further
 
@@ -34,15 +36,15 @@ module _ (s : List ℕ) where
 -- ---- a record's head
 
 module _ (m k : ℕ) (y : List ℕ) where
-  pub head-size : m < 2 ^ 64 → leField 8 0 (headOf m k ++ y) ≡ m
+  pub head-size : m < 2 ^ 64 → leField 8 recordLengthAt (headOf m k ++ y) ≡ m
   unfolding headOf
   head-size h = ap (leField 8 0) (append-assoc (leBytes 8 m) (leBytes 2 k) y) ∙ leField-at 8 m 0 [] (leBytes 2 k ++ y) refl h
 
-  pub head-kind : k < 2 ^ 16 → leField 2 8 (headOf m k ++ y) ≡ k
+  pub head-kind : k < 2 ^ 16 → leField 2 recordTypeAt (headOf m k ++ y) ≡ k
   unfolding headOf
   head-kind h = ap (leField 2 8) (append-assoc (leBytes 8 m) (leBytes 2 k) y) ∙ leField-at 2 k 8 (leBytes 8 m) y refl h
 
-  pub head-past : drop 10 (headOf m k ++ y) ≡ y
+  pub head-past : drop recordHeadSize (headOf m k ++ y) ≡ y
   unfolding headOf
   head-past = drop-at (leBytes 8 m ++ leBytes 2 k) y 10 refl
 
@@ -51,13 +53,7 @@ module _ (m k : ℕ) (y : List ℕ) where
 abbrev pub blank : Record
 blank = record { kind = 0; bytes = [] }
 
-fit-at : (rs : List Record) (i : ℕ) → i < length rs → Fit rs
-    → (0 < getD rs i blank .kind) × (getD rs i blank .kind < 2 ^ 16) × (length (getD rs i blank .bytes) < 2 ^ 64)
-fit-at [] i h f = absurd (omega arith)
-fit-at (r ∷ rs) zero h f = f .0
-fit-at (r ∷ rs) (suc i) h f = fit-at rs i (omega arith) (f .1)
-
-module _ (rs : List Record) (fit : Fit rs) where
+module _ (rs : List Record) (fit : All Fits rs) where
   abbrev s : List ℕ
   s = rollOf rs
 
@@ -69,7 +65,7 @@ module _ (rs : List Record) (fit : Fit rs) where
   size-at : (i : ℕ) → i < length rs → drop (recordAt s i) s ≡ rollOf (drop i rs) → recordSize s i ≡ length (getD rs i blank .bytes)
   size-at i h e =
       leField-drop0 8 (recordAt s i) s ∙ ap (leField 8 0) (e ∙ here i h)
-      ∙ head-size (length (getD rs i blank .bytes)) (getD rs i blank .kind) _ (fit-at rs i h fit .2)
+      ∙ head-size (length (getD rs i blank .bytes)) (getD rs i blank .kind) _ (all-at Fits rs i blank h fit .2)
 
   -- what stands from record i on is the roll of the records from i on
   pub suffix : (i : ℕ) → i ≤ length rs → drop (recordAt s i) s ≡ rollOf (drop i rs)
@@ -88,4 +84,4 @@ module _ (rs : List Record) (fit : Fit rs) where
   pub kinds : (i : ℕ) → i < length rs → recordKind s i ≡ getD rs i blank .kind
   kinds i h =
       leField-drop 2 8 (recordAt s i) s ∙ ap (leField 2 8) (suffix i (omega arith) ∙ here i h)
-      ∙ head-kind (length (getD rs i blank .bytes)) (getD rs i blank .kind) _ (fit-at rs i h fit .1)
+      ∙ head-kind (length (getD rs i blank .bytes)) (getD rs i blank .kind) _ (all-at Fits rs i blank h fit .1)

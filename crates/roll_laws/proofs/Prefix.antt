@@ -7,14 +7,14 @@ use mathlib.Core.List.{List, [], _∷_, _++_, append-assoc, append-nil}
 use native.Mathlib.Omega.{arith}
 use lib.ListN.{length, take, drop}
 use lib.Seq.{take-at, drop-at}
+use Rattle.octets.specs.Lists.{All}
 use Rattle.octets.specs.Bytes.{leBytes}
 use Rattle.octets.proofs.Value.{leBytes-same}
 use Rattle.eif.specs.Roll.{Record, headOf, rollOf}
 
--- the records that a roll can hold: not of the end record's type, and of numbers that fit their fields
-abbrev pub Fit : List Record → Type 0
-Fit [] = Unit
-Fit (r ∷ rs) = ((0 < r .kind) × (r .kind < 2 ^ 16) × (length (r .bytes) < 2 ^ 64)) × Fit rs
+-- a record that a roll can hold: not of the end record's type, and of numbers that fit their fields
+abbrev pub Fits : Record → Type 0
+Fits r = (0 < r .kind) × (r .kind < 2 ^ 16) × (length (r .bytes) < 2 ^ 64)
 
 split-same {ℓ} : {A : Type ℓ} (x u y v : List A) → length x ≡ length u → x ++ y ≡ u ++ v → (x ≡ u) × (y ≡ v)
 split-same x u y v n e = (
@@ -39,8 +39,8 @@ head-same m k n l y v hm hn hk hl e =
 record-same : (r q : Record) → r .kind ≡ q .kind → r .bytes ≡ q .bytes → r ≡ q
 record-same r q k b = λ i. record { kind = k i; bytes = b i }
 
-pub prefix-same : (a b : List Record) (t : List ℕ) → Fit a → Fit b → rollOf a ++ t ≡ rollOf b → a ≡ b
-unfolding rollOf
+pub prefix-same : (a b : List Record) (t : List ℕ) → All Fits a → All Fits b → rollOf a ++ t ≡ rollOf b → a ≡ b
+unfolding All rollOf
 prefix-same [] [] t fa fb e = refl
 prefix-same [] (q ∷ qs) t fa fb e =
     let h = head-same 0 0 (length (q .bytes)) (q .kind) t (q .bytes ++ rollOf qs) (omega arith) (fb .0 .2) (omega arith) (fb .0 .1) e in

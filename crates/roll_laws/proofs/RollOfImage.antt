@@ -10,6 +10,7 @@ use borrow.Author.Tests.{leb-true}
 use lib.Dec.{leb}
 use lib.ListN.{length, drop, getD, length-append, length-take, length-drop}
 use lib.Seq.{drop-cons, drop-length}
+use Rattle.octets.specs.Lists.{All}
 use Rattle.octets.specs.Bytes.{leField}
 use Rattle.octets.proofs.Value.{leField-drop, leField-drop0}
 use Rattle.eif.specs.Numbers.{sizeLimit, placeCount, kernel, commandLine, ramdisk}
@@ -18,20 +19,20 @@ use Rattle.eif.specs.Rules.{bootType, seen, orderFault, bootMissing, missing}
 use Rattle.eif.specs.Table.{filled}
 use Rattle.eif.specs.Layout.{headerSize, sectionHeaderSize, versionOf, headerFlagsOf, countOf, offsetAt, sizeAt, startAt, kindAt}
 use Rattle.eif.specs.Reading.{verdictOf, sectionAt, blankSection, sectionsOf, dataOf}
-use Rattle.eif.specs.Roll.{Record, headOf, flagsRecord, rollOf, recordFor, recordsIn, recordsOf, rollBytes, recordAt, recordSize, recordKind, sizeAsImage}
+use Rattle.eif.specs.Roll.{Record, headOf, flagsRecord, rollOf, recordFor, recordsIn, recordsOf, rollBytes, recordAt, recordSize, recordKind, sizeAsImage, recordHeadSize}
 use Rattle.eif.specs.declared.Section.{Section}
 use Rattle.eif.specs.declared.Verdict.the-variants.{Accepted}
 use Rattle.octets.proofs.Logic.{both-true, either-false}
-use Rattle.eif_lemmas.proofs.Table.{filled-none, length-filled}
-use Rattle.eif_lemmas.proofs.Accept.{none-missing-of, order-at}
+use Rattle.eif_lemmas.proofs.Table.{filled-none, length-filled, all-at}
+use Rattle.eif_lemmas.proofs.Accept.{none-missing-of, order-at, sound-at}
 use Rattle.eif_lemmas.proofs.Flags.{length-flags}
-use Rattle.plain_laws.proofs.WriteBack.{head, entry}
+use Rattle.plain_laws.proofs.WriteBack.{head}
 use Rattle.plain_laws.proofs.Plainness.{start-inside}
 use Rattle.roll_laws.proofs.RollRules.{WholeRoll}
-use Rattle.roll_laws.proofs.Prefix.{Fit}
+use Rattle.roll_laws.proofs.Prefix.{Fits}
 use Rattle.roll_laws.proofs.Positions.{first-size, next-size, blank, suffix, sizes, kinds}
 use Rattle.roll_laws.proofs.ImageOfRoll.{boot-there, none-in, known-in-roll}
-use Rattle.roll_laws.proofs.Order.{laterRecords, AllInRoll, Types, Follows, knows-none, knows-both, knows-after, order-of-sections, order-of-records}
+use Rattle.roll_laws.proofs.Order.{laterRecords, InRoll, Types, Follows, knows-none, knows-both, knows-after, order-of-sections, order-of-records}
 
 -- ---- records that an image can hold
 
@@ -40,25 +41,18 @@ pub record Held (r : Record) : Type 0 where
   pub high : r .kind ≤ ramdisk
   pub small : length (r .bytes) ≤ sizeLimit
 
-abbrev pub AllHeld : List Record → Type 0
-AllHeld [] = Unit
-AllHeld (r ∷ rs) = Held r × AllHeld rs
-
-held-fit : (rs : List Record) → AllHeld rs → Fit rs
+held-fit : (rs : List Record) → All Held rs → All Fits rs
+unfolding All
 held-fit [] a = tt
 held-fit (r ∷ rs) a =
     let h = a .0 in
     let l = h .low in let k = h .high in let z = h .small in
     ((omega arith, omega arith, omega arith), held-fit rs (a .1))
 
-held-in-roll : (rs : List Record) → AllHeld rs → AllInRoll rs
+held-in-roll : (rs : List Record) → All Held rs → All InRoll rs
+unfolding All
 held-in-roll [] a = tt
 held-in-roll (r ∷ rs) a = (known-in-roll (r .kind) (a .0 .low) (a .0 .high), held-in-roll rs (a .1))
-
-held-at : (rs : List Record) (i : ℕ) → i < length rs → AllHeld rs → Held (getD rs i blank)
-held-at [] i h a = absurd (omega arith)
-held-at (r ∷ rs) zero h a = a .0
-held-at (r ∷ rs) (suc i) h a = held-at rs i (omega arith) (a .1)
 
 module _ (s : List ℕ) (small : length s ≤ sizeLimit) where
   data-small : (x : Section) → length (dataOf s x) ≤ sizeLimit
@@ -67,12 +61,12 @@ module _ (s : List ℕ) (small : length s ≤ sizeLimit) where
   held-one : (x : Section) → bootType (x .kind) ≡ true → Held (recordFor s x)
   held-one x t = let b = both-true (leb 1 (x .kind)) (leb (x .kind) 3) t in record { low = leb-true _ _ (b .0); high = leb-true _ _ (b .1); small = data-small x }
 
-  all-held : (l : List Section) → AllHeld (recordsIn s l)
-  unfolding recordsIn
+  all-held : (l : List Section) → All Held (recordsIn s l)
+  unfolding All recordsIn
   all-held [] = tt
   all-held (x ∷ xs) = one (all-held xs) (bootType (x .kind)) refl
     where
-      one : AllHeld (recordsIn s xs) → (b : Bool) → bootType (x .kind) ≡ b → AllHeld (choose b (recordFor s x ∷ recordsIn s xs) (recordsIn s xs))
+      one : All Held (recordsIn s xs) → (b : Bool) → bootType (x .kind) ≡ b → All Held (choose b (recordFor s x ∷ recordsIn s xs) (recordsIn s xs))
       one a true t = (held-one x t, a)
       one a false t = a
 
@@ -118,7 +112,7 @@ module _ (s : List ℕ) (ok : verdictOf s ≡ Accepted) where
       let r = sum-le m n (suc i) (λ j. f (suc j)) (omega arith) (omega arith) (λ j l. let t : i + suc j ≡ suc i + j = omega arith in q (suc j) (omega arith) ∙ ap (sectionAt s) t) in
       let e : length (dataOf s (f 0)) ≤ sizeAt s i = rw (q 0 (omega arith) ∙ ap (sectionAt s) z) (simp length-take (omega arith)) in
       subst (λ (a : ℕ). startAt s i + recordsSum (choose (bootType (f 0 .kind)) (recordFor s (f 0) ∷ laterRecords s f m n) (laterRecords s f m n)) ≤ startAt s a) y
-      (sum-one (f 0) (laterRecords s f m n) i (startAt s (suc i + n)) e (entry s ok i (omega arith) .starts) r (bootType (f 0 .kind)))
+      (sum-one (f 0) (laterRecords s f m n) i (startAt s (suc i + n)) e (sound-at s ok i (omega arith) .starts) r (bootType (f 0 .kind)))
 
   -- the records fit in the image, after its header
   sum-small : headerSize + recordsSum (recordsOf s) ≤ length s
@@ -131,12 +125,12 @@ module _ (s : List ℕ) (ok : verdictOf s ≡ Accepted) where
 
 -- ---- the roll of records
 
-length-roll : (rs : List Record) → 10 ≤ length (rollOf rs)
+length-roll : (rs : List Record) → recordHeadSize ≤ length (rollOf rs)
 unfolding rollOf headOf
 length-roll [] = omega arith
 length-roll (r ∷ rs) = omega arith
 
-roll-le : (rs : List Record) → length (rollOf rs) ≤ 10 + recordsSum rs
+roll-le : (rs : List Record) → length (rollOf rs) ≤ recordHeadSize + recordsSum rs
 unfolding rollOf recordsSum headOf
 roll-le [] = omega arith
 roll-le (r ∷ rs) = let e = roll-le rs in simp length-append (omega arith)
@@ -160,14 +154,14 @@ boot-of-missing kinds version n e = either-false _ _ e .0
 none-missing-from : (kinds : ℕ → ℕ) (n : ℕ) → seen kinds kernel n ≡ true → seen kinds commandLine n ≡ true → bootMissing kinds n ≡ false
 none-missing-from kinds n a b = simp (a, b)
 
-module _ (rs : List Record) (held : AllHeld rs) where
+module _ (rs : List Record) (held : All Held rs) where
   abbrev t : List ℕ
   t = rollOf rs
 
   abbrev n : ℕ
   n = length rs
 
-  fit : Fit rs
+  fit : All Fits rs
   fit = held-fit rs held
 
   head-inside : (i : ℕ) → i ≤ n → recordAt t i + 10 ≤ length t
@@ -210,10 +204,10 @@ module _ (s : List ℕ) (ok : verdictOf s ≡ Accepted) where
   abbrev roll : List ℕ
   roll = rollOf (recordsOf s)
 
-  held : AllHeld (recordsOf s)
+  held : All Held (recordsOf s)
   held = all-held s (head s ok .small) (sectionsOf s)
 
-  pub image-fit : Fit (recordsOf s)
+  pub image-fit : All Fits (recordsOf s)
   image-fit = held-fit (recordsOf s) held
 
   pub image-few : length (recordsOf s) ≤ placeCount
@@ -257,7 +251,7 @@ module _ (s : List ℕ) (ok : verdictOf s ≡ Accepted) where
       record {
         few = image-few;
         heads = head-inside rs held;
-        known = λ i h. let x = held-at rs i h held in let k = kinds rs image-fit i h in let lo = x .low in let hi = x .high in (omega arith, omega arith);
+        known = λ i h. let x = all-at Held rs i blank h held in let k = kinds rs image-fit i h in let lo = x .low in let hi = x .high in (omega arith, omega arith);
         inside = λ i h. let x = head-inside rs held (suc i) h in omega arith;
         order = order-there;
         end-kind = end-kind-is rs held;

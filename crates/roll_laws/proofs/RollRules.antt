@@ -1,7 +1,7 @@
 -- The rest of a roll, behind its flags record, is accepted exactly when it meets every rule, said without an order of tests.
 -- Assumes nothing.
 use Prim.Native.Nat.{ℕ, zero, suc, _+_, _<_, _≤_}
-use mathlib.Core.Path.{_≡_, refl, sym, ap, subst, _∙_}
+use mathlib.Core.Path.{_≡_, refl, ap, _∙_}
 use mathlib.Core.Bool.{Bool, true, false, not}
 use mathlib.Core.List.{List}
 use mathlib.Core.Logic.{⊎-elim}
@@ -10,6 +10,7 @@ use native.Mathlib.Nat.{eq-or-lt-of-le}
 use borrow.Author.Tests.{eq-eqb, ne-eqb, le-ltb, lt-leb, eqb-true, eqb-false, ltb-false, leb-false, not-false}
 use lib.Dec.{eqb, ltb, leb}
 use lib.ListN.{length}
+use Rattle.eif_lemmas.proofs.RollEnd.{Clean, EndsAt, ended→, →ended}
 use Rattle.eif.specs.Numbers.{sizeLimit, placeCount, kernel, ramdisk}
 use Rattle.octets.specs.Logic.{both, choose}
 use Rattle.eif.specs.Rules.{orderFault, bootMissing}
@@ -43,9 +44,9 @@ module _ (s : List ℕ) (i : ℕ) where
   head-zero : headFault s i ≡ 0 → (recordAt s i + recordHeadSize ≤ length s) × (recordKind s i ≤ ramdisk) × (both (isEnd s i) (not (eqb (recordSize s i) 0)) ≡ false)
   unfolding headFault
   head-zero e =
-      let a = choose-zero (ltb (length s) (recordAt s i + recordHeadSize)) 15 _ e in
-      let b = choose-zero (ltb ramdisk (recordKind s i)) 16 _ (a .1) in
-      let c = choose-zero (both (isEnd s i) (not (eqb (recordSize s i) 0))) 16 _ (b .1) in
+      let a = choose-zero (ltb (length s) (recordAt s i + recordHeadSize)) _ _ e in
+      let b = choose-zero (ltb ramdisk (recordKind s i)) _ _ (a .1) in
+      let c = choose-zero (both (isEnd s i) (not (eqb (recordSize s i) 0))) _ _ (b .1) in
       (ltb-false _ _ (a .0), ltb-false _ _ (b .0), c .0)
 
   zero-head : recordAt s i + recordHeadSize ≤ length s → recordKind s i ≤ ramdisk → both (isEnd s i) (not (eqb (recordSize s i) 0)) ≡ false → headFault s i ≡ 0
@@ -55,89 +56,13 @@ module _ (s : List ℕ) (i : ℕ) where
   body-zero : bodyFault s i ≡ 0 → (i < placeCount) × (recordAt s (suc i) ≤ length s) × (orderFault (recordKind s) (recordKind s i) i ≡ 0)
   unfolding bodyFault
   body-zero e =
-      let a = choose-zero (leb placeCount i) 4 _ e in
-      let b = choose-zero (ltb (length s) (recordAt s (suc i))) 15 _ (a .1) in
+      let a = choose-zero (leb placeCount i) _ _ e in
+      let b = choose-zero (ltb (length s) (recordAt s (suc i))) _ _ (a .1) in
       (leb-false _ _ (a .0), ltb-false _ _ (b .0), b .1)
 
   zero-body : i < placeCount → recordAt s (suc i) ≤ length s → orderFault (recordKind s) (recordKind s i) i ≡ 0 → bodyFault s i ≡ 0
   unfolding bodyFault
   zero-body a b c = simp (lt-leb _ _ a, le-ltb _ _ b, c)
-
--- ---- the records up to the end record
-
-choose-ended : (b : Bool) (x : Ending) (k l n : ℕ) → choose b x (stopped k l) ≡ ended n → (b ≡ true) × (x ≡ ended n)
-choose-ended true x k l n e = (refl, e)
-choose-ended false x k l n e = let z : _≡_ {A = ℕ} 0 1 = cc in absurd (omega arith)
-
-same-ended : (i n : ℕ) → ended i ≡ ended n → i ≡ n
-same-ended i n e = cc
-
--- a record that is not the end record and has no fault
-record Clean (s : List ℕ) (i : ℕ) : Type 0 where
-  head : headFault s i ≡ 0
-  goes-on : isEnd s i ≡ false
-  body : bodyFault s i ≡ 0
-
--- from record i on, in at most m records, the end record is record n
-record EndsAt (s : List ℕ) (i m n : ℕ) : Type 0 where
-  from : i ≤ n
-  before : n < i + m
-  clean : (j : ℕ) → i ≤ j → j < n → Clean s j
-  head : headFault s n ≡ 0
-  stops : isEnd s n ≡ true
-
-module _ (s : List ℕ) where
-  -- what follows a head without a fault
-  abbrev afterHead : ℕ → ℕ → Bool → Ending
-  afterHead m i b = choose b (ended i) (choose (eqb (bodyFault s i) 0) (endFrom s m (suc i)) (stopped (bodyFault s i) i))
-
-  ended→ : (m i n : ℕ) → endFrom s m i ≡ ended n → EndsAt s i m n
-  unfolding endFrom
-  ended→ zero i n e = let z : _≡_ {A = ℕ} 0 1 = cc in absurd (omega arith)
-  ended→ (suc m) i n e = go (λ q. ended→ m (suc i) n q) (isEnd s i) refl (a .1)
-    where
-      a : (eqb (headFault s i) 0 ≡ true) × (afterHead m i (isEnd s i) ≡ ended n)
-      a = choose-ended (eqb (headFault s i) 0) _ _ _ n e
-
-      go : (endFrom s m (suc i) ≡ ended n → EndsAt s (suc i) m n) → (b : Bool) → isEnd s i ≡ b → afterHead m i b ≡ ended n → EndsAt s i (suc m) n
-      go again true q r =
-          let z = same-ended i n r in
-          record {
-            from = omega arith;
-            before = omega arith;
-            clean = λ j k l. absurd (omega arith);
-            head = sym (ap (headFault s) z) ∙ eqb-true _ _ (a .0);
-            stops = sym (ap (isEnd s) z) ∙ q;
-          }
-      go again false q r =
-          let b = choose-ended (eqb (bodyFault s i) 0) _ _ _ n r in
-          let t = again (b .1) in
-          let f = t .from in
-          let u = t .before in
-          let here : Clean s i = record { head = eqb-true _ _ (a .0); goes-on = q; body = eqb-true _ _ (b .0) } in
-          record {
-            from = omega arith;
-            before = omega arith;
-            clean = λ j k l.
-                ⊎-elim
-                (λ (z : i ≡ j). subst (Clean s) z here)
-                (λ (z : i < j). t .clean j z l)
-                (eq-or-lt-of-le k);
-            head = t .head;
-            stops = t .stops;
-          }
-
-  →ended : (m i n : ℕ) → EndsAt s i m n → endFrom s m i ≡ ended n
-  unfolding endFrom
-  →ended zero i n t = let f = t .from in let u = t .before in absurd (omega arith)
-  →ended (suc m) i n t =
-      ⊎-elim
-      (λ (z : i ≡ n). let h : headFault s i ≡ 0 = rw z (t .head) in let q : isEnd s i ≡ true = rw z (t .stops) in simp (h, q) (ap ended z))
-      (λ (z : i < n).
-      let c = t .clean i (omega arith) z in
-      let u = t .before in
-      simp (c .head, c .goes-on, c .body) (→ended m (suc i) n (record { from = z; before = omega arith; clean = λ j k l. t .clean j (omega arith) l; head = t .head; stops = t .stops })))
-      (eq-or-lt-of-le (t .from))
 
 -- ---- the whole roll
 
@@ -149,9 +74,9 @@ module _ (s : List ℕ) (n : ℕ) where
   fault-zero : rollFault s n ≡ 0 → (length s ≤ recordAt s n + recordHeadSize) × (bootMissing (recordKind s) n ≡ false) × (sizeAsImage s n ≤ sizeLimit)
   unfolding rollFault
   fault-zero e =
-      let a = choose-zero (ltb (recordAt s n + recordHeadSize) (length s)) 17 _ e in
-      let b = choose-zero (bootMissing (recordKind s) n) 11 _ (a .1) in
-      let c = choose-zero (ltb sizeLimit (sizeAsImage s n)) 0 _ (b .1) in
+      let a = choose-zero (ltb (recordAt s n + recordHeadSize) (length s)) _ _ e in
+      let b = choose-zero (bootMissing (recordKind s) n) _ _ (a .1) in
+      let c = choose-zero (ltb sizeLimit (sizeAsImage s n)) _ _ (b .1) in
       (ltb-false _ _ (a .0), b .0, ltb-false _ _ (c .0))
 
   zero-fault : recordAt s n + recordHeadSize ≡ length s → bootMissing (recordKind s) n ≡ false → sizeAsImage s n ≤ sizeLimit → rollFault s n ≡ 0

@@ -10,6 +10,7 @@ use borrow.Author.Tests.{eqb-true, le-leb}
 use lib.Dec.{eqb}
 use lib.ListN.{length, take, replicate}
 use lib.Seq.{take-at}
+use Rattle.octets.proofs.Logic.{not-both}
 use Rattle.eif.specs.Numbers.{placeCount, kernel, ramdisk}
 use Rattle.octets.specs.Logic.{choose}
 use Rattle.eif.specs.Reading.{ramdiskIn, dataOf, sectionsOf, verdictOf}
@@ -47,8 +48,7 @@ no-ramdisk kind e = by (eqb kind ramdisk) refl
     by true f =
         let k : kind ≡ ramdisk = eqb-true kind ramdisk f in
         let t : bootType kind ≡ true = simp (le-leb kernel kind (omega arith), le-leb kind ramdisk (omega arith)) in
-        let z : _≡_ {A = ℕ} 1 0 = ap (λ (b : Bool). choose b 1 0) (sym t ∙ e) in
-        absurd (omega arith)
+        not-both (sym e ∙ t)
 
 not-kept : (stream : Stream) (kind before : ℕ) → bootType kind ≡ false → keeps stream kind before ≡ false
 unfolding keeps

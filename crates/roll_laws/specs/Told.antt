@@ -19,20 +19,11 @@ pub record ImageOf (t : List ℕ) : Type 0 where
   pub accepted : verdictOf image ≡ Accepted
   pub roll : rollBytes image ≡ t
 
--- the list of an image, said from its sections alone
-pub record ReadsList (s : List ℕ) : Type 0 where
+-- the reader's list of a roll t, said from the sections of an image s alone
+pub record ReadsList (t s : List ℕ) : Type 0 where
   -- the flags, the count, and of each section of type 1, 2 or 3 in file order the type, data position and length; unused places blank
-  pub reading : readRoll (rollBytes s) ≡ listingOf (headerFlagsOf s) (recordsOf s)
+  pub reading : readRoll t ≡ listingOf (headerFlagsOf s) (recordsOf s)
   -- none is left out
   pub few : length (recordsOf s) ≤ placeCount
   -- the bytes at these positions of the roll are the sections' data
-  pub found : map (foundIn (rollBytes s)) (listFrom flagsRecordSize (recordsOf s)) ≡ recordsOf s
-
--- the list of a roll
-pub record ListOf (t : List ℕ) : Type 0 where
-  -- an accepted image whose roll it is
-  pub of : ImageOf t
-  -- the answer is that image's list, none is left out, and the bytes at its positions are the sections' data
-  pub reading : readRoll t ≡ listingOf (headerFlagsOf (of .image)) (recordsOf (of .image))
-  pub few : length (recordsOf (of .image)) ≤ placeCount
-  pub found : map (foundIn t) (listFrom flagsRecordSize (recordsOf (of .image))) ≡ recordsOf (of .image)
+  pub found : map (foundIn t) (listFrom flagsRecordSize (recordsOf s)) ≡ recordsOf s

@@ -2,26 +2,25 @@
 -- Assumes nothing.
 use Prim.Native.Nat.{ℕ, zero, suc, _+_, _-_, _*_, _<_, _≤_}
 use mathlib.Core.Path.{_≡_, refl, sym, ap, _∙_}
-use mathlib.Core.Bool.{Bool, true, false}
-use mathlib.Core.Logic.{_⊎_, inl, inr, ⊎-elim}
+use mathlib.Core.Bool.{true, false}
+use mathlib.Core.Logic.{_⊎_, ⊎-elim}
 use mathlib.Core.List.{List}
 use native.Mathlib.Omega.{arith}
 use native.Mathlib.Numerals.{add-one}
-use borrow.Author.Tests.{lt-ltb, le-ltb, eq-eqb, ne-eqb, eqb-true}
-use lib.Dec.{eqb}
+use borrow.Author.Tests.{lt-ltb, le-ltb, eq-eqb, ne-eqb}
 use lib.ListN.{length}
 use Rattle.eif.specs.Numbers.{sizeLimit, placeCount, imageTooLong, sectionMissing, bytesAfterEnd}
-use Rattle.octets.specs.Logic.{choose}
 use Rattle.eif.specs.Answers.{refuse, refuseAt}
 use Rattle.eif.specs.Rules.{bootMissing}
 use Rattle.eif.specs.Table.{filled}
 use Rattle.eif.specs.Layout.{headerSize, sectionHeaderSize}
-use Rattle.eif.specs.Roll.{recordHeadSize, flagsRecordSize, endType, Ending, ended, stopped, recordAt, recordKind, isEnd, endVerdict, listedAt, blankRecord, headFault, bodyFault, endFrom, sizeAsImage, rollFault, refusedRoll, acceptedRoll, rollAnswerFor, readRest}
+use Rattle.eif.specs.Roll.{recordHeadSize, flagsRecordSize, endType, Ending, ended, stopped, recordAt, recordKind, endVerdict, listedAt, blankRecord, headFault, bodyFault, endFrom, sizeAsImage, rollFault, refusedRoll, acceptedRoll, rollAnswerFor, readRest}
 use Rattle.eif.specs.declared.Refusal.{Refusal}
 use Rattle.eif.specs.declared.RollRecord.{RollRecord}
 use Rattle.eif.specs.declared.Verdict.the-variants.{Accepted, Refused}
 use Rattle.octets.proofs.Logic.{zero-or}
 use Rattle.eif_lemmas.proofs.Verdicts.{never}
+use Rattle.eif_lemmas.proofs.RollEnd.{ended→}
 use Rattle.roll_reader.specs.declared.Walked.{Walked}
 use Rattle.roll_reader.specs.Walk.{recordFault, stoppedWith, stoppedAt, endedAt, walkFor, walkOf}
 use Rattle.roll_reader.proofs.Records.{head-fits, by-head, by-end, by-body}
@@ -80,27 +79,6 @@ module _ (s : List ℕ) (i : ℕ) (few : i ≤ placeCount) (so-far : endFrom s (
   unfolding walkOf
   walk-stop k e h = ap (walkFor s) (sym (from-stop k e h) ∙ so-far)
 
--- ---- the end record lies in the roll
-
--- the cases of a record at which the records do not stop
-on-the-way : (a b d : Bool) (i k : ℕ) (number index number₂ index₂ : ℕ) (rest : Ending)
-    → choose a (choose b (ended i) (choose d rest (stopped number index))) (stopped number₂ index₂) ≡ ended k
-    → (a ≡ true) × ((i ≡ k) ⊎ (rest ≡ ended k))
-on-the-way true true d i k n m n₂ m₂ rest e = (refl, inl (cc))
-on-the-way true false true i k n m n₂ m₂ rest e = (refl, inr e)
-on-the-way true false false i k n m n₂ m₂ rest e = let z : _≡_ {A = ℕ} 0 1 = cc in absurd (omega arith)
-on-the-way false b d i k n m n₂ m₂ rest e = let z : _≡_ {A = ℕ} 0 1 = cc in absurd (omega arith)
-
-end-in : (s : List ℕ) (n i k : ℕ) → endFrom s n i ≡ ended k → (k < i + n) × (headFault s k ≡ 0)
-unfolding endFrom
-end-in s zero i k e = let z : _≡_ {A = ℕ} 0 1 = cc in absurd (omega arith)
-end-in s (suc n) i k e =
-    let t = on-the-way (eqb (headFault s i) 0) (isEnd s i) (eqb (bodyFault s i) 0) i k _ _ _ _ (endFrom s n (suc i)) e in
-    ⊎-elim
-    (λ p. (omega arith, ap (headFault s) (sym p) ∙ eqb-true _ _ (t .0)))
-    (λ p. let q = end-in s n (suc i) k p in (omega arith, q .1))
-    (t .1)
-
 -- ---- the rules on the whole roll
 
 -- what the records before i take in an image: before each data it has a section header where the roll has a record's head
@@ -145,9 +123,10 @@ module _ (s : List ℕ) (w : Walked) where
   by-ending (stopped number index) p e v = never _ (sym (ap (λ (x : Walked). x .verdict) e) ∙ v)
   by-ending (ended n) p e v =
       let c : w .count ≡ n = ap (λ (x : Walked). x .count) e in
-      let q = end-in s (suc placeCount) 0 n p in
+      let q = ended→ s (suc placeCount) 0 n p in
+      let b = q .before in
       let a = ap (λ (x : Walked). x .end) e in
-      let h = head-fits s n (q .1) in
+      let h = head-fits s n (q .head) in
       record {
         ending = p ∙ ap ended (sym c);
         few = omega arith;

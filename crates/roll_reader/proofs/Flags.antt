@@ -10,7 +10,7 @@ use lib.Seq.{take-all}
 use Rattle.octets.specs.Bytes.{leField}
 use Rattle.eif.specs.Numbers.{recordCut, recordTypeWrong}
 use Rattle.eif.specs.Answers.{refuse}
-use Rattle.eif.specs.Roll.{recordHeadSize, flagsType, flagsLength, flagsRecordSize, flagsFault, rollFlags, restOf, refusedRoll, readRest, readRoll}
+use Rattle.eif.specs.Roll.{recordHeadSize, flagsType, flagsLength, flagsRecordSize, flagsFault, rollFlags, restOf, refusedRoll, readRest, readRoll, recordTypeAt, recordLengthAt}
 
 module _ (s : List ℕ) where
   pub flags-head-cut : length s < recordHeadSize → recordCut ≡ flagsFault s
@@ -18,16 +18,16 @@ module _ (s : List ℕ) where
   flags-head-cut h = simp (lt-ltb _ _ h)
 
   module _ (head : recordHeadSize ≤ length s) where
-    pub flags-kind : (leField 2 8 s ≡ flagsType → ⊥) → recordTypeWrong ≡ flagsFault s
+    pub flags-kind : (leField 2 recordTypeAt s ≡ flagsType → ⊥) → recordTypeWrong ≡ flagsFault s
     unfolding flagsFault
     flags-kind h = simp (le-ltb _ _ head, ne-eqb _ _ h)
 
-    module _ (kind : leField 2 8 s ≡ flagsType) where
-      pub flags-size : (leField 8 0 s ≡ flagsLength → ⊥) → recordTypeWrong ≡ flagsFault s
+    module _ (kind : leField 2 recordTypeAt s ≡ flagsType) where
+      pub flags-size : (leField 8 recordLengthAt s ≡ flagsLength → ⊥) → recordTypeWrong ≡ flagsFault s
       unfolding flagsFault
       flags-size h = simp (le-ltb _ _ head, eq-eqb _ _ kind, ne-eqb _ _ h)
 
-      module _ (size : leField 8 0 s ≡ flagsLength) where
+      module _ (size : leField 8 recordLengthAt s ≡ flagsLength) where
         pub flags-cut : length s < flagsRecordSize → recordCut ≡ flagsFault s
         unfolding flagsFault
         flags-cut h = simp (le-ltb _ _ head, eq-eqb _ _ kind, eq-eqb _ _ size, lt-ltb _ _ h)

@@ -2,10 +2,11 @@
 -- image's. An image is the staged view with nothing replaced.
 -- Assumes nothing.
 use Prim.Native.Nat.{ℕ, _+_, _≤_}
-use mathlib.Core.Path.{_≡_, sym, ap, ap₂, _∙_}
+use mathlib.Core.Path.{_≡_, ap, ap₂, _∙_}
 use mathlib.Core.List.{List, [], _++_}
 use native.Mathlib.Omega.{arith}
 use lib.ListN.{length}
+use Rattle.octets.specs.Lists.{All}
 use Rattle.eif.specs.Numbers.{sizeLimit, placeCount}
 use Rattle.eif.specs.Layout.{headerFlagsOf, countOf}
 use Rattle.eif.specs.Reading.{verdictOf, blankSection, sectionAt, sectionsOf, readImage}
@@ -13,10 +14,9 @@ use Rattle.eif.specs.Roll.{flagsRecordSize, flagsRecord, rollOf, rollBytes}
 use Rattle.eif.specs.declared.Reading.{Reading}
 use Rattle.eif.specs.declared.Section.{Section}
 use Rattle.eif.specs.declared.Verdict.the-variants.{Accepted}
-use Rattle.eif_lemmas.proofs.Reading.{reading-verdict, reading-accepted}
-use Rattle.eif_lemmas.proofs.Table.{All, all-filled, length-filled}
-use Rattle.eif_lemmas.proofs.Accept.{Inside, length-data, passes}
-use Rattle.plain_laws.proofs.WriteBack.{entry}
+use Rattle.eif_lemmas.proofs.Reading.{told-accepted, reading-is}
+use Rattle.eif_lemmas.proofs.Table.{all-filled, length-filled}
+use Rattle.eif_lemmas.proofs.Accept.{Inside, length-data, passes, sound-at}
 use Rattle.staged.specs.View.{Holds, heldBy}
 use Rattle.staged.proofs.Same.{recordsBy, records-in}
 use Rattle.staged.proofs.Held.{held-alone}
@@ -24,18 +24,15 @@ use Rattle.roll_writer.specs.Write.{sizeFor, sizeBound, sectionsRoll}
 use Rattle.roll_writer.proofs.Steps.{sections-roll, size-is, size-bounded}
 
 module _ (s : List ℕ) (r : Reading) (is : r ≡ readImage s) where
-  pub verdict-is : r .verdict ≡ verdictOf s
-  verdict-is = ap (λ (x : Reading). x .verdict) is ∙ reading-verdict s
-
   module _ (told : r .verdict ≡ Accepted) where
     pub ok : verdictOf s ≡ Accepted
-    ok = sym verdict-is ∙ told
+    ok = told-accepted s r is told
 
     sections-are : r .sections ≡ sectionsOf s
-    sections-are = ap (λ (x : Reading). x .sections) (is ∙ reading-accepted s ok)
+    sections-are = ap (λ (x : Reading). x .sections) (reading-is s r is told)
 
     flags-are : r .flags ≡ headerFlagsOf s
-    flags-are = ap (λ (x : Reading). x .flags) (is ∙ reading-accepted s ok)
+    flags-are = ap (λ (x : Reading). x .flags) (reading-is s r is told)
 
     held-length : (x : Section) → Inside s x → Holds (heldBy s []) x
     held-length x h = ap length (held-alone s x) ∙ length-data s x h
@@ -44,14 +41,14 @@ module _ (s : List ℕ) (r : Reading) (is : r ≡ readImage s) where
     holds =
         rw sections-are
         (all-filled (Holds (heldBy s [])) (sectionAt s) blankSection placeCount (countOf s) (held-length blankSection (omega arith))
-        (λ i h. held-length (sectionAt s i) (entry s ok i h .ends)))
+        (λ i h. held-length (sectionAt s i) (sound-at s ok i h .ends)))
 
     pub bounded : sizeFor (r .sections) ≤ sizeBound
     bounded =
         rw sections-are
         (size-bounded (sectionsOf s) (length-filled (sectionAt s) blankSection placeCount (countOf s))
         (all-filled (λ (x : Section). x .length .0 ≤ sizeLimit) (sectionAt s) blankSection placeCount (countOf s) (omega arith)
-        (λ i h. let q = entry s ok i h .ends in let m = passes s ok .head .small in omega arith)))
+        (λ i h. let q = sound-at s ok i h .ends in let m = passes s ok .head .small in omega arith)))
 
     -- the roll of the reading is the image's
     pub roll-is : sectionsRoll (r .flags) (heldBy s []) (r .sections) ≡ rollBytes s

@@ -4,11 +4,11 @@ use Prim.Native.Nat.{ℕ, _+_, _^_, _<_, _≤_}
 use mathlib.Core.Path.{_≡_, sym, ap, ap₂, _∙_}
 use mathlib.Core.List.{List}
 use lib.ListN.{length}
+use Rattle.octets.specs.Lists.{All}
 use Rattle.eif.specs.Reading.{readImage}
 use Rattle.eif.specs.Roll.{flagsRecordSize, rollBytes}
 use Rattle.eif.specs.declared.Section.{Section}
 use Rattle.eif.specs.declared.Verdict.the-variants.{Accepted}
-use Rattle.eif_lemmas.proofs.Table.{All}
 use Rattle.staged.specs.Staged.{afresh, stagedVerdict}
 use Rattle.staged.specs.View.{Holds, heldBy, stagedView}
 use Rattle.staged.specs.declared.Staged.{Staged}

@@ -9,6 +9,7 @@ use native.Mathlib.Omega.{arith}
 use native.Mathlib.Nat.{zero-add}
 use lib.ListN.{length, drop, getD, length-append, drop-of-length-le}
 use lib.Seq.{drop-cons}
+use Rattle.octets.specs.Lists.{All}
 use Rattle.octets.specs.Over.{over}
 use Rattle.octets.proofs.Over.{over-append}
 use Rattle.eif.specs.Numbers.{sizeLimit, placeCount}
@@ -17,7 +18,7 @@ use Rattle.eif.specs.Reading.{blankSection}
 use Rattle.eif.specs.Rules.{bootType}
 use Rattle.eif.specs.Roll.{recordHeadSize, flagsRecordSize, headOf, flagsRecord, endType, rollOf}
 use Rattle.eif.specs.declared.Section.{Section}
-use Rattle.eif_lemmas.proofs.Table.{All, all-at}
+use Rattle.eif_lemmas.proofs.Table.{all-at}
 use Rattle.eif_lemmas.proofs.Flags.{length-flags}
 use Rattle.staged.specs.View.{Holds}
 use Rattle.staged.proofs.Same.{recordsBy}

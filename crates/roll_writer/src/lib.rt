@@ -9,7 +9,7 @@ ghost use lib.ListN.{length};
 ghost use Rattle.octets.specs.Over.{over};
 ghost use Rattle.eif.specs.Plan.{writtenFor};
 ghost use Rattle.eif.specs.Roll.{recordHeadSize, flagsRecordSize, headOf, flagsRecord, rollAnswer, rollOutput, rollLength};
-ghost use Rattle.eif_lemmas.proofs.Table.{All};
+ghost use Rattle.octets.specs.Lists.{All};
 ghost use Rattle.staged.specs.Staged.{stagedRollAnswer, stagedRollOutput, stagedRollLength};
 ghost use Rattle.staged.specs.View.{Holds, heldBy};
 ghost use Rattle.roll_writer.specs.Write.{rollPart, rollPartSize, rollFor, sizeFor, sizeBound, sectionsRoll, roomAnswer, roomOutput};

@@ -5,10 +5,13 @@ use Prim.Native.Nat.{ℕ, zero, suc, _+_, _-_, _*_, _/_, _%_, _^_}
 use mathlib.Core.List.{List, [], _∷_, _++_}
 use lib.Bits.{bitAnd, bitOr, bitXor}
 use lib.ListN.{length, take, drop, getD, replicate}
-use Rattle.octets.specs.Bytes.{beBytes, field}
+use Rattle.octets.specs.Bytes.{beBytes, beBytesEach, field}
 use Rattle.sha384_block.specs.declared.Vars.{Vars}
 
--- ---- section 1, figure 1: a block is of 1024 bits and a digest of 384, here counted in bytes
+-- ---- section 1, figure 1: a word is of 64 bits, a block of 1024 and a digest of 384, here counted in bytes
+
+abbrev pub wordSize : ℕ
+wordSize = 8
 
 abbrev pub blockSize : ℕ
 blockSize = 128
@@ -109,7 +112,7 @@ extend (suc n) w = extend n (w ++ (nextWord w ∷ []))
 -- n words of a byte string from its word i on
 unfoldable pub wordsFrom : ℕ → ℕ → List ℕ → List ℕ
 wordsFrom zero i s = []
-wordsFrom (suc n) i s = field 8 (8 * i) s ∷ wordsFrom n (i + 1) s
+wordsFrom (suc n) i s = field wordSize (wordSize * i) s ∷ wordsFrom n (i + 1) s
 
 -- the sixteen words of the block, and sixty-four more
 unfoldable pub schedule : List ℕ → List ℕ
@@ -178,14 +181,9 @@ unfoldable pub hashBlocks : ℕ → List ℕ → List ℕ → List ℕ
 hashBlocks zero x s = x
 hashBlocks (suc n) x s = hashBlocks n (compress x (take blockSize s)) (drop blockSize s)
 
--- words as bytes
-unfoldable pub wordBytes : List ℕ → List ℕ
-wordBytes [] = []
-wordBytes (w ∷ ws) = beBytes 8 w ++ wordBytes ws
-
--- the first 384 bits of a hash value
+-- the first 384 bits of a hash value, whose words are bytes one after the other
 unfoldable pub digestOf : List ℕ → List ℕ
-digestOf x = take digestSize (wordBytes x)
+digestOf x = take digestSize (beBytesEach wordSize x)
 
 unfoldable pub sha384 : List ℕ → List ℕ
 sha384 s =

@@ -8,6 +8,7 @@ use mathlib.Core.Logic.{⊎-elim}
 use native.Mathlib.Omega.{arith}
 use borrow.Author.Tests.{lt-ltb, le-ltb}
 use lib.ListN.{length, length-append}
+use Rattle.octets.specs.Lists.{joined}
 use Rattle.octets.proofs.Over.{le-or-lt}
 use Rattle.eif.specs.Numbers.{messageTooLong}
 use Rattle.eif.specs.Answers.{refuse, numberOf}
@@ -16,7 +17,7 @@ use Rattle.sha384_block.specs.Fips.{sha384}
 use Rattle.sha384.specs.State.{initialState, absorbed, digestFrom, stateAfter, updated, totalLimit}
 use Rattle.sha384.specs.declared.State.{State}
 use Rattle.sha384.specs.declared.Updated.{Updated}
-use Rattle.sha384_laws.specs.Pieces.{afterAll, piecesJoined, taken}
+use Rattle.sha384_laws.specs.Pieces.{afterAll, taken}
 use Rattle.sha384_laws.proofs.Fed.{total-fed, total-stateOf, fed-append, fed-nothing, fresh-fed, fresh-finished}
 
 -- ---- one piece
@@ -65,18 +66,18 @@ pub pieces-digest : (ps : List (List ℕ)) → digestFrom (afterAll initialState
 pieces-digest ps = ap digestFrom (pieces-state ps) ∙ fresh-finished (taken 0 ps)
 
 -- and where all of them are within the limit, that is all of them
-pub all-taken : (total : ℕ) (ps : List (List ℕ)) → total + length (piecesJoined ps) ≤ totalLimit → taken total ps ≡ piecesJoined ps
-unfolding taken piecesJoined
+pub all-taken : (total : ℕ) (ps : List (List ℕ)) → total + length (joined ps) ≤ totalLimit → taken total ps ≡ joined ps
+unfolding taken
 all-taken total [] h = refl
 all-taken total (p ∷ ps) h =
-    let n = length-append p (piecesJoined ps) in
+    let n = length-append p (joined ps) in
     let g : total + length p ≤ totalLimit = omega arith in
     simp (le-ltb _ _ g) (ap (λ (l : List ℕ). p ++ l) (all-taken (total + length p) ps (omega arith)))
 
-pub joined-state : (ps : List (List ℕ)) → length (piecesJoined ps) ≤ totalLimit → afterAll initialState ps ≡ stateAfter (piecesJoined ps)
+pub joined-state : (ps : List (List ℕ)) → length (joined ps) ≤ totalLimit → afterAll initialState ps ≡ stateAfter (joined ps)
 joined-state ps h = pieces-state ps ∙ ap stateAfter (all-taken 0 ps (omega arith))
 
-pub joined-digest : (ps : List (List ℕ)) → length (piecesJoined ps) ≤ totalLimit → digestFrom (afterAll initialState ps) ≡ sha384 (piecesJoined ps)
+pub joined-digest : (ps : List (List ℕ)) → length (joined ps) ≤ totalLimit → digestFrom (afterAll initialState ps) ≡ sha384 (joined ps)
 joined-digest ps h = pieces-digest ps ∙ ap sha384 (all-taken 0 ps (omega arith))
 
 -- ---- one piece more, after any pieces from the fresh state

@@ -11,6 +11,7 @@ use borrow.Author.Tests.{eq-eqb, ne-eqb, lt-ltb, le-ltb}
 use lib.Dec.{eqb}
 use lib.ListN.{length, getD, set, take, drop, drop-of-length-le}
 use lib.Seq.{take-length, drop-nil}
+use Rattle.octets.specs.Lists.{All}
 use Rattle.octets.proofs.Over.{le-or-lt}
 use Rattle.eif.specs.Numbers.{placeCount, sizeLimit}
 use Rattle.octets.specs.Logic.{choose}
@@ -26,10 +27,10 @@ use Rattle.eif.specs.declared.Stream.{Stream}
 use Rattle.eif.specs.declared.Verdict.the-variants.{Accepted}
 use Rattle.octets.proofs.Logic.{equal-or-not}
 use Rattle.eif_lemmas.proofs.Reading.{reading-accepted}
-use Rattle.eif_lemmas.proofs.Table.{All, all-filled, filled-at, length-filled}
-use Rattle.eif_lemmas.proofs.Accept.{length-data}
+use Rattle.eif_lemmas.proofs.Table.{all-filled, filled-at, length-filled}
+use Rattle.eif_lemmas.proofs.Accept.{length-data, sound-at}
 use Rattle.plain_laws.proofs.Written.{size-small, read-flags}
-use Rattle.plain_laws.proofs.WriteBack.{piece, head, entry}
+use Rattle.plain_laws.proofs.WriteBack.{piece, head}
 use Rattle.staged.specs.Staged.{afresh}
 use Rattle.staged.specs.View.{moved, stagedSections, heldBy, heldStart, Holds}
 use Rattle.staged.proofs.Accept.{Stages}
@@ -99,7 +100,7 @@ module _ (s r : List ℕ) (k : ℕ) where
       where
         by : (b : Bool) → heldBy s r (choose b (moved (sectionAt s k) (length s) (length r)) (sectionAt s i)) ≡ choose b r (piece s i)
         by true = replaced-data
-        by false = held-inside s r (sectionAt s i) (entry s ok i h .ends)
+        by false = held-inside s r (sectionAt s i) (sound-at s ok i h .ends)
 
     pub kind-is : (i : ℕ) → stagedAt i .kind ≡ kindAt s i
     kind-is i =
@@ -176,7 +177,7 @@ module _ (s r : List ℕ) (k j : ℕ) (a : Stages s (length r) k j) where
       by : (b : Bool) → Holds (heldBy s r) (choose b (moved (sectionAt s k) (length s) (length r)) (sectionAt s i))
       by true = ap length (replaced-data s r k)
       by false =
-          let q = entry s ok i h .ends in
+          let q = sound-at s ok i h .ends in
           ap length (held-inside s r (sectionAt s i) q) ∙ length-data s (sectionAt s i) q
 
   small-at : (i : ℕ) → i < countOf s → stagedAt s r k i .length .0 ≤ sizeLimit
@@ -184,7 +185,7 @@ module _ (s r : List ℕ) (k j : ℕ) (a : Stages s (length r) k j) where
     where
       by : (b : Bool) → choose b (moved (sectionAt s k) (length s) (length r)) (sectionAt s i) .length .0 ≤ sizeLimit
       by true = replacement-small
-      by false = let q = entry s ok i h .ends in let m = head s ok .small in omega arith
+      by false = let q = sound-at s ok i h .ends in let m = head s ok .small in omega arith
 
   blank-holds : Holds (heldBy s r) blankSection
   blank-holds = ap length (held-inside s r blankSection (omega arith))

@@ -1,10 +1,8 @@
 // Runs cases of the staged view, one line each: what is shown of each section, and the roll beside that of the image written afresh.
 ghost use lib.ListN.{length};
-use eif::DataLength;
+use case_images::Shape;
 use eif::PLACES;
-use eif::Place;
 use eif::Plan;
-use eif::Refusal;
 use eif::SectionType;
 use eif::Verdict;
 use eif::Written;
@@ -31,20 +29,11 @@ fn hex(bytes: &[u8]) {
     }
 }
 
-fn refusal(r: Refusal) {
-    text(b"refused ");
-    number(r.number as u64);
-    text(b" at ");
-    number(r.index);
-    text(b" byte ");
-    number(r.position);
-}
-
 fn answer(verdict: Verdict) {
-    match verdict {
-        Verdict::Accepted => text(b"accepted"),
-        Verdict::Refused(r) => refusal(r),
-    }
+    let said = case_lines::answer(verdict);
+    let bytes = said.bytes;
+    let length = said.length;
+    text(&bytes[..length]);
 }
 
 // ---- the view
@@ -82,45 +71,26 @@ fn rolled(written: Written) {
 
 // ---- the base: kernel, command line and two ramdisks
 
-fn put_base(image: &mut [u8]) {
-    case_images::put_header(image, 2, 1, 4);
-    case_images::put_section(image, 0, 548, SectionType::KERNEL, 0, b"Kern");
-    case_images::put_section(image, 1, 564, SectionType::COMMAND_LINE, 0, b"a=1");
-    case_images::put_section(image, 2, 579, SectionType::RAMDISK, 0, b"first");
-    case_images::put_section(image, 3, 596, SectionType::RAMDISK, 7, b"second");
-    case_images::put_checksum(image);
-}
-
-fn views() {
-    let mut base = [0u8; 614];
-    put_base(&mut base);
-    shown(&base, b"mended", 2, 0);
-    shown(&base, b"mended", 2, 1);
-    shown(&base, b"mended", 2, 2);
-    shown(&base, b"mended", 2, 3);
-    shown(&base, b"", 3, 3);
-    shown(&base, b"mended", 4, 0);
-    shown(&base, b"mended", 0, 4);
-    shown(&base, b"mended", 18446744073709551615, 0);
+fn views(base: &[u8]) {
+    shown(base, b"mended", 2, 0);
+    shown(base, b"mended", 2, 1);
+    shown(base, b"mended", 2, 2);
+    shown(base, b"mended", 2, 3);
+    shown(base, b"", 3, 3);
+    shown(base, b"mended", 4, 0);
+    shown(base, b"mended", 0, 4);
+    shown(base, b"mended", 18446744073709551615, 0);
 }
 
 // The base's refusal comes first.
-fn damaged() {
-    let mut base = [0u8; 614];
-    put_base(&mut base);
-    case_images::put_header(&mut base, 9, 1, 4);
-    shown(&base, b"mended", 9, 9);
+fn damaged(base: &[u8]) {
+    let mut other = [0u8; 614];
+    octets::copy(&mut other, 0, base);
+    case_images::put_header(&mut other, 9, 1, 4);
+    shown(&other, b"mended", 9, 9);
 }
 
 // ---- the roll
-
-fn place(kind: u16, flags: u16, size: u64) -> Place {
-    Place {
-        kind,
-        flags,
-        length: DataLength(size),
-    }
-}
 
 fn told(equal: bool) {
     if equal {
@@ -148,12 +118,12 @@ fn both<'a>(image: &[u8], base: &'a [u8], replacement: &'a [u8], replaced: u64) 
 
 // The plan of the image written afresh with `mended` for section 2.
 fn mended_plan() -> Plan {
-    let none = place(0, 0, 0);
+    let none = case_images::place(0, 0, 0);
     let mut places = [none; PLACES];
-    places[0] = place(SectionType::KERNEL, 0, 4);
-    places[1] = place(SectionType::COMMAND_LINE, 0, 3);
-    places[2] = place(SectionType::RAMDISK, 0, 6);
-    places[3] = place(SectionType::RAMDISK, 7, 6);
+    places[0] = case_images::place(SectionType::KERNEL, 0, 4);
+    places[1] = case_images::place(SectionType::COMMAND_LINE, 0, 3);
+    places[2] = case_images::place(SectionType::RAMDISK, 0, 6);
+    places[3] = case_images::place(SectionType::RAMDISK, 7, 6);
     Plan {
         version: 2,
         flags: 1,
@@ -164,23 +134,14 @@ fn mended_plan() -> Plan {
     }
 }
 
-fn mended() {
-    let mut base = [0u8; 614];
-    put_base(&mut base);
+fn mended(base: &[u8]) {
     let plan = mended_plan();
     let mut fresh = [0u8; 615];
     let image = eif_writer::write(plan, b"Kerna=1mendedsecond", &mut fresh);
     text(b"afresh: ");
     rolled(image);
     text(b"\n");
-    both(&fresh, &base, b"mended", 2);
-}
-
-// A section replaced by its own data.
-fn itself() {
-    let mut base = [0u8; 614];
-    put_base(&mut base);
-    both(&base, &base, b"second", 3);
+    both(&fresh, base, b"mended", 2);
 }
 
 // Into a room of 8 bytes, for a section.
@@ -196,41 +157,32 @@ fn small_room(base: &[u8], replaced: u64) {
     text(b"\n");
 }
 
-fn refusals() {
-    let mut base = [0u8; 614];
-    put_base(&mut base);
-    small_room(&base, 2);
-    small_room(&base, 4);
-}
-
-// Over the limit, by the length alone: the base written afresh is 614 bytes, of which the first ramdisk is 5.
-fn limits() {
-    let mut base = [0u8; 614];
-    put_base(&mut base);
-    let most = staged_view::judge(&base, 1073741215, 2, 2);
-    let at_limit = most.verdict;
-    text(b"at the limit: ");
-    answer(at_limit);
-    let over = staged_view::judge(&base, 1073741216, 2, 2);
-    let past_limit = over.verdict;
-    text(b"\none more: ");
-    answer(past_limit);
-    let huge = staged_view::judge(&base, 18446744073709551615, 2, 2);
-    let huge_verdict = huge.verdict;
-    text(b"\nthe most: ");
-    answer(huge_verdict);
-    let both = staged_view::judge(&base, 18446744073709551615, 2, 4);
-    let both_verdict = both.verdict;
-    text(b"\nthe most, shown 4: ");
-    answer(both_verdict);
+// What is judged with a replacement of a length, for a section.
+fn judged(label: &[u8], base: &[u8], size: u64, section: u64) {
+    let answered = staged_view::judge(base, size, 2, section);
+    let verdict = answered.verdict;
+    text(label);
+    answer(verdict);
     text(b"\n");
 }
 
+// Over the limit, by the length alone: the base written afresh is 614 bytes, of which the first ramdisk is 5.
+fn limits(base: &[u8]) {
+    judged(b"at the limit: ", base, 1073741215, 2);
+    judged(b"one more: ", base, 1073741216, 2);
+    judged(b"the most: ", base, 18446744073709551615, 2);
+    judged(b"the most, shown 4: ", base, 18446744073709551615, 4);
+}
+
 fn main() {
-    views();
-    damaged();
-    mended();
-    itself();
-    refusals();
-    limits();
+    let mut base = [0u8; 614];
+    case_images::put_image(&mut base, Shape::BASE, b"Kerna=1firstsecond");
+    views(&base);
+    damaged(&base);
+    mended(&base);
+    // a section replaced by its own data
+    both(&base, &base, b"second", 3);
+    small_room(&base, 2);
+    small_room(&base, 4);
+    limits(&base);
 }

@@ -12,7 +12,7 @@ use Rattle.staged.specs.Staged.{stagedPart, afresh}
 abbrev pub ownData : List ℕ → ℕ → List ℕ
 ownData s k = dataOf s (sectionAt s k)
 
-pub record Afresh (s r : List ℕ) (k : ℕ) : Type 0 where
+pub record WrittenAfresh (s r : List ℕ) (k : ℕ) : Type 0 where
   -- it is accepted, and plain
   pub plain : Plain (afresh s r k)
   -- it has the base's header fields and sections, in order, and their data are the staged parts

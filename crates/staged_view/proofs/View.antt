@@ -10,27 +10,24 @@ use lib.ListN.{length, getD, set}
 use Rattle.eif.specs.Numbers.{sizeLimit, imageTooLong, noSuchSection}
 use Rattle.octets.specs.Logic.{choose, either}
 use Rattle.eif.specs.Answers.{refuse}
-use Rattle.eif.specs.Reading.{verdictOf, blankSection, readImage}
+use Rattle.eif.specs.Reading.{blankSection, readImage}
 use Rattle.eif.specs.Plan.{plainSize, planOf}
 use Rattle.staged.specs.Staged.{withPlace, stagedPlan, stagedVerdict}
 use Rattle.eif.specs.declared.Reading.{Reading}
 use Rattle.eif.specs.declared.Refusal.{Refusal}
 use Rattle.eif.specs.declared.Verdict.{Verdict}
 use Rattle.eif.specs.declared.Verdict.the-variants.{Accepted, Refused}
-use Rattle.eif_lemmas.proofs.Reading.{reading-verdict}
+use Rattle.eif_lemmas.proofs.Reading.{verdict-is, told-accepted}
 use Rattle.staged.specs.declared.Staged.{Staged}
 use Rattle.staged.specs.View.{moved, stagedSections, blankStaged, stagedFor, stagedView}
 
 module _ (s : List ℕ) (x : Reading) (e : x ≡ readImage s) (size k j : ℕ) where
-  verdict-is : verdictOf s ≡ x .verdict
-  verdict-is = sym (reading-verdict s) ∙ ap (λ (y : Reading). y .verdict) (sym e)
-
   abbrev Answer : Verdict → Type 0
   Answer v = blankStaged v ≡ stagedView s size k j
 
   pub base-refused : (r : Refusal) → x .verdict ≡ Refused r → Answer (Refused r)
   unfolding stagedView stagedVerdict
-  base-refused r h = let v = verdict-is ∙ h in simp v
+  base-refused r h = let v = sym (verdict-is s x e) ∙ h in simp v
 
   module _ (ok : x .verdict ≡ Accepted) where
     -- a refusal of the staged view itself
@@ -39,7 +36,7 @@ module _ (s : List ℕ) (x : Reading) (e : x ≡ readImage s) (size k j : ℕ) w
         (choose (ltb sizeLimit (plainSize (stagedPlan s k size))) (refuse imageTooLong 0) Accepted) ≡ Refused r
         → Answer (Refused r)
     unfolding stagedView stagedVerdict
-    refused-by r h = let v = verdict-is ∙ ok in simp (v, h)
+    refused-by r h = let v = told-accepted s x e ok in simp (v, h)
 
     pub no-replaced : x .count ≤ k → Answer (refuse noSuchSection 0)
     no-replaced h = let g : readImage s .count ≤ k = rw e at h in refused-by _ (simp (le-leb _ _ g))
@@ -67,7 +64,7 @@ module _ (s : List ℕ) (x : Reading) (e : x ≡ readImage s) (size k j : ℕ) w
 
         accepted : Long false → stagedVerdict s size k j ≡ Accepted
         unfolding stagedVerdict
-        accepted h = let v = verdict-is ∙ ok in simp (v, there, there-too, long-is false h)
+        accepted h = let v = told-accepted s x e ok in simp (v, there, there-too, long-is false h)
 
         pub fine : Long false → record { verdict = x .verdict; flags = x .flags; sections = set (x .sections) k (moved (getD (x .sections) k blankSection) (length s) size) } ≡ stagedView s size k j
         unfolding stagedView stagedSections

@@ -1,7 +1,7 @@
 // Runs the cases of the three streams, one line each: what each stream of small images is, and copying from positions at and
-// around borders and ends. An output buffer is shown whole; it held dots before the call.
+// around borders and ends. An output buffer is shown whole; it held dots before the call. Section types are FORMAT.md's numbers.
+use case_images::Shape;
 use eif::Header;
-use eif::Refusal;
 use eif::SectionType;
 use eif::Stream;
 use eif::StreamPosition;
@@ -23,20 +23,11 @@ fn in_brackets(bytes: &[u8]) {
     text(b"]");
 }
 
-fn refusal(r: Refusal) {
-    text(b"refused ");
-    number(r.number as u64);
-    text(b" at ");
-    number(r.index);
-    text(b" byte ");
-    number(r.position);
-}
-
 fn answer(verdict: Verdict) {
-    match verdict {
-        Verdict::Accepted => text(b"accepted"),
-        Verdict::Refused(r) => refusal(r),
-    }
+    let said = case_lines::answer(verdict);
+    let bytes = said.bytes;
+    let length = said.length;
+    text(&bytes[..length]);
 }
 
 // The answer, the number of bytes copied and every byte of the output.
@@ -88,140 +79,67 @@ fn streams(label: &[u8], image: &[u8]) {
     text(b"\n");
 }
 
-// ---- images; sections are packed, each at the end of the one before it
-
-fn put(image: &mut [u8], i: u8, at: u32, kind: u16, lent: &[u8]) {
-    case_images::put_section(image, i, at, kind, 0, lent);
-}
-
-// Kernel, command line and three ramdisks, without its checksum; 633 bytes.
-fn put_ordinary(image: &mut [u8]) {
-    case_images::put_header(image, 2, 0, 5);
-    put(image, 0, 548, SectionType::KERNEL, b"kernel");
-    put(image, 1, 566, SectionType::COMMAND_LINE, b"cmd");
-    put_ramdisks(image);
-}
-
-fn put_ramdisks(image: &mut [u8]) {
-    put(image, 2, 581, SectionType::RAMDISK, b"first");
-    put(image, 3, 598, SectionType::RAMDISK, b"second");
-    put(image, 4, 616, SectionType::RAMDISK, b"third");
-}
-
-fn put_command_line_first(image: &mut [u8]) {
-    case_images::put_header(image, 2, 0, 3);
-    put(image, 0, 548, SectionType::COMMAND_LINE, b"cmd");
-    put(image, 1, 563, SectionType::KERNEL, b"kernel");
-    put(image, 2, 581, SectionType::RAMDISK, b"ram");
-}
-
-fn put_command_line_last(image: &mut [u8]) {
-    case_images::put_header(image, 2, 0, 4);
-    put(image, 0, 548, SectionType::KERNEL, b"kernel");
-    put(image, 1, 566, SectionType::RAMDISK, b"one");
-    put(image, 2, 581, SectionType::RAMDISK, b"two");
-}
-
-// A command line with no bytes, and ramdisks with none between others.
-fn put_empty_sections(image: &mut [u8]) {
-    case_images::put_header(image, 2, 0, 5);
-    put(image, 0, 548, SectionType::KERNEL, b"k");
-    put(image, 1, 561, SectionType::COMMAND_LINE, b"");
-    put(image, 2, 573, SectionType::RAMDISK, b"a");
-}
-
-// Kernel and command line of one byte each.
-fn put_small(image: &mut [u8], count: u16) {
-    case_images::put_header(image, 2, 0, count);
-    put(image, 0, 548, SectionType::KERNEL, b"k");
-    put(image, 1, 561, SectionType::COMMAND_LINE, b"c");
-}
-
-fn put_signed(image: &mut [u8]) {
-    case_images::put_header(image, 3, 0, 4);
-    put(image, 0, 548, SectionType::KERNEL, b"k");
-    put(image, 1, 561, SectionType::SIGNATURE, b"sig");
-    put(image, 2, 576, SectionType::COMMAND_LINE, b"c");
-}
-
 // ---- which sections, in what order
 
-fn ordinary() {
-    let mut image = [0u8; 633];
-    put_ordinary(&mut image);
-    case_images::put_checksum(&mut image);
-    streams(b"in order", &image);
-    within(&image);
-    ends(&image);
-    pieces(&image);
-    listed(&image);
+// Room for the longest image.
+const ROOM: usize = 640;
+
+fn streams_of(label: &[u8], shape: Shape, lent: &[u8]) {
+    let mut image = [0u8; ROOM];
+    let size = case_images::put_image(&mut image, shape, lent);
+    streams(label, &image[..size]);
 }
 
-fn command_line_first() {
-    let mut image = [0u8; 596];
-    put_command_line_first(&mut image);
-    case_images::put_checksum(&mut image);
-    streams(b"command line before the kernel", &image);
-}
-
-fn command_line_last() {
-    let mut image = [0u8; 611];
-    put_command_line_last(&mut image);
-    put(&mut image, 3, 596, SectionType::COMMAND_LINE, b"cmd");
-    case_images::put_checksum(&mut image);
-    streams(b"command line after the ramdisks", &image);
-}
-
-fn command_line_between() {
-    let mut image = [0u8; 611];
-    put_command_line_last(&mut image);
-    put(&mut image, 2, 581, SectionType::COMMAND_LINE, b"cmd");
-    put(&mut image, 3, 596, SectionType::RAMDISK, b"two");
-    case_images::put_checksum(&mut image);
-    streams(b"command line between two ramdisks", &image);
+fn command_lines() {
+    streams_of(
+        b"command line before the kernel",
+        Shape::COMMAND_LINE_FIRST,
+        b"cmdkernelram",
+    );
+    streams_of(
+        b"command line after the ramdisks",
+        Shape::COMMAND_LINE_LAST,
+        b"kernelonetwocmd",
+    );
+    streams_of(
+        b"command line between two ramdisks",
+        Shape::COMMAND_LINE_BETWEEN,
+        b"kernelonecmdtwo",
+    );
 }
 
 fn empty_sections() {
-    let mut image = [0u8; 611];
-    put_empty_sections(&mut image);
-    put(&mut image, 3, 586, SectionType::RAMDISK, b"");
-    put(&mut image, 4, 598, SectionType::RAMDISK, b"b");
-    case_images::put_checksum(&mut image);
-    streams(b"empty sections in the middle", &image);
-}
-
-fn first_ramdisk_empty() {
-    let mut image = [0u8; 599];
-    put_small(&mut image, 4);
-    put(&mut image, 2, 574, SectionType::RAMDISK, b"");
-    put(&mut image, 3, 586, SectionType::RAMDISK, b"b");
-    case_images::put_checksum(&mut image);
-    streams(b"first ramdisk empty", &image);
+    streams_of(
+        b"empty sections in the middle",
+        case_images::without_flags(2, 5, [1, 2, 3, 3, 3, 0], [1, 0, 1, 0, 1, 0]),
+        b"kab",
+    );
+    streams_of(
+        b"first ramdisk empty",
+        case_images::without_flags(2, 4, [1, 2, 3, 3, 0, 0], [1, 1, 0, 1, 0, 0]),
+        b"kcb",
+    );
 }
 
 fn no_ramdisk() {
     let mut image = [0u8; 574];
-    put_small(&mut image, 2);
-    case_images::put_checksum(&mut image);
+    case_images::put_image(&mut image, Shape::NO_RAMDISK, b"kc");
     streams(b"no ramdisk", &image);
     copy_few(b"its App from 0", &image, Stream::App, 0);
     copy_few(b"its App from 1", &image, Stream::App, 1);
 }
 
 fn one_ramdisk() {
-    let mut image = [0u8; 587];
-    put_small(&mut image, 3);
-    put(&mut image, 2, 574, SectionType::RAMDISK, b"r");
-    case_images::put_checksum(&mut image);
-    streams(b"one ramdisk", &image);
-}
-
-fn signed() {
-    let mut image = [0u8; 602];
-    put_signed(&mut image);
-    put(&mut image, 3, 589, SectionType::RAMDISK, b"r");
-    case_images::put_checksum(&mut image);
-    streams(b"a signature between", &image);
+    streams_of(
+        b"one ramdisk",
+        case_images::without_flags(2, 3, [1, 2, 3, 0, 0, 0], [1, 1, 1, 0, 0, 0]),
+        b"kcr",
+    );
+    streams_of(
+        b"a signature between",
+        case_images::without_flags(3, 4, [1, 4, 2, 3, 0, 0], [1, 3, 1, 1, 0, 0]),
+        b"ksigcr",
+    );
 }
 
 // ---- positions and room, for the image in order
@@ -322,33 +240,34 @@ fn listed(image: &[u8]) {
 
 // ---- the image's own refusal comes first
 
-fn wrong_checksum() {
-    let mut image = [0u8; 633];
-    put_ordinary(&mut image);
-    case_images::put_checksum(&mut image);
-    octets::put_be16(&mut image, Header::FLAGS_AT, 1);
-    copy_few(b"its checksum wrong, from 0", &image, Stream::Whole, 0);
+fn wrong_checksum(image: &mut [u8]) {
+    octets::put_be16(image, Header::FLAGS_AT, 1);
+    copy_few(b"its checksum wrong, from 0", image, Stream::Whole, 0);
     copy_few(
         b"its checksum wrong, from all ones",
-        &image,
+        image,
         Stream::Whole,
         18446744073709551615,
     );
-    length(b"its checksum wrong, length", &image, Stream::Whole);
+    length(b"its checksum wrong, length", image, Stream::Whole);
 }
 
 fn before_kernel() {
     let mut image = [0u8; 596];
-    put_command_line_first(&mut image);
+    case_images::put_image(&mut image, Shape::COMMAND_LINE_FIRST, b"cmdkernelram");
     octets::put_be16(&mut image, 563, SectionType::RAMDISK);
     case_images::put_checksum(&mut image);
     copy_few(b"a ramdisk before the kernel", &image, Stream::Boot, 0);
 }
 
+fn put_in_order(image: &mut [u8]) {
+    case_images::put_image(image, Shape::IN_ORDER, b"kernelcmdfirstsecondthird");
+}
+
 // Two bytes at a position; the checksum stays.
 fn damaged(label: &[u8], at: usize, value: u16) {
     let mut image = [0u8; 633];
-    put_ordinary(&mut image);
+    put_in_order(&mut image);
     octets::put_be16(&mut image, at, value);
     copy_few(label, &image, Stream::Whole, 0);
 }
@@ -365,7 +284,7 @@ fn at_a_section() {
 
 fn one_more() {
     let mut image = [0u8; 634];
-    put_ordinary(&mut image);
+    put_in_order(&mut image);
     case_images::put_checksum(&mut image);
     length(
         b"one byte after the last section, length",
@@ -374,17 +293,27 @@ fn one_more() {
     );
 }
 
-fn main() {
-    ordinary();
-    command_line_first();
-    command_line_last();
-    command_line_between();
+fn in_order(image: &[u8]) {
+    streams(b"in order", image);
+    within(image);
+    ends(image);
+    pieces(image);
+    listed(image);
+}
+
+fn orders() {
+    command_lines();
     empty_sections();
-    first_ramdisk_empty();
     no_ramdisk();
     one_ramdisk();
-    signed();
-    wrong_checksum();
+}
+
+fn main() {
+    let mut image = [0u8; 633];
+    put_in_order(&mut image);
+    in_order(&image);
+    orders();
+    wrong_checksum(&mut image);
     before_kernel();
     at_a_section();
     one_more();

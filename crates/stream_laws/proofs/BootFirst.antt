@@ -19,7 +19,7 @@ use Rattle.eif.specs.Stream.{laterRamdisk, keeps, kept, sectionKind, streamSect
 use Rattle.eif.specs.Acceptance.{MeetsRules}
 use Rattle.eif.specs.declared.Section.{Section}
 use Rattle.eif.specs.declared.Stream.the-variants.{Whole, Boot, App}
-use Rattle.octets.proofs.Logic.{both-true, equal-or-not}
+use Rattle.octets.proofs.Logic.{both-true, equal-or-not, not-both}
 use Rattle.eif_lemmas.proofs.Table.{filled-at, filled-past}
 use Rattle.stream_laws.specs.Sums.{ramdisksIn, ramdisksBefore}
 use Rattle.stream_laws.proofs.Sections.{later-in, joined-append}
@@ -41,7 +41,7 @@ none-in-boot : (x : Section) (xs : List Section) (before : ℕ) → 1 ≤ before
 none-in-boot x xs before some lacks false r e f = refl
 none-in-boot x xs before some lacks true true e f = rw (lt-ltb 0 before (omega arith)) refl
 none-in-boot x xs before some lacks true false e f =
-    absurd (lacks (record { inside = omega arith; boot = e; other = λ k. let z : _≡_ {A = ℕ} 0 1 = ap (λ (b : Bool). choose b 1 0) (sym f ∙ eq-eqb _ _ k) in omega arith }))
+    absurd (lacks (record { inside = omega arith; boot = e; other = λ k. not-both (sym f ∙ eq-eqb _ _ k) }))
 
 boot-empty : (before : ℕ) (l : List Section) → 1 ≤ before → ((i : ℕ) → Single l i → ⊥) → kept Boot sectionKind before l ≡ []
 unfolding kept keeps
@@ -57,7 +57,7 @@ joined : (t later : Bool) (x : Section) (w b a : List Section) → w ≡ b ++ a 
 joined true true x w b a e n z =
     ap (λ (l : List Section). x ∷ l) (e ∙ ap (λ (l : List Section). l ++ a) (n refl)) ∙ sym (ap (λ (l : List Section). l ++ (x ∷ a)) (n refl))
 joined true false x w b a e n z = ap (λ (l : List Section). x ∷ l) e
-joined false true x w b a e n z = let o : _≡_ {A = ℕ} 0 1 = ap (λ (c : Bool). choose c 1 0) (sym z) in absurd (omega arith)
+joined false true x w b a e n z = not-both (sym z)
 joined false false x w b a e n z = e
 
 -- a kernel or a command line has at most one ramdisk before it
@@ -107,9 +107,7 @@ module _ (s : List ℕ) (meets : MeetsRules s) where
   used i h =
       ⊎-elim
       (λ (g : countOf s ≤ i).
-      let z : _≡_ {A = ℕ} 0 1 = ap (λ (x : Section). choose (bootType (x .kind)) 1 0) (sym (filled-past (sectionAt s) blankSection placeCount (countOf s) i g))
-      ∙ ap (λ (b : Bool). choose b 1 0) (h .boot) in
-      absurd (omega arith))
+      not-both (ap (λ (x : Section). bootType (x .kind)) (sym (filled-past (sectionAt s) blankSection placeCount (countOf s) i g)) ∙ h .boot))
       (λ (g : i < countOf s). g)
       (le-or-lt (countOf s) i)
 

@@ -8,13 +8,13 @@ use native.Mathlib.Omega.{arith}
 use borrow.Author.Tests.{le-ltb}
 use lib.ListN.{length, take, drop, length-take, length-drop, drop-of-length-le}
 use lib.Seq.{take-all, take-nil, take-add, drop-drop, take-append-seam, length-take-le}
+use Rattle.octets.specs.Lists.{All}
 use Rattle.octets.proofs.Over.{over-parts}
 use Rattle.eif.specs.Reading.{verdictOf}
 use Rattle.eif.specs.Stream.{streamOf, streamPart, copyVerdict, copyAnswer, copyOutput}
 use Rattle.eif.specs.declared.Stream.{Stream}
 use Rattle.eif.specs.declared.Verdict.the-variants.{Accepted}
 use Rattle.octets.proofs.Over.{le-or-lt}
-use Rattle.eif_lemmas.proofs.Table.{All}
 use Rattle.stream_laws.specs.Pieces.{copied, verdicts, room}
 
 -- ---- two parts of a list

@@ -9,6 +9,8 @@ use native.Mathlib.Nat.{add-zero, add-assoc}
 use borrow.Author.Tests.{eqb-true, le-leb}
 use lib.Dec.{eqb, ltb}
 use lib.ListN.{length, length-append}
+use Rattle.octets.proofs.Logic.{not-both}
+use Rattle.octets.specs.Lists.{All}
 use Rattle.eif.specs.Numbers.{kernel, ramdisk}
 use Rattle.octets.specs.Logic.{both, choose}
 use Rattle.eif.specs.Reading.{ramdiskIn, dataOf}
@@ -17,7 +19,6 @@ use Rattle.eif.specs.Stream.{laterRamdisk, keeps, kept, sectionKind, streamSect
 use Rattle.eif.specs.declared.Section.{Section}
 use Rattle.eif.specs.declared.Stream.{Stream}
 use Rattle.eif.specs.declared.Stream.the-variants.{Whole, Boot, App}
-use Rattle.eif_lemmas.proofs.Table.{All}
 use Rattle.eif_lemmas.proofs.Accept.{Inside, length-data}
 use Rattle.stream_laws.specs.Sums.{measuredIn, ramdisksIn, sumOf, lengthOf}
 
@@ -116,7 +117,7 @@ module _ (f : Section → ℕ) where
   one-of : (r later : Bool) (n : ℕ) → both later (not r) ≡ false → choose (both r (not later)) n 0 + choose later n 0 ≡ choose r n 0
   one-of true true n e = omega arith
   one-of true false n e = omega arith
-  one-of false true n e = let z : _≡_ {A = ℕ} 0 1 = ap (λ (b : Bool). choose b 1 0) (sym e) in absurd (omega arith)
+  one-of false true n e = not-both (sym e)
   one-of false false n e = omega arith
 
   pub sums-add : (before : ℕ) (l : List Section) → sumOf f (kept Boot sectionKind before l) + sumOf f (kept App sectionKind before l) ≡ sumOf f (kept Whole sectionKind before l)

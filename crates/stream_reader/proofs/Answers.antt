@@ -1,7 +1,7 @@
 -- The answers of copying and of a stream's length, by what the image's verdict is and where the position stands.
 -- Assumes nothing.
 use Prim.Native.Nat.{ℕ, _-_, _<_, _≤_, min}
-use mathlib.Core.Path.{_≡_, refl, sym, ap, _∙_}
+use mathlib.Core.Path.{_≡_, refl, ap, _∙_}
 use mathlib.Core.List.{List}
 use native.Mathlib.Omega.{arith}
 use borrow.Author.Tests.{lt-ltb, le-ltb}
@@ -22,7 +22,7 @@ use Rattle.eif.specs.declared.Stream.{Stream}
 use Rattle.eif.specs.declared.StreamSections.{StreamSections}
 use Rattle.eif.specs.declared.Verdict.the-variants.{Accepted, Refused}
 use Rattle.eif_lemmas.proofs.Table.{length-filled}
-use Rattle.eif_lemmas.proofs.Reading.{reading-verdict, reading-accepted}
+use Rattle.eif_lemmas.proofs.Reading.{told-accepted, reading-is}
 use Rattle.eif_lemmas.proofs.Accept.{passes}
 use Rattle.stream_laws.proofs.Sections.{kept-fits}
 use Rattle.stream_reader.proofs.Listed.{joined-bound}
@@ -79,15 +79,12 @@ module _ (s : List ℕ) (stream : Stream) where
 -- ---- of the reading of an image
 
 module _ (s : List ℕ) (r : Reading) (is : r ≡ readImage s) where
-  pub verdict-is : r .verdict ≡ verdictOf s
-  verdict-is = ap (λ (x : Reading). x .verdict) is ∙ reading-verdict s
-
   module _ (told : r .verdict ≡ Accepted) (stream : Stream) where
     pub accepted : verdictOf s ≡ Accepted
-    accepted = sym verdict-is ∙ told
+    accepted = told-accepted s r is told
 
     sections-are : r .sections ≡ sectionsOf s
-    sections-are = ap (λ (x : Reading). x .sections) (is ∙ reading-accepted s accepted)
+    sections-are = ap (λ (x : Reading). x .sections) (reading-is s r is told)
 
     pub stream-is : listedBytes s (sectionsAnswer stream (r .sections)) ≡ streamOf s stream
     unfolding streamOf

@@ -1,7 +1,8 @@
 // Runs cases of the stricter reading, one line each: an image, the answers of the ordinary and of the stricter reading, and the fields of
-// the latter, which are zero beside a refusal.
+// the latter, which are zero beside a refusal. Section types are FORMAT.md's numbers.
+use case_images::Shape;
+use eif::Header;
 use eif::Reading;
-use eif::Refusal;
 use eif::SectionType;
 use eif::Verdict;
 
@@ -16,17 +17,11 @@ fn field(name: &[u8], n: u64) {
     io::print_decimal(libc::STDOUT_FILENO, n);
 }
 
-fn refusal(r: Refusal) {
-    field(b"refused ", r.number as u64);
-    field(b" at ", r.index);
-    field(b" byte ", r.position);
-}
-
-fn verdict(v: Verdict) {
-    match v {
-        Verdict::Accepted => text(b"accepted"),
-        Verdict::Refused(r) => refusal(r),
-    }
+fn answer(verdict: Verdict) {
+    let said = case_lines::answer(verdict);
+    let bytes = said.bytes;
+    let length = said.length;
+    text(&bytes[..length]);
 }
 
 fn fields(reading: Reading) {
@@ -40,37 +35,39 @@ fn fields(reading: Reading) {
     text(b"\n");
 }
 
-fn answer(label: &[u8], image: &[u8]) {
+fn both(label: &[u8], image: &[u8]) {
     let ordinary = eif_reader::read(image);
     let strict = strict_reader::read_strict(image);
     let first = ordinary.verdict;
     let second = strict.verdict;
     text(label);
     text(b": ");
-    verdict(first);
+    answer(first);
     text(b", strict ");
-    verdict(second);
+    answer(second);
     fields(strict);
-}
-
-fn with_checksum(label: &[u8], image: &mut [u8]) {
-    case_images::put_checksum(image);
-    answer(label, image);
 }
 
 // ---- images
 
 // Version 4: kernel at 548, command line at 561, and at 574 the metadata, which ends the file.
 fn put_metadata(image: &mut [u8], lent: &[u8]) {
-    case_images::put_header(image, 4, 1, 3);
-    case_images::put_section(image, 0, 548, SectionType::KERNEL, 0, b"K");
-    case_images::put_section(image, 1, 561, SectionType::COMMAND_LINE, 0, b"a");
+    let shape = Shape {
+        version: 4,
+        flags: 1,
+        count: 3,
+        kinds: [1, 2, 5, 0, 0, 0],
+        own_flags: [0; case_images::MOST],
+        lengths: [1, 1, 0, 0, 0, 0],
+    };
+    case_images::put_image(image, shape, b"Ka");
     case_images::put_section(image, 2, 574, SectionType::METADATA, 0, lent);
 }
 
-fn seal_first(label: &[u8], image: &mut [u8], size: usize) {
+fn checksum_first(label: &[u8], image: &mut [u8], size: usize) {
     if size <= image.len() {
-        with_checksum(label, &mut image[0..size]);
+        case_images::put_checksum(&mut image[0..size]);
+        both(label, &image[0..size]);
     }
 }
 
@@ -78,28 +75,27 @@ fn metadata(label: &[u8], lent: &[u8]) {
     let mut image = [0u8; 842];
     if lent.len() <= 256 {
         put_metadata(&mut image, lent);
-        seal_first(label, &mut image, 586 + lent.len());
+        checksum_first(label, &mut image, 586 + lent.len());
     }
 }
 
-// Three sections with one byte each, at 548, 561 and 574; no checksum.
-fn put_three(image: &mut [u8], version: u16, first: u16, second: u16, third: u16, lent: &[u8]) {
-    case_images::put_header(image, version, 0, 3);
-    case_images::put_section(image, 0, 548, first, 0, lent);
-    case_images::put_section(image, 1, 561, second, 0, lent);
-    case_images::put_section(image, 2, 574, third, 0, lent);
+// Three sections with one byte each, at 548, 561 and 574.
+fn put_three(image: &mut [u8], version: u16, kinds: [u16; case_images::MOST], lent: &[u8]) {
+    let shape = case_images::without_flags(version, 3, kinds, [1, 1, 1, 0, 0, 0]);
+    case_images::put_image(image, shape, lent);
 }
 
-fn three(label: &[u8], version: u16, first: u16, second: u16, third: u16, lent: &[u8]) {
+fn three(label: &[u8], version: u16, kinds: [u16; case_images::MOST], lent: &[u8]) {
     let mut image = [0u8; 587];
-    put_three(&mut image, version, first, second, third, lent);
-    with_checksum(label, &mut image);
+    put_three(&mut image, version, kinds, lent);
+    both(label, &image);
 }
 
-fn wrong_checksum(label: &[u8], version: u16, first: u16, second: u16, third: u16, lent: &[u8]) {
+fn wrong_checksum(label: &[u8], version: u16, kinds: [u16; case_images::MOST], lent: &[u8]) {
     let mut image = [0u8; 587];
-    put_three(&mut image, version, first, second, third, lent);
-    answer(label, &image);
+    put_three(&mut image, version, kinds, lent);
+    octets::put_be32(&mut image, Header::CHECKSUM_AT, 0);
+    both(label, &image);
 }
 
 // ---- the cases
@@ -136,20 +132,20 @@ fn refused() {
 
 // The index is that of the metadata section, and no other section is asked to be JSON.
 fn by_place() {
-    three(b"metadata first", 4, 5, 1, 2, b"{");
-    three(b"metadata second", 4, 1, 5, 2, b"{");
-    three(b"metadata last", 4, 1, 2, 5, b"{");
-    three(b"a digit in each", 4, 1, 5, 2, b"7");
-    three(b"version 3, no metadata", 3, 1, 2, 4, b"{");
-    three(b"version 2, a ramdisk", 2, 1, 2, 3, b"{");
+    three(b"metadata first", 4, [5, 1, 2, 0, 0, 0], b"{{{");
+    three(b"metadata second", 4, [1, 5, 2, 0, 0, 0], b"{{{");
+    three(b"metadata last", 4, [1, 2, 5, 0, 0, 0], b"{{{");
+    three(b"a digit in each", 4, [1, 5, 2, 0, 0, 0], b"777");
+    three(b"version 3, no metadata", 3, [1, 2, 4, 0, 0, 0], b"{{{");
+    three(b"version 2, a ramdisk", 2, [1, 2, 3, 0, 0, 0], b"{{{");
 }
 
 // The image's own refusals come first.
 fn after_the_others() {
-    wrong_checksum(b"13, and no JSON", 4, 1, 2, 5, b"{");
-    three(b"9, and no JSON", 3, 1, 2, 5, b"{");
-    three(b"11, and no JSON", 4, 1, 5, 5, b"{");
-    three(b"12, and no JSON", 4, 1, 3, 5, b"{");
+    wrong_checksum(b"13, and no JSON", 4, [1, 2, 5, 0, 0, 0], b"{{{");
+    three(b"9, and no JSON", 3, [1, 2, 5, 0, 0, 0], b"{{{");
+    three(b"11, and no JSON", 4, [1, 5, 5, 0, 0, 0], b"{{{");
+    three(b"12, and no JSON", 4, [1, 3, 5, 0, 0, 0], b"{{{");
 }
 
 fn main() {

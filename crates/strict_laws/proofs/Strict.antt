@@ -31,12 +31,12 @@ use Rattle.eif_lemmas.proofs.Reading.{verdict-kept}
 use Rattle.eif_lemmas.proofs.Verdicts.{then-accepted, refused-not}
 use Rattle.eif_laws.proofs.Acceptance as acceptance
 use Rattle.eif_laws.proofs.FirstApplies.{first-append, read-first}
-use Rattle.strict_reader.specs.Strict.{MetadataIsJson, isText, notJson, refuseMetadata, metadataVerdict, strictVerdict, readStrict, metadataRules, strictRules}
+use Rattle.strict_reader.specs.Strict.{MetadataIsJson, tellsText, notJson, refuseMetadata, metadataVerdict, strictVerdict, readStrict, metadataRules, strictRules}
 use Rattle.strict_laws.specs.Refused.{Refused21}
 
 -- ---- one section: the test says what the grammar says
 
-text-true : (v : JsonVerdict) → isText v ≡ true → v ≡ Text
+text-true : (v : JsonVerdict) → tellsText v ≡ true → v ≡ Text
 text-true Text e = refl
 text-true (Fault p) e = absurd (false≢true e)
 
@@ -47,14 +47,14 @@ module _ (s : List ℕ) (x : Section) where
   passed→ : notJson s x ≡ false → x .kind ≡ metadata → IsText (dataOf s x)
   unfolding notJson
   passed→ e k =
-      let n : not (isText verdict) ≡ false = simp (eq-eqb _ _ k) at e in
+      let n : not (tellsText verdict) ≡ false = simp (eq-eqb _ _ k) at e in
       accepted-exactly-when (dataOf s x) .0 (text-true verdict (not-false _ n))
 
   →passed : (x .kind ≡ metadata → IsText (dataOf s x)) → notJson s x ≡ false
   unfolding notJson
   →passed f = go (eqb (x .kind) metadata) refl
     where
-      go : (b : Bool) → eqb (x .kind) metadata ≡ b → both b (not (isText (jsonVerdict (dataOf s x)))) ≡ false
+      go : (b : Bool) → eqb (x .kind) metadata ≡ b → both b (not (tellsText (jsonVerdict (dataOf s x)))) ≡ false
       go true e = simp (accepted-exactly-when (dataOf s x) .1 (f (eqb-true _ _ e)))
       go false e = refl
 
@@ -62,7 +62,7 @@ module _ (s : List ℕ) (x : Section) where
   unfolding notJson
   failed→ e =
       let b = both-true _ _ e in
-      (eqb-true _ _ (b .0), λ t. let i = accepted-exactly-when (dataOf s x) .1 t in false≢true (sym (not-true _ (b .1)) ∙ ap isText i))
+      (eqb-true _ _ (b .0), λ t. let i = accepted-exactly-when (dataOf s x) .1 t in false≢true (sym (not-true _ (b .1)) ∙ ap tellsText i))
 
 -- ---- the sections
 

@@ -18,9 +18,9 @@ use Rattle.eif.specs.declared.Section.{Section}
 use Rattle.eif.specs.declared.Verdict.{Verdict}
 use Rattle.eif.specs.declared.Verdict.the-variants.{Accepted, Refused}
 use Rattle.eif_lemmas.proofs.Accept.{passes}
-use Rattle.eif_lemmas.proofs.Reading.{reading-verdict, reading-accepted}
+use Rattle.eif_lemmas.proofs.Reading.{verdict-is, told-accepted, reading-is}
 use Rattle.eif_lemmas.proofs.Table.{filled-at}
-use Rattle.strict_reader.specs.Strict.{isText, notJson, refuseMetadata, metadataVerdict, strictVerdict, readStrict}
+use Rattle.strict_reader.specs.Strict.{tellsText, notJson, refuseMetadata, metadataVerdict, strictVerdict, readStrict}
 
 -- ---- one section
 
@@ -29,7 +29,7 @@ module _ (s : List ℕ) (x : Section) where
   unfolding notJson
   other-type n = simp (ne-eqb _ _ n)
 
-  pub metadata-by : x .kind ≡ metadata → (v : JsonVerdict) → v ≡ jsonVerdict (dataOf s x) → not (isText v) ≡ notJson s x
+  pub metadata-by : x .kind ≡ metadata → (v : JsonVerdict) → v ≡ jsonVerdict (dataOf s x) → not (tellsText v) ≡ notJson s x
   unfolding notJson
   metadata-by e v i = simp (eq-eqb _ _ e, sym i)
 
@@ -59,19 +59,16 @@ metadata-same s f g (suc n) i h = rw (h i (omega arith), metadata-same s f g n (
 -- ---- the reading
 
 module _ (s : List ℕ) (r : Reading) (is : r ≡ readImage s) where
-  verdict-is : r .verdict ≡ verdictOf s
-  verdict-is = ap (λ (x : Reading). x .verdict) is ∙ reading-verdict s
-
   pub strict-refused : (f : Refusal) → r .verdict ≡ Refused f → r ≡ readStrict s
   unfolding readStrict strictVerdict readView
-  strict-refused f e = let z : verdictOf s ≡ Refused f = sym verdict-is ∙ e in is ∙ simp z
+  strict-refused f e = let z : verdictOf s ≡ Refused f = sym (verdict-is s r is) ∙ e in is ∙ simp z
 
   module _ (ok : r .verdict ≡ Accepted) where
     accepted : verdictOf s ≡ Accepted
-    accepted = sym verdict-is ∙ ok
+    accepted = told-accepted s r is ok
 
     whole : r ≡ readingOf (viewOf s) Accepted
-    whole = is ∙ reading-accepted s accepted
+    whole = reading-is s r is ok
 
     count-is : r .count ≡ countOf s
     count-is = ap (λ (x : Reading). x .count) whole

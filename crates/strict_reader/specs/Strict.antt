@@ -30,13 +30,13 @@ MetadataIsJson s = (i : ℕ) → i < countOf s → kindAt s i ≡ metadata → I
 
 -- ---- the rule
 
-abbrev pub isText : JsonVerdict → Bool
-isText Text = true
-isText (Fault p) = false
+abbrev pub tellsText : JsonVerdict → Bool
+tellsText Text = true
+tellsText (Fault p) = false
 
 -- the test of 21
 unfoldable pub notJson : List ℕ → Section → Bool
-notJson s x = both (eqb (x .kind) metadata) (not (isText (jsonVerdict (dataOf s x))))
+notJson s x = both (eqb (x .kind) metadata) (not (tellsText (jsonVerdict (dataOf s x))))
 
 -- 21 at a section, with its index and where its data stands
 abbrev pub refuseMetadata : Section → ℕ → Verdict

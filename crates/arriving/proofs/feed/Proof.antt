@@ -7,15 +7,10 @@ use borrow.Author.Needs.{needs}
 use denote.Ref.{now}
 use lib.ListN.{take, length-take}
 use Rattle.arriving.specs.State.{countLimit}
-use Rattle.arriving.specs.Calls.{grown}
-use Rattle.arriving.specs.declared.Arriving.{Arriving}
-use Rattle.arriving.specs.declared.Fed.{Fed}
+use Rattle.arriving.specs.Calls.{fedWith, grown}
 use Rattle.arriving.proofs.Steps.{kept-part, fed-open, fed-ended}
 use Rattle.arriving.proofs.feed.Statement.{statement}
 use Rattle.arriving.proofs.feed.Tie as tie
-
-abbrev with : Arriving → ℕ → Fed
-with a n = record { state = a; count = n }
 
 returns : tie.Need-returns
 returns c =
@@ -30,7 +25,7 @@ returns-2 c =
     let room = countLimit - a .state .taken in
     let kept : take (c .before .before .lesser2 .result) piece ≡ take room (take (a .allowance) piece) =
     ap (λ (n : ℕ). take n piece) (c .before .before .lesser2 .ensures ∙ ap (min room) (l .lesser .ensures)) ∙ kept-part room (a .allowance) piece in
-    ap₂ with (c .grow .ensures ∙ ap (grown (a .state)) kept) (l .lesser .ensures) ∙ sym (fed-open (a .state) piece (a .allowance) (omega arith))
+    ap₂ fedWith (c .grow .ensures ∙ ap (grown (a .state)) kept) (l .lesser .ensures) ∙ sym (fed-open (a .state) piece (a .allowance) (omega arith))
 
 pub feed-spec : {M : Type 1} → statement M
 feed-spec =

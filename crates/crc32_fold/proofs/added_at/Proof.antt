@@ -5,7 +5,7 @@ use mathlib.Core.Path.{sym, ap₂, _∙_}
 use lib.Bits.{bitXor}
 use lib.ListN.{getD}
 use Rattle.octets.specs.Bytes.{leValue}
-use Rattle.crc32_lemmas.specs.Fold.{sparse}
+use Rattle.crc32_lemmas.specs.Fold.{sparse, highPower, lowPower, midPower}
 use Rattle.crc32_lemmas.proofs.FoldWords.{mix-from}
 use Rattle.crc32_lemmas.proofs.FoldBytes.{eight}
 use borrow.Author.Needs.{needs}
@@ -25,9 +25,9 @@ returns c =
     let h : (k : ℕ) → getD v k 0 < 256 = λ k. b .shared-slice-known .given k .fits in
     ap₂ bitXor
     (ap₂ bitXor
-    (ap₂ bitXor (eight v h j (w₁ .result) (w₁ .ensures .1) (w₁ .ensures .0)) (eight v h (j + 89) (w₂ .result) (w₂ .ensures .1) (w₂ .ensures .0)))
-    (eight v h (j + 117) (w₃ .result) (w₃ .ensures .1) (w₃ .ensures .0)))
-    (eight v h (j + 155) (w₄ .result) (w₄ .ensures .1) (w₄ .ensures .0))
+    (ap₂ bitXor (eight v h j (w₁ .result) (w₁ .ensures .1) (w₁ .ensures .0)) (eight v h (j + lowPower) (w₂ .result) (w₂ .ensures .1) (w₂ .ensures .0)))
+    (eight v h (j + midPower) (w₃ .result) (w₃ .ensures .1) (w₃ .ensures .0)))
+    (eight v h (j + highPower) (w₄ .result) (w₄ .ensures .1) (w₄ .ensures .0))
     ∙ sym (mix-from sparse 8 64 (leValue v) j)
 
 pub added-at-spec : {M : Type 1} → statement M

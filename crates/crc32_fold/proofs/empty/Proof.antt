@@ -5,7 +5,7 @@ use mathlib.Core.Path.{_≡_, sym, ap, ap₂, _∙_}
 use lib.Bits.{bitXor, xor-zero-l, xor-zero-r}
 use lib.Dec.{lit<}
 use Rattle.octets.specs.Bytes.{leValue}
-use Rattle.crc32_lemmas.specs.Fold.{down, sparse, spread, left, mix}
+use Rattle.crc32_lemmas.specs.Fold.{down, sparse, spread, left, mix, pastWord}
 use Rattle.crc32_fold.specs.Carried.{carried}
 use Rattle.crc32_fold.proofs.Carried.{bits-turn-under, carried-none}
 use Rattle.crc32_lemmas.proofs.FoldWords.{down-on}
@@ -40,7 +40,7 @@ loop-again c =
     let e : a .at + (l .j + 8) ≡ i + 8 = omega arith in
     let y = mix sparse 8 (leValue (a .v .now)) in
     let u = c .fold-bits .ensures
-    ∙ ap (λ (z : ℕ). bitXor (down 64 (carried (l .n))) (spread sparse 1 236 (bitXor (l .n .a) (bitXor z (r .result))))) (c .before .before .added-at .ensures) in (
+    ∙ ap (λ (z : ℕ). bitXor (down 64 (carried (l .n))) (spread sparse 1 pastWord (bitXor (l .n .a) (bitXor z (r .result))))) (c .before .before .added-at .ensures) in (
       omega arith,
       omega arith,
       ap₂ (left (a .s .now)) e (ap₂ bitXor u (sym (down-on 8 8 y (l .j))))

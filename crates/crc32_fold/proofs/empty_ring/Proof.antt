@@ -4,7 +4,7 @@ use Prim.Native.Nat.{ℕ, _+_, _-_, _*_, _%_, _^_, _<_, _≤_}
 use mathlib.Core.Path.{_≡_, sym, ap, ap₂, _∙_}
 use lib.Bits.{bitXor, xor-zero-l, xor-zero-r}
 use lib.Dec.{lit<}
-use Rattle.crc32_lemmas.specs.Fold.{down, sparse, sparser, spread, left, mix, ring}
+use Rattle.crc32_lemmas.specs.Fold.{down, sparse, sparser, spread, left, mix, ring, pastWord}
 use Rattle.crc32_fold.specs.Carried.{carried}
 use Rattle.crc32_fold.proofs.Carried.{bits-turn-under, carried-none}
 use Rattle.crc32_lemmas.proofs.FoldWords.{mix-from, down-on}
@@ -40,7 +40,7 @@ loop-again c =
     let y = mix sparser 32 x in
     let p = ap₂ bitXor (ap₂ bitXor (c .before .before .before .before .pair-at .ensures) (c .before .before .before .pair-at2 .ensures)) (c .before .before .pair-at3 .ensures) ∙ sym (mix-from sparser 32 64 x (l .j)) in
     let u = c .fold-bits .ensures
-    ∙ ap (λ (z : ℕ). bitXor (down 64 (carried (l .n))) (spread sparse 1 236 (bitXor (l .n .a) (bitXor z (r .result))))) p in (
+    ∙ ap (λ (z : ℕ). bitXor (down 64 (carried (l .n))) (spread sparse 1 pastWord (bitXor (l .n .a) (bitXor z (r .result))))) p in (
       omega arith,
       omega arith,
       ap₂ (left (a .s .now)) e (ap₂ bitXor u (sym (down-on 32 2 y (l .j))))

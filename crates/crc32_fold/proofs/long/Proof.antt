@@ -4,8 +4,9 @@ use Prim.Native.Nat.{ℕ, _+_, _-_, _*_, _^_, _<_, _≤_}
 use mathlib.Core.Path.{_≡_, ap, _∙_}
 use mathlib.Core.List.{_∷_}
 use lib.ListN.{length, replicate, length-take}
+use Rattle.crc32_fold.specs.Sizes.{carrySize, emptiedSize, bufferSize}
 use Rattle.crc32.specs.Crc.{crcFrom}
-use Rattle.crc32_lemmas.specs.Fold.{down, left, sparse, mix, window, Words}
+use Rattle.crc32_lemmas.specs.Fold.{down, left, sparse, mix, window, Words, windowSize}
 use Rattle.crc32_lemmas.proofs.FoldWords.{words-cons, words-none}
 use Rattle.crc32_lemmas.proofs.FoldBytes.{bytes-back, start-window, window-end}
 use Rattle.crc32_lemmas.proofs.Left.{left-crc}
@@ -15,7 +16,7 @@ use Rattle.crc32_fold.proofs.long.Statement.{statement}
 use Rattle.crc32_fold.proofs.long.Tie as tie
 
 abbrev Inv-loop : tie.InvT-loop
-Inv-loop state s v₀ i₀ v i = (i + 344 ≤ length s) × (left s i (mix sparse 8 (window v 0)) ≡ crcFrom state s) × Words 8 1324 v
+Inv-loop state s v₀ i₀ v i = (i + (emptiedSize + carrySize) ≤ length s) × (left s i (mix sparse 8 (window v 0)) ≡ crcFrom state s) × Words 8 bufferSize v
 
 abbrev μ-loop : tie.MeasureT-loop
 μ-loop state s v₀ i₀ v i = length s - i
@@ -38,16 +39,16 @@ loop-holds c =
     (search needs, ap (left s 0) (start-window x (p .result) (q .result) (r .result) (t .result) (w .1) l e) ∙ left-crc s x (λ k. b .shared-slice-known .given k .fits), w)
 
 fold-bytes-requires : tie.Need-fold-bytes-requires Inv-loop μ-loop
-fold-bytes-requires c κs = (omega arith, omega arith, c .before .before .before .loop .inv .2)
+fold-bytes-requires c κs = let n = c .before .lesser .ensures in (omega arith, omega arith, c .before .before .before .loop .inv .2)
 
 move-back-requires : tie.Need-move-back-requires Inv-loop μ-loop
-move-back-requires c κs = (omega arith, omega arith, c .before .fold-bytes .ensures .1)
+move-back-requires c κs = let n = c .before .before .before .lesser .ensures in (omega arith, omega arith, c .before .fold-bytes .ensures .1)
 
 loop-again : tie.Need-loop-again Inv-loop μ-loop
 loop-again c =
     let l = c .before .before .before .before .before .before .loop in
     let s = c .before .before .before .before .before .before .before .before .before .before .before .before .args .s .now in
-    let n = c .before .before .before .before .in-round .result in
+    let n = c .before .before .before .before .lesser .result in
     (omega arith, ap (λ (x : ℕ). left s (l .i + n) (mix sparse 8 x)) (c .move-back .ensures .0) ∙ c .before .before .fold-bytes .ensures .0 ∙ l .inv .1, c .move-back .ensures .1)
 
 clear-requires : tie.Need-clear-requires Inv-loop μ-loop
@@ -61,7 +62,7 @@ empty-requires c κs =
     let l = c .before .before .before .before .loop in
     let d = c .before .clear .ensures in
     let n = d .1 in
-    (omega arith, simp length-take (omega arith), ap (down 2400) (d .0) ∙ window-end (l .v) (l .inv .2 .1))
+    (omega arith, simp length-take (omega arith), ap (down (8 * windowSize)) (d .0) ∙ window-end (l .v) (l .inv .2 .1))
 
 rest-requires : tie.Need-rest-requires Inv-loop μ-loop
 rest-requires c κs = (omega arith, c .empty .ensures .1)

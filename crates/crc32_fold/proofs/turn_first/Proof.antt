@@ -2,6 +2,7 @@
 -- Assumes nothing.
 use Prim.Native.Nat.{ℕ, _+_, _-_, _*_, _≤_}
 use mathlib.Core.Path.{_≡_, ap, ap₂, _∙_}
+use Rattle.crc32_fold.specs.Sizes.{highBack, ringBuffer}
 use Rattle.crc32_lemmas.specs.Fold.{left, sparser, mix, ring, Words}
 use borrow.Author.Needs.{needs}
 use native.Mathlib.Omega.{arith}
@@ -9,10 +10,10 @@ use Rattle.crc32_fold.proofs.turn_first.Statement.{statement}
 use Rattle.crc32_fold.proofs.turn_first.Tie as tie
 
 abbrev Inv-loop : tie.InvT-loop
-Inv-loop s at v₀ j₀ v j = (0 ≤ j) × (j ≤ 140) × (left s (at + j * 4) (mix sparser 32 (ring v j)) ≡ left s at (mix sparser 32 (ring v₀ 0))) × Words 32 3007 v
+Inv-loop s at v₀ j₀ v j = (0 ≤ j) × (j ≤ highBack) × (left s (at + j * 4) (mix sparser 32 (ring v j)) ≡ left s at (mix sparser 32 (ring v₀ 0))) × Words 32 ringBuffer v
 
 abbrev μ-loop : tie.MeasureT-loop
-μ-loop s at v₀ j₀ v j = 140 - j
+μ-loop s at v₀ j₀ v j = highBack - j
 
 loop-holds : tie.Need-loop-holds Inv-loop μ-loop
 loop-holds c =
@@ -35,8 +36,8 @@ returns c =
     let l = c .before .loop in
     let s = c .before .before .before .args .s .now in
     let at = c .before .before .before .args .at in
-    let e : 140 ≡ l .j = omega arith in
-    let i : at + 560 ≡ at + l .j * 4 = omega arith in
+    let e : highBack ≡ l .j = omega arith in
+    let i : at + 4 * highBack ≡ at + l .j * 4 = omega arith in
     (ap₂ (λ (m n : ℕ). left s m (mix sparser 32 (ring (l .v) n))) i e ∙ l .inv .2, l .inv .3)
 
 pub turn-first-spec : {M : Type 1} → statement M

@@ -2,6 +2,7 @@
 -- Assumes nothing.
 use Prim.Native.Nat.{ℕ, _+_, _-_, _*_, _≤_}
 use mathlib.Core.Path.{_≡_, refl, ap₂, _∙_}
+use Rattle.crc32_fold.specs.Sizes.{highBack, lowBack, ringBuffer}
 use Rattle.crc32_lemmas.specs.Fold.{left, sparser, mix, ring, Words}
 use borrow.Author.Needs.{needs}
 use native.Mathlib.Omega.{arith}
@@ -9,10 +10,10 @@ use Rattle.crc32_fold.proofs.turn_second.Statement.{statement}
 use Rattle.crc32_fold.proofs.turn_second.Tie as tie
 
 abbrev Inv-loop : tie.InvT-loop
-Inv-loop s at v₀ j₀ v j = (140 ≤ j) × (j ≤ 791) × (left s (at + j * 4) (mix sparser 32 (ring v j)) ≡ left s (at + 560) (mix sparser 32 (ring v₀ 140))) × Words 32 3007 v
+Inv-loop s at v₀ j₀ v j = (highBack ≤ j) × (j ≤ lowBack) × (left s (at + j * 4) (mix sparser 32 (ring v j)) ≡ left s (at + 4 * highBack) (mix sparser 32 (ring v₀ highBack))) × Words 32 ringBuffer v
 
 abbrev μ-loop : tie.MeasureT-loop
-μ-loop s at v₀ j₀ v j = 791 - j
+μ-loop s at v₀ j₀ v j = lowBack - j
 
 loop-holds : tie.Need-loop-holds Inv-loop μ-loop
 loop-holds c = (omega arith, omega arith, refl, c .before .pre .1)
@@ -32,8 +33,8 @@ returns c =
     let l = c .before .loop in
     let s = c .before .before .before .args .s .now in
     let at = c .before .before .before .args .at in
-    let e : 791 ≡ l .j = omega arith in
-    let i : at + 3164 ≡ at + l .j * 4 = omega arith in
+    let e : lowBack ≡ l .j = omega arith in
+    let i : at + 4 * lowBack ≡ at + l .j * 4 = omega arith in
     (ap₂ (λ (m n : ℕ). left s m (mix sparser 32 (ring (l .v) n))) i e ∙ l .inv .2, l .inv .3)
 
 pub turn-second-spec : {M : Type 1} → statement M

@@ -2,7 +2,8 @@
 -- Assumes nothing.
 use Prim.Native.Nat.{ℕ, _+_, _-_, _*_, _≤_}
 use mathlib.Core.Path.{_≡_, refl, sym, ap, ap₂, _∙_}
-use Rattle.crc32_lemmas.specs.Fold.{left, sparser, mix, ring, Words}
+use Rattle.crc32_fold.specs.Sizes.{lowBack, ringBuffer, ringBytes}
+use Rattle.crc32_lemmas.specs.Fold.{left, sparser, mix, ring, Words, ringSize}
 use Rattle.crc32_lemmas.proofs.FoldRing.{ring-round}
 use borrow.Author.Needs.{needs}
 use native.Mathlib.Omega.{arith}
@@ -10,10 +11,10 @@ use Rattle.crc32_fold.proofs.turn_third.Statement.{statement}
 use Rattle.crc32_fold.proofs.turn_third.Tie as tie
 
 abbrev Inv-loop : tie.InvT-loop
-Inv-loop s at v₀ j₀ v j = (791 ≤ j) × (j ≤ 3006) × (left s (at + j * 4) (mix sparser 32 (ring v j)) ≡ left s (at + 3164) (mix sparser 32 (ring v₀ 791))) × Words 32 3007 v
+Inv-loop s at v₀ j₀ v j = (lowBack ≤ j) × (j ≤ ringSize) × (left s (at + j * 4) (mix sparser 32 (ring v j)) ≡ left s (at + 4 * lowBack) (mix sparser 32 (ring v₀ lowBack))) × Words 32 ringBuffer v
 
 abbrev μ-loop : tie.MeasureT-loop
-μ-loop s at v₀ j₀ v j = 3006 - j
+μ-loop s at v₀ j₀ v j = ringSize - j
 
 loop-holds : tie.Need-loop-holds Inv-loop μ-loop
 loop-holds c = (omega arith, omega arith, refl, c .before .pre .1)
@@ -33,8 +34,8 @@ returns c =
     let l = c .before .loop in
     let s = c .before .before .before .args .s .now in
     let at = c .before .before .before .args .at in
-    let e : 3006 ≡ l .j = omega arith in
-    let i : at + 12024 ≡ at + l .j * 4 = omega arith in
+    let e : ringSize ≡ l .j = omega arith in
+    let i : at + ringBytes ≡ at + l .j * 4 = omega arith in
     let o = sym (ring-round (l .v)) ∙ ap (ring (l .v)) e in
     (ap₂ (λ (m x : ℕ). left s m (mix sparser 32 x)) i o ∙ l .inv .2, l .inv .3)
 

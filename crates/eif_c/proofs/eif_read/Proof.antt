@@ -2,7 +2,7 @@
 -- Assumes nothing.
 use mathlib.Core.Path.{ap, _∙_}
 use borrow.Author.Needs.{needs}
-use Rattle.eif_c.specs.Flat.{flatReading}
+use Rattle.eif_flat.specs.Flat.{flatReading}
 use Rattle.eif_c.proofs.eif_read.Statement.{statement}
 use Rattle.eif_c.proofs.eif_read.Tie as tie
 

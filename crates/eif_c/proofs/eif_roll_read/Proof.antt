@@ -1,6 +1,8 @@
--- `eif_roll_read` meets its contract: what it calls ensures the answer, made flat.
+-- `eif_roll_read` meets its contract: the reader's answer, made flat.
 -- Assumes nothing.
+use mathlib.Core.Path.{ap, _∙_}
 use borrow.Author.Needs.{needs}
+use Rattle.eif_flat.specs.Flat.{flatRollReading}
 use Rattle.eif_c.proofs.eif_roll_read.Statement.{statement}
 use Rattle.eif_c.proofs.eif_roll_read.Tie as tie
 
@@ -10,7 +12,4 @@ eif-roll-read-spec =
     (tie.spec
     (λ c κs. search needs)
     (λ c κs. search needs)
-    (λ c κs. search needs)
-    (λ c κs. search needs)
-    (λ c κs. search needs)
-    (λ c. cc))
+    (λ c. c .flat-roll-reading .ensures ∙ ap flatRollReading (c .before .read .ensures)))

@@ -8,23 +8,23 @@ use borrow.Author.Needs.{needs}
 use denote.Ref.{now}
 use lib.ListN.{length}
 use Rattle.octets.proofs.Over.{over-joined}
-use Rattle.eif_lines.specs.Lines.{refusedWord, atWord, byteWord, numberThen, lineFeed, refusalLine}
+use Rattle.eif_lines.specs.Lines.{refusedWord, atWord, byteWord, numberThen, refusalThen}
 use Rattle.eif_lines.proofs.Parts.{ends}
 use Rattle.eif_lines.proofs.put_refusal.Statement.{statement}
 use Rattle.eif_lines.proofs.put_refusal.Tie as tie
 
 returns : tie.Need-returns
-unfolding refusalLine
+unfolding refusalThen
 returns c =
     let z = c .before .before in
-    let y = z .before .before .before .before .before in
+    let y = z .before .before .before .before in
     let x = y .before .before .before .before .before in
     let w = x .before .before .before .before .before .before in
-    let a = w .before .before .before .before .args in
+    let a = w .before .before .before .before .before .args in
     let d = now (a .out) in
     let n : List ℕ = numberThen (a .r .number) atWord in
     let i : List ℕ = numberThen (a .r .index) byteWord in
-    let b : List ℕ = numberThen (a .r .position) lineFeed in
+    let b : List ℕ = numberThen (a .r .position) (now (a .text)) in
     let p = x .put-number .ensures in
     let q = y .put-number2 .ensures in
     let t = z .put-number3 .ensures in (
@@ -47,7 +47,6 @@ put-refusal-spec =
     (λ c κs. search needs)
     (λ c. search needs)
     (λ c κs. search needs)
-    (λ c. search needs)
     (λ c κs. search needs)
     (λ c. search needs)
     returns)

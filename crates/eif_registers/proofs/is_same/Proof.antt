@@ -1,6 +1,7 @@
 -- `eif_registers::is_same` meets its contract: it says true only where every field agrees. Assumes nothing.
 use borrow.Author.Tests.{eqb-true}
-use Rattle.eif_registers.proofs.Hashed.{same-section, not-true}
+use Rattle.octets.proofs.Logic.{not-both}
+use Rattle.eif_registers.proofs.Hashed.{same-section}
 use Rattle.eif_registers.proofs.is_same.Statement.{statement}
 use Rattle.eif_registers.proofs.is_same.Tie as tie
 
@@ -10,4 +11,4 @@ returns-4 c e =
     same-section (a .a) (a .b) (c .before .before .before .before .before .before .before .before .if1 .left) (c .before .before .before .before .before .if2 .left) (c .before .before .if3 .left) (eqb-true (a .a .length .0) (a .b .length .0) e)
 
 pub is-same-spec : {M : Type 1} → statement M
-is-same-spec = tie.close (tie.spec (λ c e. not-true e) (λ c e. not-true e) (λ c e. not-true e) returns-4)
+is-same-spec = tie.close (tie.spec (λ c e. not-both e) (λ c e. not-both e) (λ c e. not-both e) returns-4)

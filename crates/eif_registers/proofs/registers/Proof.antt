@@ -2,7 +2,7 @@
 use mathlib.Core.Path.{sym, ap, _∙_}
 use denote.Ref.{now}
 use Rattle.eif.specs.declared.Verdict.{Verdict}
-use Rattle.stream_reader.proofs.Answers.{verdict-is}
+use Rattle.eif_lemmas.proofs.Reading.{verdict-is}
 use Rattle.eif_registers.specs.Registers.{imageRegisters, noRegisters, registersFor}
 use Rattle.eif_registers.proofs.Answers.{three, answer-refused, answer-accepted, step-is}
 use borrow.Author.Needs.{needs}

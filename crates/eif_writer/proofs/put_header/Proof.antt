@@ -5,8 +5,9 @@ use mathlib.Core.List.{List}
 use Prim.Native.Nat.{ℕ}
 use borrow.Author.Needs.{needs}
 use denote.Ref.{now}
+use Rattle.octets.specs.Bytes.{beBytesEach}
 use Rattle.octets.specs.Over.{over}
-use Rattle.eif.specs.Plan.{entries}
+use Rattle.eif.specs.Layout.{offsetsAt, sizesAt, entrySize}
 use Rattle.eif_writer.proofs.Image.{header-over}
 use Rattle.eif_writer.proofs.put_header.Statement.{statement}
 use Rattle.eif_writer.proofs.put_header.Tie as tie
@@ -22,8 +23,8 @@ returns c =
     header-over (a .plan) (now (a .out)) (v .put-first .last .0) (w .put-next .last .0) (x .put-table .last .0) (y .put-table2 .last .0) (z .put-be32 .last .0)
     (v .put-first .ensures)
     (w .put-next .ensures)
-    (x .put-table .ensures ∙ ap (λ (t : List ℕ). over (w .put-next .last .0) 28 (entries t)) (v .before .before .before .offsets .ensures))
-    (y .put-table2 .ensures ∙ ap (λ (t : List ℕ). over (x .put-table .last .0) 284 (entries t)) (v .before .before .sizes .ensures))
+    (x .put-table .ensures ∙ ap (λ (t : List ℕ). over (w .put-next .last .0) offsetsAt (beBytesEach entrySize t)) (v .before .before .before .offsets .ensures))
+    (y .put-table2 .ensures ∙ ap (λ (t : List ℕ). over (x .put-table .last .0) sizesAt (beBytesEach entrySize t)) (v .before .before .sizes .ensures))
     (z .put-be32 .ensures)
 
 pub put-header-spec : {M : Type 1} → statement M

@@ -9,18 +9,18 @@ use native.Mathlib.Nat.{add-zero}
 use borrow.Author.Needs.{needs}
 use denote.Ref.{now}
 use lib.ListN.{length, drop, getD}
-use Rattle.octets.specs.Bytes.{beBytes}
+use Rattle.octets.specs.Bytes.{beBytes, beBytesEach}
 use Rattle.octets.specs.Over.{over}
 use Rattle.octets.proofs.Over.{length-over}
+use Rattle.octets.proofs.Each.{each-over, each-done}
 use Rattle.eif.specs.Numbers.{placeCount}
-use Rattle.eif.specs.Plan.{entries}
-use Rattle.eif_writer.proofs.Pieces.{table-over, table-done}
+use Rattle.eif.specs.Layout.{entrySize}
 use Rattle.eif_writer.proofs.put_table.Statement.{statement}
 use Rattle.eif_writer.proofs.put_table.Tie as tie
 
 abbrev Inv-loop : tie.InvT-loop
 Inv-loop out₀ at table i₀ out i =
-    (i ≤ placeCount) × (length out ≡ length out₀) × (over out (at + 8 * i) (entries (drop i table)) ≡ over out₀ at (entries table))
+    (i ≤ placeCount) × (length out ≡ length out₀) × (over out (at + entrySize * i) (beBytesEach entrySize (drop i table)) ≡ over out₀ at (beBytesEach entrySize table))
 
 abbrev μ-loop : tie.MeasureT-loop
 μ-loop out₀ at table i₀ out i = placeCount - i
@@ -28,7 +28,7 @@ abbrev μ-loop : tie.MeasureT-loop
 loop-holds : tie.Need-loop-holds Inv-loop μ-loop
 loop-holds c =
     let a = c .before .args in
-    (omega arith, refl, ap (λ (x : ℕ). over (now (a .out)) x (entries (a .t3))) (add-zero (a .at)))
+    (omega arith, refl, ap (λ (x : ℕ). over (now (a .out)) x (beBytesEach entrySize (a .t3))) (add-zero (a .at)))
 
 loop-again : tie.Need-loop-again Inv-loop μ-loop
 loop-again c =
@@ -36,12 +36,12 @@ loop-again c =
     let l = c .before .before .before .before .before .loop in
     let p = c .before .before .put-be64 in
     let size : length (a .t3) ≡ placeCount = search needs in
-    let z : a .at + 8 * suc (l .i) ≡ a .at + 8 * l .i + 8 = omega arith in
+    let z : a .at + entrySize * suc (l .i) ≡ a .at + entrySize * l .i + entrySize = omega arith in
     rw add-one (
       omega arith,
-      ap length (p .ensures) ∙ length-over (l .out) (a .at + 8 * l .i) (beBytes 8 (getD (a .t3) (l .i) 0)) ∙ l .inv .1,
-      ap₂ (λ (x : List ℕ) (y : ℕ). over x y (entries (drop (suc (l .i)) (a .t3)))) (p .ensures) z
-          ∙ table-over (a .t3) (l .i) (omega arith) (l .out) (a .at + 8 * l .i) ∙ l .inv .2,
+      ap length (p .ensures) ∙ length-over (l .out) (a .at + entrySize * l .i) (beBytes entrySize (getD (a .t3) (l .i) 0)) ∙ l .inv .1,
+      ap₂ (λ (x : List ℕ) (y : ℕ). over x y (beBytesEach entrySize (drop (suc (l .i)) (a .t3)))) (p .ensures) z
+          ∙ each-over entrySize (a .t3) (l .i) (omega arith) (l .out) (a .at + entrySize * l .i) ∙ l .inv .2,
     )
 
 returns : tie.Need-returns Inv-loop μ-loop
@@ -49,7 +49,7 @@ returns c =
     let a = c .before .before .before .args in
     let l = c .before .loop in
     let size : length (a .t3) ≡ placeCount = search needs in
-    sym (table-done (a .t3) (l .i) (omega arith) (l .out) (a .at + 8 * l .i)) ∙ l .inv .2
+    sym (each-done entrySize (a .t3) (l .i) (omega arith) (l .out) (a .at + entrySize * l .i)) ∙ l .inv .2
 
 pub put-table-spec : {M : Type 1} → statement M
 put-table-spec =

@@ -1,4 +1,4 @@
--- `roll_cases::put_heads` is safe and ends: its index grows up to the count, and no position passes 2,558.
+-- `roll_cases::put_heads` is safe and ends: its index grows up to 32, and no position passes 340.
 -- Assumes nothing.
 use Prim.Native.Nat.{_-_, _≤_}
 use mathlib.Core.Path.{_≡_, refl, ap, _∙_}
@@ -10,10 +10,10 @@ use Rattle.roll_cases.proofs.put_heads.Statement.{statement}
 use Rattle.roll_cases.proofs.put_heads.Tie as tie
 
 abbrev Inv-loop : tie.InvT-loop
-Inv-loop roll₀ count i₀ roll i = (i ≤ count) × (length roll ≡ length roll₀)
+Inv-loop roll₀ i₀ roll i = (i ≤ 32) × (length roll ≡ length roll₀)
 
 abbrev μ-loop : tie.MeasureT-loop
-μ-loop roll₀ count i₀ roll i = count - i
+μ-loop roll₀ i₀ roll i = 32 - i
 
 loop-again : tie.Need-loop-again Inv-loop μ-loop
 loop-again c =
@@ -26,6 +26,7 @@ put-heads-spec =
     Inv-loop
     μ-loop
     (λ c. (omega arith, refl))
+    (λ c. omega arith)
     (λ c. omega arith)
     (λ c. omega arith)
     (λ c. omega arith)

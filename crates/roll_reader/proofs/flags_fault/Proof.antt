@@ -7,7 +7,7 @@ use borrow.Author.Needs.{needs}
 use denote.Ref.{now}
 use lib.ListN.{length}
 use Rattle.octets.specs.Bytes.{leField}
-use Rattle.eif.specs.Roll.{recordHeadSize, flagsType}
+use Rattle.eif.specs.Roll.{recordHeadSize, flagsType, recordTypeAt}
 use Rattle.eif_lemmas.proofs.Flags.{zero-flags}
 use Rattle.roll_reader.proofs.Flags.{flags-head-cut, flags-kind, flags-size, flags-cut}
 use Rattle.roll_reader.proofs.flags_fault.Statement.{statement}
@@ -28,7 +28,7 @@ module _ (c : tie.After-le64) where
   abbrev q : tie.After-le16
   q = c .before .before
 
-  kind : leField 2 8 (roll q) ≡ flagsType
+  kind : leField 2 recordTypeAt (roll q) ≡ flagsType
   kind = sym (q .le16 .ensures) ∙ c .before .if2 .left
 
 returns-2 : tie.Need-returns-2

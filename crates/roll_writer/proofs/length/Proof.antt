@@ -3,8 +3,9 @@ use mathlib.Core.Path.{refl, sym, ap, _∙_}
 use borrow.Author.Needs.{needs}
 use denote.Ref.{now}
 use Rattle.eif.specs.declared.Verdict.the-variants.{Accepted}
+use Rattle.eif_lemmas.proofs.Reading.{verdict-is}
 use Rattle.roll_writer.specs.Write.{sizeFor}
-use Rattle.roll_writer.proofs.Reading.{verdict-is, ok, length-is, bounded}
+use Rattle.roll_writer.proofs.Reading.{ok, length-is, bounded}
 use Rattle.roll_writer.proofs.Answers.{written, length-refused, length-accepted}
 use Rattle.roll_writer.proofs.length.Statement.{statement}
 use Rattle.roll_writer.proofs.length.Tie as tie

@@ -5,8 +5,9 @@ use mathlib.Core.List.{List}
 use borrow.Author.Needs.{needs}
 use denote.Ref.{now}
 use lib.ListN.{length}
+use Rattle.eif_lemmas.proofs.Reading.{verdict-is}
 use Rattle.roll_writer.specs.Write.{roomAnswer, roomOutput}
-use Rattle.roll_writer.proofs.Reading.{verdict-is, ok, holds, bounded, roll-is}
+use Rattle.roll_writer.proofs.Reading.{ok, holds, bounded, roll-is}
 use Rattle.roll_writer.proofs.Answers.{refused, accepted}
 use Rattle.roll_writer.proofs.write.Statement.{statement}
 use Rattle.roll_writer.proofs.write.Tie as tie

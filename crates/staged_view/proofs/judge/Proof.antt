@@ -8,11 +8,11 @@ use borrow.Author.Needs.{needs}
 use denote.Ref.{now}
 use lib.ListN.{set}
 use Rattle.eif.specs.Numbers.{placeCount}
-use Rattle.eif.specs.Reading.{verdictOf, readImage}
+use Rattle.eif.specs.Reading.{readImage}
 use Rattle.eif.specs.declared.Reading.{Reading}
 use Rattle.eif.specs.declared.Section.{Section}
 use Rattle.eif.specs.declared.Verdict.the-variants.{Accepted}
-use Rattle.eif_lemmas.proofs.Reading.{reading-verdict}
+use Rattle.eif_lemmas.proofs.Reading.{told-accepted}
 use Rattle.eif_lemmas.proofs.Accept.{passes}
 use Rattle.staged.proofs.Accept.{count-is}
 use Rattle.staged.specs.View.{blankStaged}
@@ -36,7 +36,7 @@ module _ (c : tie.Else2) where
 
   few : got .count ≤ placeCount
   few =
-      let v : verdictOf file ≡ Accepted = sym (reading-verdict file) ∙ ap (λ (x : Reading). x .verdict) (sym got-is) ∙ ok in
+      let v = told-accepted file got got-is ok in
       let n = ap (λ (x : Reading). x .count) got-is ∙ count-is file v in
       let h = passes file v .head .few in
       omega arith

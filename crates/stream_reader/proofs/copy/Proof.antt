@@ -5,7 +5,8 @@ use denote.Ref.{now}
 use lib.ListN.{length}
 use Rattle.eif.specs.Stream.{copyListedAnswer, copyListedOutput}
 use Rattle.eif.specs.declared.StreamSections.{StreamSections}
-use Rattle.stream_reader.proofs.Answers.{verdict-is, copy-refused, answer-is, output-is}
+use Rattle.eif_lemmas.proofs.Reading.{verdict-is}
+use Rattle.stream_reader.proofs.Answers.{copy-refused, answer-is, output-is}
 use Rattle.stream_reader.proofs.copy.Statement.{statement}
 use Rattle.stream_reader.proofs.copy.Tie as tie
 

@@ -9,7 +9,8 @@ use Rattle.eif.specs.Stream.{listedBytes}
 use Rattle.eif.specs.declared.StreamLength.{StreamLength}
 use Rattle.eif.specs.declared.StreamSections.{StreamSections}
 use Rattle.eif.specs.declared.Verdict.{Verdict}
-use Rattle.stream_reader.proofs.Answers.{verdict-is, accepted, stream-is, stream-fits, length-refused, length-accepted}
+use Rattle.eif_lemmas.proofs.Reading.{verdict-is}
+use Rattle.stream_reader.proofs.Answers.{accepted, stream-is, stream-fits, length-refused, length-accepted}
 use Rattle.stream_reader.proofs.length.Statement.{statement}
 use Rattle.stream_reader.proofs.length.Tie as tie
 

@@ -4,7 +4,7 @@ use mathlib.Core.Path.{ap, _∙_}
 use borrow.Author.Needs.{needs}
 use Rattle.arriving.specs.declared.Arriving.{Arriving}
 use Rattle.eif_c.specs.Arrival.{flatFinished}
-use Rattle.eif_c.specs.declared.EifReading.{EifReading}
+use Rattle.eif_flat.specs.declared.EifReading.{EifReading}
 use Rattle.eif_c.specs.declared.arrival.EifArrivingFinished.{EifArrivingFinished}
 use Rattle.eif_c.proofs.arrival.eif_arriving_finish.Statement.{statement}
 use Rattle.eif_c.proofs.arrival.eif_arriving_finish.Tie as tie

@@ -7,7 +7,7 @@ use lib.ListN.{length}
 use Rattle.eif.specs.Stream.{copyListedAnswer, copyListedOutput}
 use Rattle.eif.specs.declared.Copied.{Copied}
 use Rattle.eif.specs.declared.Section.{Section}
-use Rattle.eif_c.specs.Flat.{flatCopied}
+use Rattle.eif_flat.specs.Flat.{flatCopied}
 use Rattle.eif_c.proofs.sections.eif_copy_sections.Statement.{statement}
 use Rattle.eif_c.proofs.sections.eif_copy_sections.Tie as tie
 
@@ -18,7 +18,7 @@ returns c =
     let o = now (a .out) in
     let done = c .before .before .before .copy-listed .ensures in
     let e = c .before .before .before .before .before .read-sections .ensures in (
-      c .answer .ensures ∙ ap (λ (x : Copied). flatCopied x) (done .0 ∙ ap (λ (l : List Section). copyListedAnswer s (record { count = a .list .count; sections = l }) (a .from .0) (length o)) e),
+      c .flat-copied .ensures ∙ ap (λ (x : Copied). flatCopied x) (done .0 ∙ ap (λ (l : List Section). copyListedAnswer s (record { count = a .list .count; sections = l }) (a .from .0) (length o)) e),
       done .1 ∙ ap (λ (l : List Section). copyListedOutput s (record { count = a .list .count; sections = l }) (a .from .0) o) e,
     )
 

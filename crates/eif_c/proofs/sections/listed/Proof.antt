@@ -6,7 +6,7 @@ use Prim.Native.Nat.{ℕ}
 use Rattle.eif.specs.Stream.{sectionsAnswer}
 use Rattle.eif.specs.declared.StreamSections.{StreamSections}
 use Rattle.eif_c.specs.Listed.{flatListed}
-use Rattle.eif_c.specs.declared.EifSection.{EifSection}
+use Rattle.eif_flat.specs.declared.EifSection.{EifSection}
 use Rattle.eif_c.specs.declared.sections.EifStreamSections.{EifStreamSections}
 use Rattle.eif_c.proofs.sections.listed.Statement.{statement}
 use Rattle.eif_c.proofs.sections.listed.Tie as tie

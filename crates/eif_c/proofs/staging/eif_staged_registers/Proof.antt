@@ -1,11 +1,10 @@
--- `eif_staged_registers` meets its contract: what it calls ensures the answer, made flat.
+-- `eif_staged_registers` meets its contract: the registers, made flat.
 -- Assumes nothing.
+use mathlib.Core.Path.{ap, _∙_}
 use borrow.Author.Needs.{needs}
+use Rattle.eif_c.specs.Measure.{flatRegisters}
 use Rattle.eif_c.proofs.staging.eif_staged_registers.Statement.{statement}
 use Rattle.eif_c.proofs.staging.eif_staged_registers.Tie as tie
-
-returns : tie.Need-returns
-returns c = cc
 
 pub eif-staged-registers-spec : {M : Type 1} → statement M
 eif-staged-registers-spec =
@@ -13,6 +12,4 @@ eif-staged-registers-spec =
     (tie.spec
     (λ c κs. search needs)
     (λ c κs. search needs)
-    (λ c κs. search needs)
-    (λ c κs. search needs)
-    returns)
+    (λ c. c .flat-registers .ensures ∙ ap flatRegisters (c .before .registers-staged .ensures)))

@@ -1,14 +1,9 @@
--- `eif_staged_roll_write` meets its contract: what it calls ensures the answer, made flat.
--- Assumes nothing.
+-- `eif_staged_roll_write` meets its contract: what it calls ensures the answer, made flat. Assumes nothing.
 use mathlib.Core.Path.{ap, _∙_}
-use Rattle.eif.specs.declared.Written.{Written}
-use Rattle.eif_c.specs.Flat.{flatWritten}
 use borrow.Author.Needs.{needs}
+use Rattle.eif_flat.specs.Flat.{flatWritten}
 use Rattle.eif_c.proofs.staging.eif_staged_roll_write.Statement.{statement}
 use Rattle.eif_c.proofs.staging.eif_staged_roll_write.Tie as tie
-
-returns : tie.Need-returns
-returns c = (c .answer .ensures ∙ ap (λ (r : Written). flatWritten r) (c .before .before .before .write-staged .ensures .0), c .before .before .before .write-staged .ensures .1)
 
 pub eif-staged-roll-write-spec : {M : Type 1} → statement M
 eif-staged-roll-write-spec =
@@ -17,4 +12,4 @@ eif-staged-roll-write-spec =
     (λ c κs. search needs)
     (λ c κs. search needs)
     (λ c. search needs)
-    returns)
+    (λ c. (c .flat-written .ensures ∙ ap (λ r. flatWritten r) (c .before .before .before .write-staged .ensures .0), c .before .before .before .write-staged .ensures .1)))
