@@ -32,7 +32,7 @@ ghost use lib.Bits.{bitXor};
 ghost use Rattle.octets.specs.Bytes.{leValue};
 ghost use Rattle.crc32.specs.Crc.{crcFrom, crc32, ones32, shiftBits};
 ghost use Rattle.crc32_lemmas.specs.Fold.{taps, up64, inverse, left, down, sparse, sparser, spread, mix, windowSize, window, ringSize, pastWord, lowRingPower, highRingPower, ring, added, Words};
-ghost use Rattle.crc32_fold.specs.Sizes.{carrySize, roundSize, bufferSize, emptiedSize, clearedSize, ringBuffer, ringBytes, lowBack, highBack};
+ghost use Rattle.crc32_lemmas.specs.Sizes.{carrySize, roundSize, bufferSize, emptiedSize, clearedSize, ringBuffer, ringBytes, lowBack, highBack};
 ghost use Rattle.crc32_fold.specs.Carried.{carried, WordTaken};
 
 const ONES: u32 = 0xFFFFFFFF;

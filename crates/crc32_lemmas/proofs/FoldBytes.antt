@@ -9,6 +9,7 @@ use lib.Dec.{lit≤}
 use lib.Pow.{shr-shr}
 use lib.ListN.{getD, take, drop, replicate}
 use lib.Bits.{bitXor, xor-comm, xor-shifted}
+use Rattle.crc32_lemmas.specs.Sizes.{clearedSize}
 use Rattle.octets.specs.Lists.{All}
 use Rattle.octets.specs.Bytes.{leValue}
 use Rattle.crc32_lemmas.specs.Fold.{down, up, mix, num, numFrom, window, sparse, windowSize}
@@ -41,10 +42,10 @@ num-cut (suc n) m f z =
     ∙ ap (λ (y : ℕ). bitXor (f 0) (up 8 y)) (num-cut n m (λ (k : ℕ). f (suc k)) (λ k a b. z (suc k) (omega arith) (omega arith)))
 
 pub cleared : (v₀ v : List ℕ) → ((k : ℕ) → getD v k 0 < 2 ^ 8) → ((k : ℕ) → k < windowSize → getD v k 0 ≡ getD v₀ k 0)
-    → ((k : ℕ) → windowSize ≤ k → k < 468 → getD v k 0 ≡ 0) → leValue (take 468 v) ≡ window v₀ 0
+    → ((k : ℕ) → windowSize ≤ k → k < clearedSize → getD v k 0 ≡ 0) → leValue (take clearedSize v) ≡ window v₀ 0
 unfolding numFrom
 cleared v₀ v h p z =
-    value-num 468 v h ∙ num-cut windowSize 168 (λ (k : ℕ). getD v k 0) z
+    value-num clearedSize v h ∙ num-cut windowSize 168 (λ (k : ℕ). getD v k 0) z
     ∙ num-ext 8 windowSize (λ (k : ℕ). getD v k 0) (λ (k : ℕ). getD v₀ (0 + k) 0) (λ k m. p k m ∙ ap (λ (i : ℕ). getD v₀ i 0) (sym (zero-add k)))
 
 pub window-end : (v : List ℕ) → ((k : ℕ) → getD v k 0 < 2 ^ 8) → down 2400 (window v 0) ≡ 0

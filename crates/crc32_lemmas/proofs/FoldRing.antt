@@ -10,6 +10,7 @@ use lib.Pow.{mod-pow-add}
 use lib.ListN.{length, getD, set, replicate}
 use lib.Seq.{getD-set-same, getD-set-other}
 use lib.Bits.{bitXor, xor-zero-r}
+use Rattle.crc32_lemmas.specs.Sizes.{ringBuffer, ringBytes}
 use Rattle.octets.specs.Lists.{All}
 use Rattle.crc32_lemmas.specs.Fold.{down, mix, num, numFrom, ring, left, lowest, sparser, Words, ringSize, lowRingPower, highRingPower}
 use Rattle.crc32_lemmas.proofs.Sparse.{mix-down, mix-zero, ring-spread}
@@ -21,7 +22,7 @@ use Rattle.crc32_lemmas.proofs.FoldWords.{Pushed, mix-turn, start-mix, 
 abbrev around : List ℕ → ℕ → ℕ
 around v k = getD v (k % ringSize) 0
 
-module _ (v : List ℕ) (h : Words 32 3007 v) where
+module _ (v : List ℕ) (h : Words 32 ringBuffer v) where
   ring-push : (j u : ℕ) → j < ringSize → Pushed 3005 (around v) (around (set v j u)) j u
   ring-push j u l =
       let n = h .0 in
@@ -32,7 +33,7 @@ module _ (v : List ℕ) (h : Words 32 3007 v) where
         ap (λ (i : ℕ). getD (set v j u) i 0) e ∙ getD-set-same v j u 0 (omega arith),
       )
 
-  pub ring-turn : (j p q : ℕ) → j < ringSize → p ≡ (j + lowRingPower) % ringSize → q ≡ (j + highRingPower) % ringSize → (s : List ℕ) (i w : ℕ) → At s i 4 w → i + 12028 ≤ length s
+  pub ring-turn : (j p q : ℕ) → j < ringSize → p ≡ (j + lowRingPower) % ringSize → q ≡ (j + highRingPower) % ringSize → (s : List ℕ) (i w : ℕ) → At s i 4 w → i + (4 + ringBytes) ≤ length s
       → left s i (mix sparser 32 (ring v j)) ≡ left s (i + 4) (mix sparser 32 (ring (set v j (bitXor (bitXor (bitXor (getD v j 0) (getD v p 0)) (getD v q 0)) w)) (j + 1)))
   unfolding All
   ring-turn j p q l ep eq s i w a b =
@@ -74,7 +75,7 @@ module _ (f : ℕ → ℕ) (h : (k : ℕ) → f k < 2 ^ 32) where
 abbrev flat : List ℕ → ℕ → ℕ
 flat v k = around v (0 + k)
 
-module _ (v : List ℕ) (h : Words 32 3007 v) where
+module _ (v : List ℕ) (h : Words 32 ringBuffer v) where
   flat-lt : (k : ℕ) → flat v k < 2 ^ 32
   flat-lt k = h .1 ((0 + k) % ringSize)
 
@@ -106,7 +107,7 @@ module _ (v : List ℕ) (h : Words 32 3007 v) where
   pair-past i l = sym (ap (λ (x : ℕ). x % 2 ^ 64) (num-past 32 ringSize i (flat v) flat-lt l))
 
 -- ---- past the window
-pub mix-past : (v : List ℕ) → Words 32 3007 v → down (32 * ringSize) (mix sparser 32 (ring v 0)) ≡ 0
+pub mix-past : (v : List ℕ) → Words 32 ringBuffer v → down (32 * ringSize) (mix sparser 32 (ring v 0)) ≡ 0
 unfolding numFrom
 mix-past v h =
     sym (mix-down sparser 32 (32 * ringSize) (ring v 0))

@@ -11,6 +11,7 @@ use lib.Pow.{pow-mono, pow-pos}
 use lib.ListN.{length, getD, set, length-set, replicate, length-replicate}
 use lib.Seq.{getD-set-same, getD-set-other}
 use lib.Bits.{bitXor, xor-mod, xor-zero-r}
+use Rattle.crc32_lemmas.specs.Sizes.{bufferSize}
 use Rattle.octets.specs.Lists.{All}
 use Rattle.crc32_lemmas.specs.Fold.{down, up, mix, spread, taps, num, numFrom, window, left, lowest, added, sparse, Words, windowSize}
 use Rattle.crc32_lemmas.proofs.Sparse.{Spreads, down-add, mix-down, mix-xor, bytes-spread}
@@ -87,7 +88,7 @@ module _ (v : List ℕ) (j : ℕ) (h : (k : ℕ) → getD v k 0 < 2 ^ 8) (l : j 
       mix-turn sparse 1 299 (lit≤ tt, (lit≤ tt, (lit≤ tt, tt))) bytes-spread (bytes v) j h s i w a (omega arith) (bytes (set v (j + windowSize) u)) (window-push u)
 
 -- ---- the window moved to the front
-module _ (v₀ v : List ℕ) (n j : ℕ) (h : Words 8 1324 v) (p : (k : ℕ) → k < j → getD v k 0 ≡ getD v₀ (n + k) 0) (q : (k : ℕ) → j ≤ k → getD v k 0 ≡ getD v₀ k 0) (l : j < 1324) where
+module _ (v₀ v : List ℕ) (n j : ℕ) (h : Words 8 bufferSize v) (p : (k : ℕ) → k < j → getD v k 0 ≡ getD v₀ (n + k) 0) (q : (k : ℕ) → j ≤ k → getD v k 0 ≡ getD v₀ k 0) (l : j < bufferSize) where
   pub moves : (k : ℕ) → k < j + 1 → getD (set v j (getD v (j + n) 0)) k 0 ≡ getD v₀ (n + k) 0
   moves =
       below-more (λ (k : ℕ). getD (set v j (getD v (j + n) 0)) k 0 ≡ getD v₀ (n + k) 0) j

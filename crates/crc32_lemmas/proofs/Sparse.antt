@@ -12,7 +12,7 @@ use lib.Pow.{shl-shr, shr-shr, pow-add}
 use lib.Bits.{bitXor, xor-shr, xor-self, xor-zero-l}
 use Rattle.octets.specs.Lists.{All}
 use Rattle.crc32.specs.Crc.{poly, shiftBit, shiftBits}
-use Rattle.crc32_lemmas.specs.Fold.{down, up, taps, mix, spread, sparse, sparser, pastWord}
+use Rattle.crc32_lemmas.specs.Fold.{down, up, taps, mix, spread, sparse, sparser, pastWord, ringSize, windowSize}
 use Rattle.crc32.proofs.Xor.{xor-assoc, xor-swap, bit-lt, too-big}
 use Rattle.crc32.proofs.Linear.{shiftBits-linear, shiftBits-high, shiftBits-add}
 
@@ -56,11 +56,11 @@ lin-places n m ks = lin-taps (shiftBits n) (shiftBits-linear n) (places m) (λ k
 abbrev Multiple : List ℕ → ℕ → ℕ → Type 0
 Multiple ks d m = shiftBits (m * d) poly ≡ taps (places m) ks poly
 
-sparse-multiple : Multiple sparse 300 1
+sparse-multiple : Multiple sparse windowSize 1
 unfolding taps shiftBits shiftBit
 sparse-multiple = refl
 
-sparser-multiple : Multiple sparser 3006 1
+sparser-multiple : Multiple sparser ringSize 1
 unfolding taps shiftBits shiftBit
 sparser-multiple = refl
 
@@ -168,11 +168,11 @@ bits-spread = ((lit≤ tt, (lit≤ tt, (lit≤ tt, tt))), sparse-multiple)
 
 pub bytes-spread : Spreads sparse 8 8 2392
 unfolding All
-bytes-spread = ((lit≤ tt, (lit≤ tt, (lit≤ tt, tt))), to-8 sparse 300 sparse-multiple)
+bytes-spread = ((lit≤ tt, (lit≤ tt, (lit≤ tt, tt))), to-8 sparse windowSize sparse-multiple)
 
 pub ring-spread : Spreads sparser 32 32 96160
 unfolding All
-ring-spread = ((lit≤ tt, (lit≤ tt, tt)), double sparser 3006 16 (double sparser 3006 8 (to-8 sparser 3006 sparser-multiple)))
+ring-spread = ((lit≤ tt, (lit≤ tt, tt)), double sparser ringSize 16 (double sparser ringSize 8 (to-8 sparser ringSize sparser-multiple)))
 
 pub spread-steps : (ks : List ℕ) (m b e : ℕ) → Spreads ks m b e → (u : ℕ) → u < 2 ^ b → shiftBits (e + b) (shiftBits b u) ≡ shiftBits (e + b) (spread ks m e u)
 unfolding spread mix

@@ -18,7 +18,7 @@ use Rattle.eif.specs.Layout.{magicNumber, headerSize, offsetsAt, versionAt, cou
 use Rattle.eif.specs.Reading.{headerFault, entryFault, sectionFault, hasTail, missingFault, tailFault, checksumFault, positionIn, located, judged, early, verdictIn, checksumOf, verdictOf}
 use Rattle.eif.specs.Plan.{plannedKind, plainSize, dataBefore, sizeFault, planFault, planVerdict, writeVerdict, planLength}
 use Rattle.eif.specs.Stream.{streamOf, copyVerdict, copyListedAnswer, lengthAnswer}
-use Rattle.eif.specs.Roll.{recordHeadSize, recordTypeAt, flagsType, flagsLength, flagsRecordSize, flagsFault, rollFlags, restOf, recordAt, recordStart, recordSize, recordKind, isEnd, sizeAsImage, rollBytes, rollVerdict, rollLength, Ending, ended, stopped, stopVerdict, endVerdict, headFault, bodyFault, rollFault, endFrom, refusedRoll, rollAnswerFor, readRest, readRoll}
+use Rattle.eif.specs.Roll.{recordHeadSize, recordTypeAt, recordLengthAt, flagsType, flagsLength, flagsRecordSize, flagsFault, rollFlags, restOf, recordAt, recordStart, recordSize, recordKind, isEnd, sizeAsImage, rollBytes, rollVerdict, rollLength, Ending, ended, stopped, stopVerdict, endVerdict, headFault, bodyFault, rollFault, endFrom, refusedRoll, rollAnswerFor, readRest, readRoll}
 use Rattle.eif.specs.Order.{Rule, rule, firstThatApplies, orderRules, typeRules, headerRules, sectionRules, viewRules, imageRules, planRules, writeRules, copyRules, copyListedRules, rollWriteRules, flagsRules, headRules, bodyRules, endRules, rollRulesFrom, rollRules}
 use Rattle.eif.specs.declared.Plan.{Plan}
 use Rattle.eif.specs.declared.RollReading.{RollReading}
@@ -381,6 +381,6 @@ pub roll-read-first : (s : List ℕ) → readRoll s .verdict ≡ firstThatApplie
 unfolding readRoll flagsFault flagsRules firstThatApplies
 roll-read-first s =
     let rest : List Rule = rollRulesFrom (restOf s) (suc placeCount) 0 in
-    flags-by (ltb (length s) recordHeadSize) (either (not (eqb (leField 2 recordTypeAt s) flagsType)) (not (eqb (leField 8 0 s) flagsLength))) (ltb (length s) flagsRecordSize)
+    flags-by (ltb (length s) recordHeadSize) (either (not (eqb (leField 2 recordTypeAt s) flagsType)) (not (eqb (leField 8 recordLengthAt s) flagsLength))) (ltb (length s) flagsRecordSize)
     (readRest (rollFlags s) (restOf s)) (firstThatApplies rest) (rest-first (restOf s) (rollFlags s))
     ∙ sym (first-append (flagsRules s) rest)

@@ -64,7 +64,7 @@ module _ (rs : List Record) (fit : All Fits rs) where
 
   size-at : (i : ℕ) → i < length rs → drop (recordAt s i) s ≡ rollOf (drop i rs) → recordSize s i ≡ length (getD rs i blank .bytes)
   size-at i h e =
-      leField-drop0 8 (recordAt s i) s ∙ ap (leField 8 0) (e ∙ here i h)
+      leField-drop0 8 (recordAt s i) s ∙ ap (leField 8 recordLengthAt) (e ∙ here i h)
       ∙ head-size (length (getD rs i blank .bytes)) (getD rs i blank .kind) _ (all-at Fits rs i blank h fit .2)
 
   -- what stands from record i on is the roll of the records from i on
@@ -83,5 +83,5 @@ module _ (rs : List Record) (fit : All Fits rs) where
 
   pub kinds : (i : ℕ) → i < length rs → recordKind s i ≡ getD rs i blank .kind
   kinds i h =
-      leField-drop 2 8 (recordAt s i) s ∙ ap (leField 2 8) (suffix i (omega arith) ∙ here i h)
+      leField-drop 2 recordTypeAt (recordAt s i) s ∙ ap (leField 2 recordTypeAt) (suffix i (omega arith) ∙ here i h)
       ∙ head-kind (length (getD rs i blank .bytes)) (getD rs i blank .kind) _ (all-at Fits rs i blank h fit .1)

@@ -19,7 +19,7 @@ use Rattle.eif.specs.Rules.{bootType, seen, orderFault, bootMissing, missing}
 use Rattle.eif.specs.Table.{filled}
 use Rattle.eif.specs.Layout.{headerSize, sectionHeaderSize, versionOf, headerFlagsOf, countOf, offsetAt, sizeAt, startAt, kindAt}
 use Rattle.eif.specs.Reading.{verdictOf, sectionAt, blankSection, sectionsOf, dataOf}
-use Rattle.eif.specs.Roll.{Record, headOf, flagsRecord, rollOf, recordFor, recordsIn, recordsOf, rollBytes, recordAt, recordSize, recordKind, sizeAsImage, recordHeadSize}
+use Rattle.eif.specs.Roll.{Record, headOf, flagsRecord, rollOf, recordFor, recordsIn, recordsOf, rollBytes, recordAt, recordSize, recordKind, sizeAsImage, recordHeadSize, recordTypeAt, recordLengthAt}
 use Rattle.eif.specs.declared.Section.{Section}
 use Rattle.eif.specs.declared.Verdict.the-variants.{Accepted}
 use Rattle.octets.proofs.Logic.{both-true, either-false}
@@ -139,11 +139,11 @@ end-length : length (headOf 0 0) ≡ 10
 unfolding headOf
 end-length = refl
 
-end-size : leField 8 0 (headOf 0 0) ≡ 0
+end-size : leField 8 recordLengthAt (headOf 0 0) ≡ 0
 unfolding headOf leField
 end-size = refl
 
-end-kind : leField 2 8 (headOf 0 0) ≡ 0
+end-kind : leField 2 recordTypeAt (headOf 0 0) ≡ 0
 unfolding headOf leField
 end-kind = refl
 
@@ -164,7 +164,7 @@ module _ (rs : List Record) (held : All Held rs) where
   fit : All Fits rs
   fit = held-fit rs held
 
-  head-inside : (i : ℕ) → i ≤ n → recordAt t i + 10 ≤ length t
+  head-inside : (i : ℕ) → i ≤ n → recordAt t i + recordHeadSize ≤ length t
   head-inside i h =
       let e = sym (length-drop (recordAt t i) t) ∙ ap length (suffix rs fit i h) in
       let l = length-roll (drop i rs) in
@@ -181,10 +181,10 @@ module _ (rs : List Record) (held : All Held rs) where
       omega arith
 
   end-size-is : recordSize t n ≡ 0
-  end-size-is = leField-drop0 8 (recordAt t n) t ∙ ap (leField 8 0) at-end ∙ end-size
+  end-size-is = leField-drop0 8 (recordAt t n) t ∙ ap (leField 8 recordLengthAt) at-end ∙ end-size
 
   end-kind-is : recordKind t n ≡ 0
-  end-kind-is = leField-drop 2 8 (recordAt t n) t ∙ ap (leField 2 8) at-end ∙ end-kind
+  end-kind-is = leField-drop 2 recordTypeAt (recordAt t n) t ∙ ap (leField 2 recordTypeAt) at-end ∙ end-kind
 
   sizes-sum : (i : ℕ) → i ≤ n → sizeAsImage t i + recordsSum (drop i rs) ≡ headerSize + recordsSum rs
   sizes-sum zero h = ap (λ (x : ℕ). x + recordsSum rs) (first-size t)

@@ -6,7 +6,8 @@ use borrow.Author.Count.{below-more}
 use lib.Dec.{lit<}
 use lib.ListN.{getD, set}
 use lib.Seq.{getD-set-same, getD-set-other}
-use Rattle.crc32_lemmas.specs.Fold.{Words}
+use Rattle.crc32_lemmas.specs.Sizes.{bufferSize, clearedSize}
+use Rattle.crc32_lemmas.specs.Fold.{Words, windowSize}
 use Rattle.crc32_lemmas.proofs.FoldWords.{words-set}
 use Rattle.crc32_lemmas.proofs.FoldBytes.{cleared}
 use borrow.Author.Needs.{needs}
@@ -15,10 +16,10 @@ use Rattle.crc32_fold.proofs.clear.Statement.{statement}
 use Rattle.crc32_fold.proofs.clear.Tie as tie
 
 abbrev Inv-loop : tie.InvT-loop
-Inv-loop v₀ j₀ v j = (300 ≤ j) × (j ≤ 468) × ((k : ℕ) → k < 300 → getD v k 0 ≡ getD v₀ k 0) × ((k : ℕ) → k < j → 300 ≤ k → getD v k 0 ≡ 0) × Words 8 1324 v
+Inv-loop v₀ j₀ v j = (windowSize ≤ j) × (j ≤ clearedSize) × ((k : ℕ) → k < windowSize → getD v k 0 ≡ getD v₀ k 0) × ((k : ℕ) → k < j → windowSize ≤ k → getD v k 0 ≡ 0) × Words 8 bufferSize v
 
 abbrev μ-loop : tie.MeasureT-loop
-μ-loop v₀ j₀ v j = 468 - j
+μ-loop v₀ j₀ v j = clearedSize - j
 
 loop-holds : tie.Need-loop-holds Inv-loop μ-loop
 loop-holds c = (omega arith, omega arith, (λ k l. refl), (λ k l m. absurd (omega arith)), c .pre)
@@ -33,10 +34,10 @@ loop-again c =
       omega arith,
       omega arith,
       (λ k m. getD-set-other v j k 0 0 (λ e. omega arith) ∙ l .inv .2 k m),
-      below-more (λ (k : ℕ). 300 ≤ k → getD (set v j 0) k 0 ≡ 0) j
+      below-more (λ (k : ℕ). windowSize ≤ k → getD (set v j 0) k 0 ≡ 0) j
           (λ k m o. getD-set-other v j k 0 0 (λ e. omega arith) ∙ l .inv .3 k m o)
           (λ o. getD-set-same v j 0 0 (omega arith)),
-      words-set 8 1324 v j 0 (lit< tt) h,
+      words-set 8 bufferSize v j 0 (lit< tt) h,
     )
 
 returns : tie.Need-returns Inv-loop μ-loop

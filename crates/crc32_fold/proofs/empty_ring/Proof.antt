@@ -4,7 +4,8 @@ use Prim.Native.Nat.{ℕ, _+_, _-_, _*_, _%_, _^_, _<_, _≤_}
 use mathlib.Core.Path.{_≡_, sym, ap, ap₂, _∙_}
 use lib.Bits.{bitXor, xor-zero-l, xor-zero-r}
 use lib.Dec.{lit<}
-use Rattle.crc32_lemmas.specs.Fold.{down, sparse, sparser, spread, left, mix, ring, pastWord}
+use Rattle.crc32_lemmas.specs.Sizes.{ringBytes}
+use Rattle.crc32_lemmas.specs.Fold.{down, sparse, sparser, spread, left, mix, ring, pastWord, ringSize}
 use Rattle.crc32_fold.specs.Carried.{carried}
 use Rattle.crc32_fold.proofs.Carried.{bits-turn-under, carried-none}
 use Rattle.crc32_lemmas.proofs.FoldWords.{mix-from, down-on}
@@ -15,10 +16,10 @@ use Rattle.crc32_fold.proofs.empty_ring.Statement.{statement}
 use Rattle.crc32_fold.proofs.empty_ring.Tie as tie
 
 abbrev Inv-loop : tie.InvT-loop
-Inv-loop s at v n₀ j₀ n j = (j ≤ 3006) × (j % 2 ≡ 0) × (left s (at + j * 4) (bitXor (carried n) (down (32 * j) (mix sparser 32 (ring v 0)))) ≡ left s at (mix sparser 32 (ring v 0))) × (n .a < 2 ^ 64)
+Inv-loop s at v n₀ j₀ n j = (j ≤ ringSize) × (j % 2 ≡ 0) × (left s (at + j * 4) (bitXor (carried n) (down (32 * j) (mix sparser 32 (ring v 0)))) ≡ left s at (mix sparser 32 (ring v 0))) × (n .a < 2 ^ 64)
 
 abbrev μ-loop : tie.MeasureT-loop
-μ-loop s at v n₀ j₀ n j = 3006 - j
+μ-loop s at v n₀ j₀ n j = ringSize - j
 
 loop-holds : tie.Need-loop-holds Inv-loop μ-loop
 unfolding down
@@ -54,8 +55,8 @@ returns c =
     let l = c .before .loop in
     let a = c .before .before .before .args in
     let y = mix sparser 32 (ring (a .v .now) 0) in
-    let j : l .j ≡ 3006 = omega arith in
-    let e : a .at + 12024 ≡ a .at + l .j * 4 = omega arith in
+    let j : l .j ≡ ringSize = omega arith in
+    let e : a .at + ringBytes ≡ a .at + l .j * 4 = omega arith in
     let z = ap (λ (n : ℕ). down (32 * n) y) j ∙ mix-past (a .v .now) (c .before .before .before .pre .1) in
     (ap₂ (left (a .s .now)) e (sym (ap (bitXor (carried (l .n))) z ∙ xor-zero-r (carried (l .n)))) ∙ l .inv .2, l .inv .3)
 

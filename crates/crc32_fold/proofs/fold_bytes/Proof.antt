@@ -4,7 +4,8 @@ use Prim.Native.Nat.{ℕ, _+_, _-_, _^_, _<_, _≤_}
 use mathlib.Core.Path.{_≡_, refl, sym, ap, ap₂, _∙_}
 use lib.Bits.{bitXor, xor-lt}
 use lib.ListN.{getD, set}
-use Rattle.crc32_lemmas.specs.Fold.{left, sparse, mix, window, Words}
+use Rattle.crc32_lemmas.specs.Sizes.{bufferSize}
+use Rattle.crc32_lemmas.specs.Fold.{left, sparse, mix, window, Words, windowSize}
 use Rattle.crc32_lemmas.proofs.FoldWords.{bytes-turn, words-set}
 use Rattle.crc32_lemmas.proofs.Left.{le-step}
 use borrow.Author.Needs.{needs}
@@ -13,7 +14,7 @@ use Rattle.crc32_fold.proofs.fold_bytes.Statement.{statement}
 use Rattle.crc32_fold.proofs.fold_bytes.Tie as tie
 
 abbrev Inv-loop : tie.InvT-loop
-Inv-loop s at n v₀ j₀ v j = (j ≤ n) × (left s (at + j) (mix sparse 8 (window v j)) ≡ left s at (mix sparse 8 (window v₀ 0))) × Words 8 1324 v
+Inv-loop s at n v₀ j₀ v j = (j ≤ n) × (left s (at + j) (mix sparse 8 (window v j)) ≡ left s at (mix sparse 8 (window v₀ 0))) × Words 8 bufferSize v
 
 abbrev μ-loop : tie.MeasureT-loop
 μ-loop s at n v₀ j₀ v j = n - j
@@ -40,10 +41,10 @@ loop-again c =
     let e : a .at + (l .j + 1) ≡ i + 1 = omega arith in
     let o : q .result < 2 ^ 8 = omega arith in (
       omega arith,
-      ap₂ (λ (n x : ℕ). left s n (mix sparse 8 (window (set v (l .j + 300) (bitXor x w)) (l .j + 1)))) e (q .ensures)
+      ap₂ (λ (n x : ℕ). left s n (mix sparse 8 (window (set v (l .j + windowSize) (bitXor x w)) (l .j + 1)))) e (q .ensures)
           ∙ sym (bytes-turn v (l .j) (h .1) (omega arith) s i w (omega arith, m, le-step s i (i + 1) (omega arith) refl) (omega arith))
           ∙ l .inv .1,
-      words-set 8 1324 v (l .j + 300) (bitXor (q .result) w) (xor-lt 8 (q .result) w o m) h,
+      words-set 8 bufferSize v (l .j + windowSize) (bitXor (q .result) w) (xor-lt 8 (q .result) w o m) h,
     )
 
 returns : tie.Need-returns Inv-loop μ-loop

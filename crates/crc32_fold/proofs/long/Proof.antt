@@ -4,7 +4,7 @@ use Prim.Native.Nat.{ℕ, _+_, _-_, _*_, _^_, _<_, _≤_}
 use mathlib.Core.Path.{_≡_, ap, _∙_}
 use mathlib.Core.List.{_∷_}
 use lib.ListN.{length, replicate, length-take}
-use Rattle.crc32_fold.specs.Sizes.{carrySize, emptiedSize, bufferSize}
+use Rattle.crc32_lemmas.specs.Sizes.{carrySize, emptiedSize, bufferSize}
 use Rattle.crc32.specs.Crc.{crcFrom}
 use Rattle.crc32_lemmas.specs.Fold.{down, left, sparse, mix, window, Words, windowSize}
 use Rattle.crc32_lemmas.proofs.FoldWords.{words-cons, words-none}

@@ -3,6 +3,7 @@
 use mathlib.Core.Path.{sym}
 use lib.Bits.{bitXor, xor-lt}
 use lib.ListN.{getD}
+use Rattle.crc32_lemmas.specs.Sizes.{ringBuffer}
 use Rattle.crc32_lemmas.proofs.FoldRing.{ring-turn}
 use Rattle.crc32_lemmas.proofs.FoldWords.{words-set}
 use borrow.Author.Needs.{needs}
@@ -20,7 +21,7 @@ returns c =
     let u = bitXor (bitXor (getD v (a .j) 0) (getD v (a .p) 0)) (getD v (a .q) 0) in
     let l = xor-lt 32 (bitXor (getD v (a .j) 0) (getD v (a .p) 0)) (getD v (a .q) 0) (xor-lt 32 (getD v (a .j) 0) (getD v (a .p) 0) (h .4 .1 (a .j)) (h .4 .1 (a .p))) (h .4 .1 (a .q)) in (
       sym (ring-turn v (h .4) (a .j) (a .p) (a .q) (h .1) (h .2) (h .3) (a .s .now) (a .at) (r .result) (omega arith, r .ensures .1, r .ensures .0) (h .0)),
-      words-set 32 3007 v (a .j) (bitXor u (r .result)) (xor-lt 32 u (r .result) l (r .ensures .1)) (h .4),
+      words-set 32 ringBuffer v (a .j) (bitXor u (r .result)) (xor-lt 32 u (r .result) l (r .ensures .1)) (h .4),
     )
 
 pub turn-spec : {M : Type 1} → statement M

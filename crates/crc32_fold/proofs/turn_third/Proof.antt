@@ -2,32 +2,32 @@
 -- Assumes nothing.
 use Prim.Native.Nat.{ℕ, _+_, _-_, _*_, _≤_}
 use mathlib.Core.Path.{_≡_, refl, sym, ap, ap₂, _∙_}
-use Rattle.crc32_fold.specs.Sizes.{lowBack, ringBuffer, ringBytes}
-use Rattle.crc32_lemmas.specs.Fold.{left, sparser, mix, ring, Words, ringSize}
+use Rattle.crc32_lemmas.specs.Sizes.{lowBack, ringBytes}
+use Rattle.crc32_lemmas.specs.Fold.{left, sparser, mix, ring, ringSize}
 use Rattle.crc32_lemmas.proofs.FoldRing.{ring-round}
 use borrow.Author.Needs.{needs}
 use native.Mathlib.Omega.{arith}
+use Rattle.crc32_fold.proofs.Round.{Turned, turned-next}
 use Rattle.crc32_fold.proofs.turn_third.Statement.{statement}
 use Rattle.crc32_fold.proofs.turn_third.Tie as tie
 
 abbrev Inv-loop : tie.InvT-loop
-Inv-loop s at v₀ j₀ v j = (lowBack ≤ j) × (j ≤ ringSize) × (left s (at + j * 4) (mix sparser 32 (ring v j)) ≡ left s (at + 4 * lowBack) (mix sparser 32 (ring v₀ lowBack))) × Words 32 ringBuffer v
+Inv-loop s at v₀ j₀ v j = (lowBack ≤ j) × (j ≤ ringSize) × Turned s (at + 4 * lowBack) v₀ lowBack at v j
 
 abbrev μ-loop : tie.MeasureT-loop
 μ-loop s at v₀ j₀ v j = ringSize - j
 
 loop-holds : tie.Need-loop-holds Inv-loop μ-loop
-loop-holds c = (omega arith, omega arith, refl, c .before .pre .1)
+loop-holds c = (omega arith, omega arith, (refl, c .before .pre .1))
 
 turn-requires : tie.Need-turn-requires Inv-loop μ-loop
-turn-requires c κs = (omega arith, omega arith, omega arith, omega arith, c .before .before .loop .inv .3)
+turn-requires c κs = (omega arith, omega arith, omega arith, omega arith, c .before .before .loop .inv .2 .1)
 
 loop-again : tie.Need-loop-again Inv-loop μ-loop
 loop-again c =
     let l = c .before .before .before .loop in
     let a = c .before .before .before .before .before .args in
-    let e : a .at + (l .j + 1) * 4 ≡ a .at + l .j * 4 + 4 = omega arith in
-    (omega arith, omega arith, rw e (c .turn .ensures .0 ∙ l .inv .2), c .turn .ensures .1)
+    (omega arith, omega arith, turned-next (a .s .now) (a .at + 4 * lowBack) (a .v .now) lowBack (a .at) (l .v) (c .turn .last .1 .1 .1 .1 .1 .0) (l .j) (c .turn .ensures) (l .inv .2))
 
 returns : tie.Need-returns Inv-loop μ-loop
 returns c =
@@ -37,7 +37,7 @@ returns c =
     let e : ringSize ≡ l .j = omega arith in
     let i : at + ringBytes ≡ at + l .j * 4 = omega arith in
     let o = sym (ring-round (l .v)) ∙ ap (ring (l .v)) e in
-    (ap₂ (λ (m x : ℕ). left s m (mix sparser 32 x)) i o ∙ l .inv .2, l .inv .3)
+    (ap₂ (λ (m x : ℕ). left s m (mix sparser 32 x)) i o ∙ l .inv .2 .0, l .inv .2 .1)
 
 pub turn-third-spec : {M : Type 1} → statement M
 turn-third-spec =

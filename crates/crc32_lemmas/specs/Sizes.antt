@@ -1,7 +1,7 @@
--- Sizes of the buffers that the functions of this crate share; src/lib.rt says what each is for.
+-- Sizes of the buffers that the functions of `crc32_fold` share; its src/lib.rt says what each is for.
 -- Assumes nothing.
 use Prim.Native.Nat.{ℕ, _+_, _-_, _*_}
 use Rattle.crc32_lemmas.specs.Fold.{windowSize, ringSize, lowRingPower, highRingPower}
 
 -- five words of 64 bits, in bytes
 abbrev pub carrySize : ℕ
