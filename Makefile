@@ -31,6 +31,9 @@ help:
 	@echo 'make test                 prove every crate, try every must-fail edit, run every program and test'
 	@echo 'make prove                the proofs, edits and programs alone: rt ci'
 	@echo 'make rust-test c-test     the command and the library from Rust; the library from C'
+	@echo 'make written-test         that what tools have written is fresh, and what documents name is there'
+	@echo 'make show-test            the small programs; make install-test: an installation, in target/install'
+	@echo 'make staticlib            the library for C and Rust: target/staticlib/libeif_c.a'
 	@echo 'make rust-lint doc        lints of the Rust code, its documentation'
 	@echo 'make test-large           the tests that keep images of 1 GiB in memory: minutes, 4 GiB'
 	@echo 'make bench                speed beside the plain Rust twin, zlib, libdeflate and OpenSSL, with plots; BENCH_LARGE=1: images of 1 GiB too; BENCH=json: JSON texts alone'
@@ -50,6 +53,7 @@ run: kit
 # is too old for the Rust tests, all the rest is tried and the last line says what is missing.
 test: kit
 	@tests/prove.sh $(RT)
+	@tests/edits.sh
 	@$(MAKE) --no-print-directory written-test show-test $(archive)
 	@$(MAKE) --no-print-directory EIF_LIB_DIR='$(EIF_LIB_DIR)' c-test
 	@if tests/cargo.sh $(CARGO); then $(MAKE) --no-print-directory EIF_LIB_DIR='$(EIF_LIB_DIR)' rust-test install-test; fi
@@ -73,13 +77,15 @@ map:
 	tools/map.py
 	tools/believe.py
 
-# What tools/ has written is what it would write, what the documents name is there, each import is used, and the layout is that of rt fmt.
+# What tools/ has written is what it would write, what the documents name is there, the name of a definition has one meaning, each import is
+# used, and the layout is that of rt fmt.
 written-test: kit
 	tests/need.sh python3 python3
 	tools/map.py --check
 	tools/believe.py --check
 	tools/json_tables.py --check
 	tools/names.py --check
+	tools/meanings.py
 	tools/imports.py
 	$(RT) fmt --check
 

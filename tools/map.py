@@ -64,7 +64,7 @@ def apart(crates):
         users = [user for user, below in crates.items() if name in below]
         if users and all(user in names for user in users) and name not in names:
             names.append(name)
-    return names
+    return [name for name in crates if name in names]
 
 
 # ---- layers
@@ -312,7 +312,7 @@ def drawing(crates):
         "</g>",
         *(box(p, x[p] - width(p) / 2, y[p]) for row in rows for p in row if isinstance(p, str)),
         f'<path d="M{MARGIN} {bottom - 16}H{size[0] - MARGIN:.0f}" stroke="#cccccc"/>',
-        f'<text x="{MARGIN}" y="{bottom + 4}" fill="#555">programs, and what they stand on</text>' if names else "",
+        f'<text x="{MARGIN}" y="{bottom + 4}" fill="#555">programs, and what they alone share: each with what it stands on</text>' if names else "",
         *below,
         "</svg>",
     ]

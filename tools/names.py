@@ -7,6 +7,7 @@ speaks of how things were, is left out.
     `eif_judge::judge`              a function, a constant or a type of a crate
     `eif_laws/Acceptance.NAME`      a name in a file of a crate's proofs or specs; `eif_flat/specs/Flat.NAME` too, and with no NAME the file
     `Reading.readImage`             a name in a file of this name, of any crate
+    `Copied.count`                  a field of a record or of a struct
     `eif_judge/wrapping_end`        a must-fail edit
     `cli/words`                     a test of rust/cli
     `docs/FORMAT.md`                a file
@@ -41,8 +42,8 @@ def all_words():
 
 
 def holds(path, name):
-    """Whether a file of a crate has a name, not counting its comments."""
-    return path.exists() and name in SPLIT.split(re.sub(r"(^|\s)(--|//).*", r"\1", path.read_text(encoding="utf-8")))
+    """Whether a file of a crate has a name, not counting its comments and what it imports."""
+    return path.exists() and name in SPLIT.split(re.sub(r"(^|\s)(--|//).*|^\s*(ghost )?use .*", r"\1", path.read_text(encoding="utf-8"), flags=re.M))
 
 
 def of_crate(crate, rest):
@@ -67,11 +68,18 @@ def of_path(name):
     return Path("rust", name).exists() or any(path.exists() for path in tests)
 
 
-def of_module(name, words):
-    """Whether a file of this name, of any crate, has the name behind the dot; or else a type has that field."""
+def is_field(name, field):
+    """Whether a record of the definitions and laws, or a struct of the code, has a field."""
+    record = re.compile(rf"^( *)(?:pub )?record {name}\b.*\n(?:\1 +.*\n| *\n)*?\1 +(?:pub )?{field} :", re.M)
+    struct = re.compile(rf"\bstruct {name} \{{[^}}]*\b{field}: ")
+    kinds = ((record, "antt"), (struct, "rt"))
+    return any(kind.search(path.read_text(encoding="utf-8")) for kind, end in kinds for path in Path("crates").rglob("*." + end))
+
+
+def of_module(name):
+    """Whether a file of this name, of any crate, has the name behind the dot, or a type of this name has that field."""
     module, _, inner = name.partition(".")
-    files = list(Path("crates").glob(f"*/*/{module}.antt"))
-    return any(holds(path, inner) for path in files) if files else {module, inner} <= words
+    return any(holds(path, inner) for path in Path("crates").glob(f"*/*/{module}.antt")) or is_field(module, inner)
 
 
 def of_code(name, words):
@@ -93,7 +101,7 @@ def is_there(name, words):
     if re.fullmatch(r"[\w\-]+\.(antt|rt|rs|c|h|sh|py|md|svg)", name):
         return name in words or Path("docs", name).exists() or Path(name).exists()
     if re.fullmatch(r"[A-Z]\w*\.[^\W\d][\w\-→']*", name):
-        return of_module(name, words)
+        return of_module(name)
     return not WORD.match(name) or name in words
 
 

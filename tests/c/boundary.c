@@ -42,24 +42,15 @@ typedef char layout_of_roll_reading[sizeof(eif_roll_reading) == 32 + 32 * 24 ? 1
 typedef char layout_of_roll_flags[offsetof(eif_roll_reading, flags) == 2 ? 1 : -1];
 typedef char layout_of_roll_records[offsetof(eif_roll_reading, records) == 32 ? 1 : -1];
 
-enum { IMAGE_LENGTH = 585, ROLL_LENGTH = 53 };
-
-static eif_stream_position start(void) {
-    eif_stream_position position;
-    position.value = 0;
-    return position;
-}
+/* The image and its roll, and the image's beginning that is a byte too short for a header. */
+enum { IMAGE_LENGTH = 585, ROLL_LENGTH = 53, CUT_LENGTH = EIF_HEADER_LENGTH - 1 };
 
 /* A kernel of one byte, an empty command line and an empty ramdisk, then the plan's count. */
 static eif_plan plan_of(uint16_t count) {
-    eif_plan plan;
-    memset(&plan, 0, sizeof plan);
-    plan.version = 2;
-    plan.count = count;
-    plan.places[0].type = EIF_KERNEL;
-    plan.places[0].length.value = 1;
-    plan.places[1].type = EIF_COMMAND_LINE;
-    plan.places[2].type = EIF_RAMDISK;
+    eif_plan plan = begin_plan(2, 0, count);
+    put_place(&plan, 0, EIF_KERNEL, 1);
+    put_place(&plan, 1, EIF_COMMAND_LINE, 0);
+    put_place(&plan, 2, EIF_RAMDISK, 0);
     return plan;
 }
 
@@ -75,10 +66,10 @@ static void try_null(const uint8_t *image) {
     check(eif_boot_length(NULL, 0).number == EIF_IMAGE_TOO_SHORT, "boot length of null");
     check(eif_app_length(NULL, 0).number == EIF_IMAGE_TOO_SHORT, "app length of null");
     check(eif_roll_length(NULL, 0).number == EIF_IMAGE_TOO_SHORT, "roll length of null");
-    check(eif_copy_whole(NULL, 0, start(), NULL, 0).number == EIF_IMAGE_TOO_SHORT, "whole of null");
-    check(eif_copy_boot(NULL, 0, start(), NULL, 0).number == EIF_IMAGE_TOO_SHORT, "boot of null");
-    check(eif_copy_app(NULL, 0, start(), NULL, 0).number == EIF_IMAGE_TOO_SHORT, "app of null");
-    check(eif_copy_sections(NULL, 0, whole, start(), NULL, 0).number == EIF_ACCEPTED, "sections of null");
+    check(eif_copy_whole(NULL, 0, at(0), NULL, 0).number == EIF_IMAGE_TOO_SHORT, "whole of null");
+    check(eif_copy_boot(NULL, 0, at(0), NULL, 0).number == EIF_IMAGE_TOO_SHORT, "boot of null");
+    check(eif_copy_app(NULL, 0, at(0), NULL, 0).number == EIF_IMAGE_TOO_SHORT, "app of null");
+    check(eif_copy_sections(NULL, 0, whole, at(0), NULL, 0).number == EIF_ACCEPTED, "sections of null");
     check(eif_roll_write(NULL, 0, NULL, 0).number == EIF_IMAGE_TOO_SHORT, "roll of null");
     check(eif_roll_read(NULL, 0).number == EIF_RECORD_CUT, "roll read of null");
     check(eif_registers(NULL, 0).number == EIF_IMAGE_TOO_SHORT, "registers of null");
@@ -86,10 +77,10 @@ static void try_null(const uint8_t *image) {
     check(eif_arriving_feed(eif_arriving_begin(), NULL, 0, UINT64_MAX).count == 0, "null arrives");
     check(eif_write(empty, NULL, 0, NULL, 0).number == EIF_OUTPUT_TOO_SHORT, "write to null");
 
-    check(eif_copy_whole(image, IMAGE_LENGTH, start(), NULL, 0).number == EIF_ACCEPTED, "whole to null");
-    check(eif_copy_boot(image, IMAGE_LENGTH, start(), NULL, 0).number == EIF_ACCEPTED, "boot to null");
-    check(eif_copy_app(image, IMAGE_LENGTH, start(), NULL, 0).number == EIF_ACCEPTED, "app to null");
-    check(eif_copy_sections(image, IMAGE_LENGTH, whole, start(), NULL, 0).number == EIF_ACCEPTED,
+    check(eif_copy_whole(image, IMAGE_LENGTH, at(0), NULL, 0).number == EIF_ACCEPTED, "whole to null");
+    check(eif_copy_boot(image, IMAGE_LENGTH, at(0), NULL, 0).number == EIF_ACCEPTED, "boot to null");
+    check(eif_copy_app(image, IMAGE_LENGTH, at(0), NULL, 0).number == EIF_ACCEPTED, "app to null");
+    check(eif_copy_sections(image, IMAGE_LENGTH, whole, at(0), NULL, 0).number == EIF_ACCEPTED,
           "sections to null");
     check(eif_roll_write(image, IMAGE_LENGTH, NULL, 0).number == EIF_OUTPUT_TOO_SHORT, "roll to null");
 }
@@ -194,24 +185,24 @@ int main(void) {
     check(eif_roll_write(image, sizeof image, roll, sizeof roll).number == EIF_ACCEPTED, "roll");
     try_null(image);
     try_reading(image, IMAGE_LENGTH, eif_read);
-    try_reading(image, 547, eif_read);
+    try_reading(image, CUT_LENGTH, eif_read);
     try_reading(image, IMAGE_LENGTH, eif_read_strict);
-    try_reading(image, 547, eif_read_strict);
+    try_reading(image, CUT_LENGTH, eif_read_strict);
     try_json("{}");
     try_json("{]");
     try_json("{");
     try_stream_sections(image, IMAGE_LENGTH, eif_whole_sections);
     try_stream_sections(image, IMAGE_LENGTH, eif_boot_sections);
     try_stream_sections(image, IMAGE_LENGTH, eif_app_sections);
-    try_stream_sections(image, 547, eif_whole_sections);
+    try_stream_sections(image, CUT_LENGTH, eif_whole_sections);
     try_roll_reading(roll, ROLL_LENGTH);
     try_roll_reading(roll, 9);
     try_answer(image, IMAGE_LENGTH, roll, ROLL_LENGTH);
     try_answer(image, IMAGE_LENGTH, roll, ROLL_LENGTH - 1);
     try_registers(image, IMAGE_LENGTH);
-    try_registers(image, 547);
+    try_registers(image, CUT_LENGTH);
     try_arriving(image, IMAGE_LENGTH);
-    try_arriving(image, 547);
+    try_arriving(image, CUT_LENGTH);
     try_sha384(0);
     try_sha384(EIF_MAX_MESSAGE_LENGTH);
     try_words();

@@ -1,6 +1,6 @@
 /*
- * What the tests of the C interface share: counting what differs, and looking whether bytes stayed or whether two
- * equal answers are equal by memcmp. Compiles as C99 and as C++.
+ * What the tests of the C interface share: counting what differs, looking whether bytes stayed or whether two
+ * equal answers are equal by memcmp, and making a plan. Compiles as C99 and as C++.
  */
 #ifndef CHECK_H
 #define CHECK_H
@@ -51,6 +51,27 @@ static inline int stays(const uint8_t *bytes, size_t begin, size_t end) {
 static inline int is(eif_answer answer, unsigned number, uint64_t length) {
     return answer.number == number && answer.index == 0 && answer.position == 0 &&
            answer.length == length && zero(answer.reserved, sizeof answer.reserved);
+}
+
+/* A plan of so many sections, before their types and lengths are put. */
+static inline eif_plan begin_plan(uint16_t version, uint16_t flags, uint16_t count) {
+    eif_plan plan;
+    memset(&plan, 0, sizeof plan);
+    plan.version = version;
+    plan.flags = flags;
+    plan.count = count;
+    return plan;
+}
+
+static inline void put_place(eif_plan *plan, unsigned i, uint16_t type, uint64_t length) {
+    plan->places[i].type = type;
+    plan->places[i].length.value = length;
+}
+
+static inline eif_stream_position at(uint64_t value) {
+    eif_stream_position position;
+    position.value = value;
+    return position;
 }
 
 /* Leaves bytes on the stack, where the next call's answer is made. */

@@ -6,7 +6,11 @@
  */
 #include "check.h"
 
-enum { COUNT = 4, BASE_LENGTH = 548 + 4 * 12 + 6 + 5 + 3 + 5, ROOM = 1024 };
+enum {
+    COUNT = 4,
+    BASE_LENGTH = EIF_HEADER_LENGTH + COUNT * EIF_SECTION_HEADER_LENGTH + 6 + 5 + 3 + 5,
+    ROOM = 1024
+};
 
 /* The layout, as the Rust interface has it. A wrong size is a negative array length. */
 typedef char layout_of_part[sizeof(eif_staged_part_answer) == 40 ? 1 : -1];
@@ -25,14 +29,9 @@ static const uint8_t *bytes_of(const char *text) { return (const uint8_t *)text;
 static eif_plan plan_of(uint64_t ramdisk) {
     static const uint16_t types[COUNT] = {EIF_KERNEL, EIF_COMMAND_LINE, EIF_RAMDISK, EIF_RAMDISK};
     static const uint64_t lengths[COUNT] = {6, 5, 0, 5};
-    eif_plan plan;
-    memset(&plan, 0, sizeof plan);
-    plan.version = 2;
-    plan.flags = 1;
-    plan.count = COUNT;
+    eif_plan plan = begin_plan(2, 1, COUNT);
     for (unsigned i = 0; i < COUNT; i++) {
-        plan.places[i].type = types[i];
-        plan.places[i].length.value = i == 2 ? ramdisk : lengths[i];
+        put_place(&plan, i, types[i], i == 2 ? ramdisk : lengths[i]);
     }
     return plan;
 }
@@ -101,7 +100,7 @@ static void try_refused(size_t base_length, uint64_t size, uint64_t replaced, ui
 
 static void try_order(void) {
     uint64_t most = EIF_MAX_IMAGE_LENGTH - (BASE_LENGTH - 3);
-    try_refused(547, UINT64_MAX, 9, 9, EIF_IMAGE_TOO_SHORT, 0, 0, "a base that is no image");
+    try_refused(EIF_HEADER_LENGTH - 1, UINT64_MAX, 9, 9, EIF_IMAGE_TOO_SHORT, 0, 0, "a base that is no image");
     try_refused(BASE_LENGTH - 1, UINT64_MAX, 9, 9, EIF_ENDS_LATE, 3, 52, "a base that is cut");
     try_refused(BASE_LENGTH, UINT64_MAX, COUNT, 0, EIF_NO_SUCH_SECTION, 0, 0, "replaced, the count");
     try_refused(BASE_LENGTH, UINT64_MAX, 0, COUNT, EIF_NO_SUCH_SECTION, 0, 0, "shown, the count");

@@ -4,13 +4,8 @@
  */
 #include "check.h"
 
-enum { IMAGE_LENGTH = 586, ROLL_LENGTH = 54 };
-
-static eif_stream_position at(uint64_t value) {
-    eif_stream_position position;
-    position.value = value;
-    return position;
-}
+/* The image and its roll, and the image's beginning that is a byte too short for a header. */
+enum { IMAGE_LENGTH = 586, ROLL_LENGTH = 54, CUT_LENGTH = EIF_HEADER_LENGTH - 1 };
 
 static const uint8_t expected_roll[ROLL_LENGTH] = {
     0x02, 0, 0, 0, 0, 0, 0, 0, 0x00, 1, 0x00, 0,
@@ -48,17 +43,9 @@ static void expect_image(uint8_t *image) {
     image[575] = 3; /* ramdisk */
 }
 
-static void put_place(eif_plan *plan, unsigned i, uint16_t type, uint64_t length) {
-    plan->places[i].type = type;
-    plan->places[i].length.value = length;
-}
-
 /* A kernel and a command line of one byte each, and an empty section of a type. */
 static eif_plan plan_with(uint16_t version, uint16_t type) {
-    eif_plan plan;
-    memset(&plan, 0, sizeof plan);
-    plan.version = version;
-    plan.count = 3;
+    eif_plan plan = begin_plan(version, 0, 3);
     put_place(&plan, 0, EIF_KERNEL, 1);
     put_place(&plan, 1, EIF_COMMAND_LINE, 1);
     put_place(&plan, 2, type, 0);
@@ -100,11 +87,11 @@ static void try_read(const uint8_t *image) {
         eif_section section = reading.sections[i];
         check(section.type == (i < 3 ? i + 1 : 0), "type of a section");
         check(section.flags == 0, "flags of a section");
-        check(section.position.value == (i < 3 ? offsets[i] + 12 : 0), "position of a section");
+        check(section.position.value == (i < 3 ? offsets[i] + EIF_SECTION_HEADER_LENGTH : 0), "position of a section");
         check(section.length.value == (i < 3 ? lengths[i] : 0), "length of a section");
     }
 
-    eif_reading cut = eif_read(image, 547);
+    eif_reading cut = eif_read(image, CUT_LENGTH);
     check(refused(cut, EIF_IMAGE_TOO_SHORT, 0, 0), "read, 547 bytes");
     check(cut.version == 0 && cut.count == 0, "fields beside a refusal");
     check(cut.ramdisk_mark == 0 && cut.ramdisk_count == 0, "ramdisks beside a refusal");
@@ -241,14 +228,14 @@ static void try_arriving(const uint8_t *image) {
 
 static void try_arriving_end(const uint8_t *image) {
     eif_arriving state = eif_arriving_begin();
-    eif_arriving_fed fed = eif_arriving_feed(state, image, 547, UINT64_MAX);
+    eif_arriving_fed fed = eif_arriving_feed(state, image, CUT_LENGTH, UINT64_MAX);
     eif_arriving_fed none = eif_arriving_feed(fed.state, image, IMAGE_LENGTH, 0);
     check(none.count == 0 && memcmp(&none.state, &fed.state, sizeof state) == 0, "allowance 0");
     eif_arriving_finished end = eif_arriving_finish(fed.state);
-    eif_reading whole = eif_read(image, 547);
+    eif_reading whole = eif_read(image, CUT_LENGTH);
     check(same_reading(&end.reading, &whole), "547 bytes arrived");
-    check(end.state.ended == 1 && end.state.taken == 547, "end told");
-    fed = eif_arriving_feed(end.state, image + 547, IMAGE_LENGTH - 547, UINT64_MAX);
+    check(end.state.ended == 1 && end.state.taken == CUT_LENGTH, "end told");
+    fed = eif_arriving_feed(end.state, image + CUT_LENGTH, IMAGE_LENGTH - CUT_LENGTH, UINT64_MAX);
     check(fed.count == 0 && memcmp(&fed.state, &end.state, sizeof state) == 0, "after the end");
     eif_arriving_finished again = eif_arriving_finish(fed.state);
     check(memcmp(&again, &end, sizeof end) == 0, "end told again");
@@ -309,10 +296,7 @@ static void try_file_order(void) {
     static const uint8_t data[4] = {'c', 'k', 'f', 's'};
     static const uint16_t types[4] = {EIF_COMMAND_LINE, EIF_KERNEL, EIF_RAMDISK, EIF_RAMDISK};
     uint8_t image[600], out[4];
-    eif_plan plan;
-    memset(&plan, 0, sizeof plan);
-    plan.version = 2;
-    plan.count = 4;
+    eif_plan plan = begin_plan(2, 0, 4);
     for (unsigned i = 0; i < 4; i++) {
         put_place(&plan, i, types[i], 1);
     }
@@ -331,7 +315,7 @@ static void try_roll(const uint8_t *image) {
     static const uint64_t positions[3] = {22, 33, 44};
     uint8_t out[62];
     check(is(eif_roll_length(image, IMAGE_LENGTH), EIF_ACCEPTED, ROLL_LENGTH), "roll's length");
-    check(is(eif_roll_length(image, 547), EIF_IMAGE_TOO_SHORT, 0), "roll's length, 547 bytes");
+    check(is(eif_roll_length(image, CUT_LENGTH), EIF_IMAGE_TOO_SHORT, 0), "roll's length, 547 bytes");
     memset(out, STAYS, sizeof out);
     check(is(eif_roll_write(image, IMAGE_LENGTH, out, 53), EIF_OUTPUT_TOO_SHORT, 0), "roll, 53");
     check(stays(out, 0, sizeof out), "output of a refused roll");
@@ -364,11 +348,7 @@ static void try_flags(void) {
     static const uint8_t data[1] = {'k'};
     static const uint8_t record[EIF_FLAGS_RECORD_LENGTH] = {2, 0, 0, 0, 0, 0, 0, 0, 0, 1, 0x03, 0x12};
     uint8_t image[573], roll[64];
-    eif_plan plan;
-    memset(&plan, 0, sizeof plan);
-    plan.version = 2;
-    plan.flags = 0x1203;
-    plan.count = 2;
+    eif_plan plan = begin_plan(2, 0x1203, 2);
     put_place(&plan, 0, EIF_KERNEL, 1);
     put_place(&plan, 1, EIF_COMMAND_LINE, 0);
     check(is(eif_write(plan, data, 1, image, sizeof image), EIF_ACCEPTED, 573), "image with flags");
@@ -397,7 +377,7 @@ static void try_registers(const uint8_t *image) {
     check(begins(answer.registers[1], UINT64_C(0x9e7c220976a9e4a0)), "register 1");
     check(begins(answer.registers[2], UINT64_C(0x21b9efbc18480766)), "register 2");
 
-    eif_registers_answer cut = eif_registers(image, 547);
+    eif_registers_answer cut = eif_registers(image, CUT_LENGTH);
     check(cut.number == EIF_IMAGE_TOO_SHORT && cut.index == 0, "registers, 547 bytes");
     for (unsigned i = 0; i < EIF_REGISTERS; i++) {
         check(memcmp(&cut.registers[i], &zeros, sizeof zeros) == 0, "registers beside a refusal");

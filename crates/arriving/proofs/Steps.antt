@@ -3,14 +3,13 @@
 use Prim.Native.Nat.{ℕ, suc, _+_, _*_, _-_, _<_, _≤_, min}
 use mathlib.Core.Path.{_≡_, refl, sym, ap, ap₂, _∙_}
 use mathlib.Core.List.{List}
-use mathlib.Core.Logic.{⊎-elim}
 use native.Mathlib.Omega.{arith}
 use native.Mathlib.Numerals.{add-one}
 use borrow.Author.Tests.{eq-eqb, ne-eqb}
 use lib.ListN.{length, take, drop, length-drop, length-take, drop-of-length-le}
-use lib.Seq.{take-nil, take-all, take-length, drop-length, take-take}
+use lib.Seq.{take-nil, take-all, take-take}
+use Rattle.octets.proofs.Lists.{take-min, drop-min}
 use Rattle.octets.specs.Over.{over}
-use Rattle.octets.proofs.Over.{le-or-lt}
 use Rattle.crc32.specs.Crc.{crcFrom}
 use Rattle.crc32.proofs.Linear.{crcFrom-append}
 use Rattle.eif.specs.Numbers.{placeCount}
@@ -18,21 +17,6 @@ use Rattle.eif.specs.Layout.{headerSize, sectionHeaderSize, checksumAt}
 use Rattle.arriving.specs.State.{keptFrom, checkedAfter, countLimit}
 use Rattle.arriving.specs.Calls.{fedWith, keptOver, headersOver, grown, fed}
 use Rattle.arriving.specs.declared.Arriving.{Arriving}
-
--- ---- parts, cut to what there is
-
-by-min : (f : ℕ → List ℕ) (m n : ℕ) → (n < m → f n ≡ f m) → f (min m n) ≡ f m
-by-min f m n past =
-    ⊎-elim
-    (λ (h : m ≤ n). let e : min m n ≡ m = omega arith in ap f e)
-    (λ (h : n < m). let e : min m n ≡ n = omega arith in ap f e ∙ past h)
-    (le-or-lt m n)
-
-pub take-min : (m : ℕ) (l : List ℕ) → take (min m (length l)) l ≡ take m l
-take-min m l = by-min (λ (n : ℕ). take n l) m (length l) (λ h. take-length l ∙ sym (take-all m l (omega arith)))
-
-pub drop-min : (m : ℕ) (l : List ℕ) → drop (min m (length l)) l ≡ drop m l
-drop-min m l = by-min (λ (n : ℕ). drop n l) m (length l) (λ h. drop-length l ∙ sym (drop-of-length-le l {i = m} (omega arith)))
 
 -- ---- the own header of one section
 

@@ -1,29 +1,19 @@
 // Runs cases of reading an image that arrives in pieces, one line each: how it was handed over, how many bytes were taken, and the answer.
 use arriving::Arriving;
 use case_images::Shape;
+use case_images::WORKED_SIZE;
+use case_lines::labelled;
+use case_lines::say;
+use case_lines::text;
+use eif::Header;
 use eif::Reading;
+use eif::SectionHeader;
 use eif::Verdict;
-
-// The length of the worked example.
-const LENGTH: usize = 586;
 
 // More than any piece here has.
 const ALL: u64 = 1000;
 
 // ---- answers
-
-fn text(bytes: &[u8]) {
-    io::write_all(libc::STDOUT_FILENO, bytes);
-}
-
-fn number(n: u64) {
-    io::print_decimal(libc::STDOUT_FILENO, n);
-}
-
-fn labelled(what: &[u8], n: u64) {
-    text(what);
-    number(n);
-}
 
 fn fields(reading: Reading) {
     labelled(b", version ", reading.version as u64);
@@ -34,11 +24,8 @@ fn fields(reading: Reading) {
 // The verdict, and the fields beside one that is no refusal.
 fn answer(reading: Reading) {
     let verdict = reading.verdict;
-    let said = case_lines::answer(verdict);
-    let bytes = said.bytes;
-    let length = said.length;
     text(b": ");
-    text(&bytes[..length]);
+    say(verdict);
     if let Verdict::Accepted = verdict {
         fields(reading);
     }
@@ -101,13 +88,23 @@ fn whole(image: &[u8], size: usize, allowance: u64) -> Arriving {
 
 // ---- cases
 
-const PLACES: [usize; 8] = [0, 1, 2, 11, 12, 547, 548, 549];
+// So many bytes: where an image is cut or ends, what a piece has, what a call may take.
+const COUNTS: [usize; 8] = [
+    0,
+    1,
+    2,
+    SectionHeader::SIZE - 1,
+    SectionHeader::SIZE,
+    Header::SIZE - 1,
+    Header::SIZE,
+    Header::SIZE + 1,
+];
 
 // In two pieces.
 fn cut(image: &[u8], at: usize) {
     labelled(b"cut at ", at as u64);
     let first = fed(arriving::begin(), part(image, 0, at), ALL);
-    ends(fed(first, part(image, at, LENGTH), ALL));
+    ends(fed(first, part(image, at, WORKED_SIZE), ALL));
 }
 
 // Of the image only so many bytes.
@@ -123,21 +120,21 @@ fn of_size(image: &[u8], size: usize) {
 
 fn of_allowance(image: &[u8], allowance: u64) {
     labelled(b"all that is left with allowance ", allowance);
-    ends(whole(image, LENGTH, allowance));
+    ends(whole(image, WORKED_SIZE, allowance));
 }
 
-fn at_place(image: &[u8], place: usize) {
-    cut(image, place);
-    short(image, place);
-    of_size(image, place);
-    of_allowance(image, place as u64);
+fn with_count(image: &[u8], count: usize) {
+    cut(image, count);
+    short(image, count);
+    of_size(image, count);
+    of_allowance(image, count as u64);
 }
 
-fn at_each_place(image: &[u8]) {
-    let places = PLACES;
+fn with_each_count(image: &[u8]) {
+    let counts = COUNTS;
     let mut i: usize = 0;
     while i < 8 {
-        at_place(image, places[i]);
+        with_count(image, counts[i]);
         i += 1;
     }
 }
@@ -148,15 +145,15 @@ fn nothing_taken(image: &[u8]) {
     let before = counted(arriving::begin(), part(image, 0, 0), ALL);
     let half = counted(before, part(image, 0, 300), ALL);
     let between = counted(half, part(image, 300, 0), ALL);
-    let rest = counted(between, part(image, 300, LENGTH), ALL);
-    ends(counted(rest, part(image, LENGTH, 0), ALL));
+    let rest = counted(between, part(image, 300, WORKED_SIZE), ALL);
+    ends(counted(rest, part(image, WORKED_SIZE, 0), ALL));
 }
 
 fn nothing_allowed(image: &[u8]) {
     text(b"allowance 0, 5 and 1000");
     let none = counted(arriving::begin(), image, 0);
     let five = counted(none, image, 5);
-    ends(counted(five, part(image, 5, LENGTH), ALL));
+    ends(counted(five, part(image, 5, WORKED_SIZE), ALL));
 }
 
 // The end is told three times, with a piece after the first, which is not taken.
@@ -205,7 +202,7 @@ const DAMAGES: [Damage; 12] = [
 ];
 
 fn damaged(image: &[u8], damage: Damage, size: usize) {
-    let mut other = [0u8; LENGTH];
+    let mut other = [0u8; WORKED_SIZE];
     octets::copy(&mut other, 0, part(image, 0, size));
     octets::put_be16(&mut other, damage.at, damage.value);
     labelled(b"damaged at ", damage.at as u64);
@@ -217,7 +214,7 @@ fn each_damage(image: &[u8]) {
     let damages = DAMAGES;
     let mut i: usize = 0;
     while i < 12 {
-        damaged(image, damages[i], LENGTH);
+        damaged(image, damages[i], WORKED_SIZE);
         i += 1;
     }
 }
@@ -233,14 +230,14 @@ fn one_more(image: &[u8]) {
 fn wrong_magic(image: &[u8]) {
     let damages = DAMAGES;
     damaged(image, damages[0], 4);
-    damaged(image, damages[0], 547);
-    damaged(image, damages[0], 548);
+    damaged(image, damages[0], Header::SIZE - 1);
+    damaged(image, damages[0], Header::SIZE);
 }
 
 fn main() {
-    let mut image = [0u8; LENGTH];
+    let mut image = [0u8; WORKED_SIZE];
     case_images::put_image(&mut image, Shape::WORKED, b"Ka");
-    at_each_place(&image);
+    with_each_count(&image);
     nothing_taken(&image);
     nothing_allowed(&image);
     after_the_end(&image);

@@ -8,6 +8,7 @@ use mathlib.Core.List.{List, [], _∷_, _++_, append-assoc, append-nil}
 use native.Mathlib.Omega.{arith}
 use lib.ListN.{length, take, drop, length-take, length-drop, take-append-drop}
 use lib.Seq.{take-take}
+use Rattle.octets.proofs.Lists.{take-min}
 use Rattle.octets.specs.Lists.{All}
 use Rattle.eif.specs.Numbers.{sizeLimit, imageTooLong}
 use Rattle.eif.specs.Answers.{numberOf}
@@ -17,7 +18,7 @@ use Rattle.arriving.specs.State.{countLimit, stateOf}
 use Rattle.arriving.specs.Calls.{fed, answerOf, toldEnd, finished, fedWith}
 use Rattle.arriving.specs.declared.Arriving.{Arriving}
 use Rattle.arriving.specs.declared.Fed.{Fed}
-use Rattle.arriving.proofs.Steps.{take-min, fed-open, fed-ended}
+use Rattle.arriving.proofs.Steps.{fed-open, fed-ended}
 use Rattle.arriving_laws.specs.Runs.{Call, feed, finish, afterCall, afterCalls, fresh, takenBy, takenIn, told, handed, stateAt, Turn, CanTake, Sending, unsent, turn, turns}
 use Rattle.arriving_laws.proofs.Growth.{taken-of, open-of, state-grows}
 use Rattle.arriving_laws.proofs.Answer.{image-too-long, answer-of}

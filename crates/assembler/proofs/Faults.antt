@@ -1,5 +1,5 @@
 -- The first rule that applies: by the record's kind, and from no fault back to every rule as a plain fact. Assumes nothing.
-use Prim.Native.Nat.{ℕ, suc, _+_, _%_, _<_, _≤_}
+use Prim.Native.Nat.{ℕ, suc, _%_, _<_, _≤_}
 use mathlib.Core.Path.{_≡_, refl, sym, ap, _∙_}
 use mathlib.Core.Bool.{Bool, true, false, not}
 use mathlib.Core.List.{List}
@@ -9,9 +9,8 @@ use lib.Dec.{ltb}
 use lib.ListN.{length, take}
 use Rattle.eif.specs.Numbers.{sizeLimit, pieceRecordWrong, pieceOutOfTurn, bufferTooShort, pieceDiffers, pieceMissing}
 use Rattle.octets.specs.Logic.{choose}
-use Rattle.eif.specs.Roll.{recordHeadSize}
 use Rattle.octets.proofs.Logic.{choose-zero, either-false}
-use Rattle.assembler.specs.Records.{pieceSize, numberSize, openKind, pieceKind, closeKind, kindIn, numberIn, dataIn, isOpen, formed, piecesOf, pieceSizeAt, offGrid}
+use Rattle.assembler.specs.Records.{dataAt, pieceSize, openKind, pieceKind, closeKind, kindIn, numberIn, dataIn, isOpen, formed, piecesOf, pieceSizeAt, offGrid}
 use Rattle.assembler.specs.Rules.{isOpened, outOfTurn, tooSmall, shorterThanAtOpen, shortFor, heldWithOther, allHeld, faultOf}
 use Rattle.assembler.specs.ByKind.{openFault, pieceFault, closeFault}
 use Rattle.assembler.specs.declared.State.{State}
@@ -88,16 +87,20 @@ pub record OpenTaken (st : State) (r x y : List ℕ) : Type 0 where
   pub image-room : numberIn r ≤ length x
   pub mark-room : piecesOf (numberIn r) ≤ length y
 
-pub record PieceTaken (st : State) (r x y : List ℕ) : Type 0 where
-  pub whole : recordHeadSize + numberSize ≤ length r
-  pub open-now : isOpened st ≡ true
-  pub inside : numberIn r < st .length
-  pub on-grid : numberIn r % pieceSize ≡ 0
-  pub sized : length (dataIn r) ≡ pieceSizeAt (st .length) (numberIn r)
+-- both buffers are long enough for what a state says
+pub record LongEnough (st : State) (x y : List ℕ) : Type 0 where
   pub image-room : st .length ≤ length x
   pub mark-room : piecesOf (st .length) ≤ length y
   pub image-kept : st .room ≤ length x
   pub marks-kept : st .places ≤ length y
+
+pub record PieceTaken (st : State) (r x y : List ℕ) : Type 0 where
+  pub whole : dataAt ≤ length r
+  pub open-now : isOpened st ≡ true
+  pub inside : numberIn r < st .length
+  pub on-grid : numberIn r % pieceSize ≡ 0
+  pub sized : length (dataIn r) ≡ pieceSizeAt (st .length) (numberIn r)
+  pub enough : LongEnough st x y
   pub agrees : heldWithOther r x y ≡ false
 
 pub record CloseTaken (st : State) (y : List ℕ) : Type 0 where
@@ -144,10 +147,7 @@ module _ (st : State) (r x y : List ℕ) (z : faultOf st r x y ≡ 0) where
         inside = g .0;
         on-grid = g .1;
         sized = g .2;
-        image-room = m .0;
-        mark-room = m .1;
-        image-kept = m .2;
-        marks-kept = m .3;
+        enough = record { image-room = m .0; mark-room = m .1; image-kept = m .2; marks-kept = m .3 };
         agrees = choose-zero (heldWithOther r x y) _ 0 (h .1) .0;
       }
 

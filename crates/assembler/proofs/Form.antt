@@ -1,5 +1,5 @@
 -- The form of a record: from plain facts to the test, and back. Assumes nothing.
-use Prim.Native.Nat.{ℕ, _+_, _-_, _<_, _≤_}
+use Prim.Native.Nat.{ℕ, _-_, _<_, _≤_}
 use mathlib.Core.Path.{_≡_, sym, ap, ap₂, _∙_}
 use mathlib.Core.Bool.{true, false}
 use mathlib.Core.List.{List}
@@ -9,7 +9,7 @@ use lib.Dec.{leb}
 use lib.ListN.{length}
 use Rattle.eif.specs.Roll.{recordHeadSize}
 use Rattle.octets.proofs.Logic.{both-true}
-use Rattle.assembler.specs.Records.{numberSize, openKind, pieceKind, closeKind, sizeIn, kindIn, sizeFits, formed}
+use Rattle.assembler.specs.Records.{dataAt, numberSize, openKind, pieceKind, closeKind, sizeIn, kindIn, sizeFits, formed}
 
 module _ (r : List ℕ) where
   pub formed-cut : length r < recordHeadSize → false ≡ formed r
@@ -39,7 +39,7 @@ module _ (r : List ℕ) where
         (leb-true _ _ (a .0), eqb-true _ _ (b .0), b .1)
 
     -- a piece has a start
-    pub formed-piece : kindIn r ≡ pieceKind → recordHeadSize + numberSize ≤ length r
+    pub formed-piece : kindIn r ≡ pieceKind → dataAt ≤ length r
     formed-piece k =
         let e : leb numberSize (sizeIn r) ≡ true = sym (ap (λ (n : ℕ). sizeFits n (sizeIn r)) k) ∙ form .2 in
         let g = leb-true numberSize (sizeIn r) e in

@@ -17,10 +17,10 @@ use Rattle.assembler.specs.declared.Stepped.{Stepped}
 
 module _ (st : State) (r x y : List ℕ) where
   -- the answer is w, the image buffer then e and the mark buffer f
-  abbrev pub Answers : Stepped → List ℕ → List ℕ → Type 0
-  Answers w e f = (w ≡ stepAnswer st r x y) × (e ≡ imageAfter st r x y) × (f ≡ marksAfter st r x y)
+  abbrev pub StepAnswers : Stepped → List ℕ → List ℕ → Type 0
+  StepAnswers w e f = (w ≡ stepAnswer st r x y) × (e ≡ imageAfter st r x y) × (f ≡ marksAfter st r x y)
 
-  pub step-refused : (n : ℕ) → n ≡ faultOf st r x y → (n ≡ 0 → ⊥) → Answers (stepped (refuse n 0) st 0) x y
+  pub step-refused : (n : ℕ) → n ≡ faultOf st r x y → (n ≡ 0 → ⊥) → StepAnswers (stepped (refuse n 0) st 0) x y
   unfolding stepAnswer imageAfter marksAfter
   step-refused n e h =
       let g : eqb (faultOf st r x y) 0 ≡ false = ne-eqb _ _ (λ z. h (e ∙ z)) in
@@ -28,14 +28,14 @@ module _ (st : State) (r x y : List ℕ) where
 
   module _ (z : faultOf st r x y ≡ 0) where
     pub step-opened : kindIn r ≡ openKind
-        → Answers (stepped Accepted (openState (numberIn r) (length x) (length y)) 0) x (over y 0 (replicate (piecesOf (numberIn r)) 0))
+        → StepAnswers (stepped Accepted (openState (numberIn r) (length x) (length y)) 0) x (over y 0 (replicate (piecesOf (numberIn r)) 0))
     unfolding stepAnswer imageAfter marksAfter
     step-opened k = (rw (z, k) refl, rw (z, k) refl, rw (z, k) refl)
 
-    pub step-taken : kindIn r ≡ pieceKind → Answers (stepped Accepted st 0) (pieceWritten r x y) (pieceMarked r y)
+    pub step-taken : kindIn r ≡ pieceKind → StepAnswers (stepped Accepted st 0) (pieceWritten r x y) (pieceMarked r y)
     unfolding stepAnswer imageAfter marksAfter
     step-taken k = (rw (z, k) refl, rw (z, k) refl, rw (z, k) refl)
 
-    pub step-closed : kindIn r ≡ closeKind → Answers (stepped Accepted freshState (st .length)) x y
+    pub step-closed : kindIn r ≡ closeKind → StepAnswers (stepped Accepted freshState (st .length)) x y
     unfolding stepAnswer imageAfter marksAfter
     step-closed k = (rw (z, k) refl, rw (z, k) refl, rw (z, k) refl)

@@ -40,9 +40,12 @@ kindIn r = leField 2 recordTypeAt r
 abbrev pub numberIn : List ℕ → ℕ
 numberIn r = leField numberSize recordHeadSize r
 
--- the data of a piece
+-- the data of a piece, and where it starts in the record
+abbrev pub dataAt : ℕ
+dataAt = recordHeadSize + numberSize
+
 abbrev pub dataIn : List ℕ → List ℕ
-dataIn r = drop (recordHeadSize + numberSize) r
+dataIn r = drop dataAt r
 
 abbrev pub isOpen : List ℕ → Bool
 isOpen r = eqb (kindIn r) openKind

@@ -7,28 +7,16 @@ use assembler::PIECE_SIZE;
 use assembler::PieceRecord;
 use assembler::PieceRecordKind;
 use assembler::State;
+use case_lines::labelled;
+use case_lines::number;
+use case_lines::say;
+use case_lines::text;
 use eif::RecordHead;
-use eif::Verdict;
 
 // The longest record.
 const LONGEST: usize = PieceRecord::DATA_AT + PIECE_SIZE as usize;
 
 // ---- lines
-
-fn text(bytes: &[u8]) {
-    io::write_all(libc::STDOUT_FILENO, bytes);
-}
-
-fn number(n: u64) {
-    io::print_decimal(libc::STDOUT_FILENO, n);
-}
-
-fn answer(verdict: Verdict) {
-    let said = case_lines::answer(verdict);
-    let bytes = said.bytes;
-    let length = said.length;
-    text(&bytes[..length]);
-}
 
 fn wide(b: u8) -> u64
     ensures { λ r. ⌜ r < 256 ⌝ }
@@ -39,8 +27,7 @@ fn wide(b: u8) -> u64
 fn list(bytes: &[u8]) {
     let mut i: usize = 0;
     while i < bytes.len() {
-        text(b" ");
-        number(wide(bytes[i]));
+        labelled(b" ", wide(bytes[i]));
         i += 1;
     }
 }
@@ -70,14 +57,12 @@ fn call(state: State, sent: &[u8], image: &mut [u8], marks: &mut [u8]) -> State 
     let stepped = assembler_step::step(state, sent, image, marks);
     let verdict = stepped.verdict;
     let next = stepped.state;
-    answer(verdict);
-    text(b", ");
-    number(stepped.length);
+    say(verdict);
+    labelled(b", ", stepped.length);
     state_text(next);
     text(b", marks");
     list(marks);
-    text(b", sum ");
-    number(sum(image));
+    labelled(b", sum ", sum(image));
     text(b"\n");
     next
 }
@@ -124,14 +109,10 @@ fn put_head(sent: &mut [u8], size: u64, kind: u16, number: u64) {
 }
 
 fn record_text(s: Sending) {
-    text(b"kind ");
-    number(s.0 as u64);
-    text(b" number ");
-    number(s.1);
-    text(b" bytes ");
-    number(s.2 as u64);
-    text(b" change ");
-    number(wide(s.3));
+    labelled(b"kind ", s.0 as u64);
+    labelled(b" number ", s.1);
+    labelled(b" bytes ", s.2 as u64);
+    labelled(b" change ", wide(s.3));
     text(b": ");
 }
 

@@ -1,45 +1,16 @@
--- The tests of the assembler, each from plain facts: two byte strings and a row of marks one place at a time, and a piece on
--- the grid. Assumes nothing.
-use Prim.Native.Nat.{ℕ, suc, _+_, _-_, _%_, _<_, _≤_, min}
+-- The tests of the assembler, each from plain facts: a row of marks one place at a time, and a piece on the grid. Assumes nothing.
+use Prim.Native.Nat.{ℕ, _+_, _-_, _%_, _<_, _≤_, min}
 use mathlib.Core.Path.{_≡_, refl, sym, ap, _∙_}
 use mathlib.Core.Bool.{Bool, true, false, not}
-use mathlib.Core.List.{List, [], _∷_}
+use mathlib.Core.List.{List}
 use native.Mathlib.Numerals.{add-one}
 use borrow.Author.Tests.{lt-leb, le-leb, eq-eqb, ne-eqb}
 use lib.Dec.{eqb}
 use lib.ListN.{length, drop, getD, drop-of-length-le}
 use lib.Seq.{drop-cons}
-use Rattle.octets.proofs.Logic.{both-none}
 use Rattle.octets.specs.Logic.{both}
 use Rattle.assembler.specs.Records.{pieceSize, offGrid}
-use Rattle.octets.specs.Same.{sameBytes}
 use Rattle.assembler.specs.Rules.{allHeld}
-
--- ---- two byte strings
-
-pub same-lengths : (a b : List ℕ) → (length a ≡ length b → ⊥) → false ≡ sameBytes a b
-unfolding sameBytes
-same-lengths [] [] h = absurd (h refl)
-same-lengths [] (y ∷ b) h = refl
-same-lengths (x ∷ a) [] h = refl
-same-lengths (x ∷ a) (y ∷ b) h =
-    sym (ap (both (eqb x y)) (sym (same-lengths a b (λ e. h (ap suc e)))) ∙ both-none (eqb x y))
-
-module _ (a b : List ℕ) (k : ℕ) where
-  module _ (ha : k < length a) (hb : k < length b) where
-    same-here : sameBytes (drop k a) (drop k b) ≡ both (eqb (getD a k 0) (getD b k 0)) (sameBytes (drop (k + 1) a) (drop (k + 1) b))
-    unfolding sameBytes
-    same-here = rw (add-one, drop-cons a k 0 ha, drop-cons b k 0 hb) refl
-
-    pub same-step : getD a k 0 ≡ getD b k 0 → sameBytes (drop (k + 1) a) (drop (k + 1) b) ≡ sameBytes (drop k a) (drop k b)
-    same-step e = sym (same-here ∙ ap (λ (t : Bool). both t (sameBytes (drop (k + 1) a) (drop (k + 1) b))) (eq-eqb _ _ e))
-
-    pub same-differs : (getD a k 0 ≡ getD b k 0 → ⊥) → false ≡ sameBytes (drop k a) (drop k b)
-    same-differs h = sym (same-here ∙ ap (λ (t : Bool). both t (sameBytes (drop (k + 1) a) (drop (k + 1) b))) (ne-eqb _ _ h))
-
-  pub same-end : length a ≤ k → length b ≤ k → true ≡ sameBytes (drop k a) (drop k b)
-  unfolding sameBytes
-  same-end ha hb = rw (drop-of-length-le a ha, drop-of-length-le b hb) refl
 
 -- ---- marks
 

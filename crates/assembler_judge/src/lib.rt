@@ -2,9 +2,7 @@
 ghost use mathlib.Core.Path.{_≡_};
 ghost use Prim.Native.Nat.{_+_, _<_, _≤_};
 ghost use lib.ListN.{length};
-ghost use Rattle.eif.specs.Roll.{recordHeadSize};
-ghost use Rattle.assembler.specs.Records.{numberSize, numberIn, dataIn, formed, piecesOf, offGrid, placeIn};
-ghost use Rattle.octets.specs.Same.{sameBytes};
+ghost use Rattle.assembler.specs.Records.{dataAt, numberIn, dataIn, formed, piecesOf, offGrid, placeIn};
 ghost use Rattle.assembler.specs.Rules.{allHeld, isHeld, heldWithOther, tooSmall, shortFor, faultOf};
 ghost use Rattle.assembler.specs.ByKind.{openFault, pieceFault, closeFault};
 use assembler::PIECE_SIZE;
@@ -109,23 +107,6 @@ fn all_held(marks: &[u8]) -> bool
     true
 }
 
-// Whether two byte strings are equal.
-fn is_same(a: &[u8], b: &[u8]) -> bool
-    ensures { λ r. ⌜ r ≡ sameBytes (now (a .entry)) (now (b .entry)) ⌝ }
-{
-    if a.len() != b.len() {
-        return false;
-    }
-    let mut k: usize = 0;
-    while k < a.len() {
-        if a[k] != b[k] {
-            return false;
-        }
-        k += 1;
-    }
-    true
-}
-
 // Whether a piece's mark is anything but 0.
 fn is_held(sent: &[u8], marks: &[u8]) -> bool
     requires { ⌜ placeIn (now sent) < length (now marks) ⌝ }
@@ -137,7 +118,7 @@ fn is_held(sent: &[u8], marks: &[u8]) -> bool
 
 // Whether a piece is held already with other bytes.
 fn is_held_with_other(sent: &[u8], image: &[u8], marks: &[u8]) -> bool
-    requires { ⌜ recordHeadSize + numberSize ≤ length (now sent) ⌝ }
+    requires { ⌜ dataAt ≤ length (now sent) ⌝ }
     requires { ⌜ numberIn (now sent) + length (dataIn (now sent)) ≤ length (now image) ⌝ }
     requires { ⌜ placeIn (now sent) < length (now marks) ⌝ }
     ensures { λ r. ⌜ r ≡ heldWithOther (now (sent .entry)) (now (image .entry)) (now (marks .entry)) ⌝ }
@@ -148,7 +129,7 @@ fn is_held_with_other(sent: &[u8], image: &[u8], marks: &[u8]) -> bool
     let from = octets::le64(sent, PieceRecord::NUMBER_AT) as usize;
     let bytes = &sent[PieceRecord::DATA_AT..];
     let standing = &image[from..from + bytes.len()];
-    !is_same(standing, bytes)
+    !check::same(standing, bytes)
 }
 
 // ---- the first rule that applies, by the record's kind, after its form and turn; 0: none
@@ -166,7 +147,7 @@ fn open_fault(length: u64, image: u64, marks: u64) -> u8
 }
 
 fn piece_fault(state: State, sent: &[u8], image: &[u8], marks: &[u8]) -> u8
-    requires { ⌜ recordHeadSize + numberSize ≤ length (now sent) ⌝ }
+    requires { ⌜ dataAt ≤ length (now sent) ⌝ }
     ensures { λ r. ⌜ r ≡ pieceFault state (now (sent .entry)) (now (image .entry)) (now (marks .entry)) ⌝ }
 {
     let start = octets::le64(sent, PieceRecord::NUMBER_AT);

@@ -11,7 +11,7 @@ use Rattle.assembler.specs.Records.{pieceSize, openKind, pieceKind, closeKind, 
 use Rattle.assembler.specs.Rules.{allHeld, heldWithOther, tooSmall, shorterThanAtOpen, shortFor, faultOf, isOpened}
 use Rattle.assembler.specs.ByKind.{openFault, pieceFault, closeFault}
 use Rattle.assembler.specs.declared.State.{State}
-use Rattle.assembler.proofs.Faults.{PieceTaken, pick-yes, pick-no, fault-open, fault-piece, fault-close}
+use Rattle.assembler.proofs.Faults.{pick-yes, pick-no, fault-open, fault-piece, fault-close, LongEnough}
 
 grid-fine : (n start count : ℕ) → start < n → start % pieceSize ≡ 0 → count ≡ pieceSizeAt n start → offGrid n start count ≡ false
 unfolding offGrid
@@ -25,21 +25,10 @@ kept-fine : (st : State) (image marks : ℕ) → st .room ≤ image → st .plac
 unfolding shorterThanAtOpen
 kept-fine st image marks a b = simp (le-ltb _ _ a, le-ltb _ _ b)
 
--- both buffers are long enough for what a state says
-pub record LongEnough (st : State) (x y : List ℕ) : Type 0 where
-  pub image-room : st .length ≤ length x
-  pub mark-room : piecesOf (st .length) ≤ length y
-  pub image-kept : st .room ≤ length x
-  pub marks-kept : st .places ≤ length y
-
 -- buffers of the same lengths are so too
 pub still-enough : {st : State} {x y a b : List ℕ} → length a ≡ length x → length b ≡ length y → LongEnough st x y → LongEnough st a b
 still-enough i j e =
     record { image-room = rw i (e .image-room); mark-room = rw j (e .mark-room); image-kept = rw i (e .image-kept); marks-kept = rw j (e .marks-kept) }
-
--- and those with which a piece was taken
-pub taken-enough : {st : State} {r x y : List ℕ} → PieceTaken st r x y → LongEnough st x y
-taken-enough t = record { image-room = t .image-room; mark-room = t .mark-room; image-kept = t .image-kept; marks-kept = t .marks-kept }
 
 not-short : (st : State) (x y : List ℕ) → LongEnough st x y → shortFor st (length x) (length y) ≡ false
 not-short st x y h =

@@ -27,26 +27,26 @@ use Rattle.assembler.specs.Step.{freshState, stepped, imageAfter, marksAfter}
 use Rattle.assembler.specs.declared.State.{State}
 use Rattle.assembler.specs.declared.Stepped.{Stepped}
 use Rattle.assembler.proofs.Piece.{place-in, piece-in, held-yes, piece-kept, piece-put}
-use Rattle.assembler.proofs.Faults.{PieceTaken, fault-not-open, accepted-form, accepted-piece}
-use Rattle.assembler.proofs.Steps.{Answers, step-refused, step-taken, step-closed}
-use Rattle.assembler_laws.specs.Run.{Memory, memory, answer, after, faultAt, run, Outside, OutsideTaken, OutsideAll, OtherMark}
+use Rattle.assembler.proofs.Faults.{PieceTaken, fault-not-open, accepted-form, accepted-piece, LongEnough}
+use Rattle.assembler.proofs.Steps.{StepAnswers, step-refused, step-taken, step-closed}
+use Rattle.assembler_laws.specs.Run.{Memory, memory, answerTo, memoryAfter, faultAt, run, Outside, OutsideTaken, OutsideAll, OtherMark}
 use Rattle.octets.proofs.Same.{equal-same}
 use Rattle.assembler_laws.proofs.Lists.{over-other, gap-found}
-use Rattle.assembler_laws.proofs.Accept.{LongEnough, piece-fine, close-lacks, still-enough, taken-enough}
+use Rattle.assembler_laws.proofs.Accept.{piece-fine, close-lacks, still-enough}
 
 same-memory : (s t : State) (a b c d : List ℕ) → s ≡ t → a ≡ b → c ≡ d → memory s a c ≡ memory t b d
 same-memory s t a b c d e f g =
     ap (λ (z : State). memory z a c) e ∙ ap (λ (l : List ℕ). memory t l c) f ∙ ap (λ (l : List ℕ). memory t b l) g
 
 -- what a call answers and leaves, as a memory
-pub called : (w : Memory) (r : List ℕ) (s : Stepped) (i k : List ℕ) → Answers (w .state) r (w .image) (w .marks) s i k
-    → after w r ≡ memory (s .state) i k
+pub called : (w : Memory) (r : List ℕ) (s : Stepped) (i k : List ℕ) → StepAnswers (w .state) r (w .image) (w .marks) s i k
+    → memoryAfter w r ≡ memory (s .state) i k
 called w r s i k h = same-memory _ _ _ _ _ _ (sym (ap (λ (a : Stepped). a .state) (h .0))) (sym (h .1)) (sym (h .2))
 
 -- ---- a refusal changes neither buffer nor state
 
 pub refused-keeps : (w : Memory) (r : List ℕ) → (faultAt w r ≡ 0 → ⊥)
-    → (answer w r ≡ stepped (refuse (faultAt w r) 0) (w .state) 0) × (after w r ≡ w)
+    → (answerTo w r ≡ stepped (refuse (faultAt w r) 0) (w .state) 0) × (memoryAfter w r ≡ w)
 refused-keeps w r h =
     let s = step-refused (w .state) r (w .image) (w .marks) (faultAt w r) refl h in
     (sym (s .0), called w r _ _ _ s)
@@ -55,17 +55,17 @@ refused-keeps w r h =
 refused-not : (n : ℕ) (v : Verdict) → v ≡ refuse n 0 → v ≡ Accepted → ⊥
 refused-not n v a b = never _ (sym a ∙ b)
 
-pub no-fault : (w : Memory) (r : List ℕ) → answer w r .verdict ≡ Accepted → faultAt w r ≡ 0
+pub no-fault : (w : Memory) (r : List ℕ) → answerTo w r .verdict ≡ Accepted → faultAt w r ≡ 0
 no-fault w r e =
     ⊎-elim (λ z. z)
-    (λ h. absurd (refused-not (faultAt w r) (answer w r .verdict) (ap (λ (a : Stepped). a .verdict) (refused-keeps w r h .0)) e))
+    (λ h. absurd (refused-not (faultAt w r) (answerTo w r .verdict) (ap (λ (a : Stepped). a .verdict) (refused-keeps w r h .0)) e))
     (zero-or (faultAt w r))
 
 -- ---- a repeat
 
 module _ (w : Memory) (r : List ℕ) (z : faultAt w r ≡ 0) (k : kindIn r ≡ pieceKind) where
   -- a piece that is held and taken again changes nothing
-  pub repeat-keeps : isHeld r (w .marks) ≡ true → (answer w r ≡ stepped Accepted (w .state) 0) × (after w r ≡ w)
+  pub repeat-keeps : isHeld r (w .marks) ≡ true → (answerTo w r ≡ stepped Accepted (w .state) 0) × (memoryAfter w r ≡ w)
   repeat-keeps h =
       let p = piece-kept r (w .marks) (w .image) h in
       let s = step-taken (w .state) r (w .image) (w .marks) z k in
@@ -75,22 +75,22 @@ module _ (w : Memory) (r : List ℕ) (z : faultAt w r ≡ 0) (k : kindIn r ≡ p
   taken = accepted-piece (w .state) r (w .image) (w .marks) z k
 
   -- the piece in its place
-  abbrev pub put : Memory
-  put = memory (w .state) (over (w .image) (numberIn r) (dataIn r)) (set (w .marks) (placeIn r) 1)
+  abbrev pub piecePut : Memory
+  piecePut = memory (w .state) (over (w .image) (numberIn r) (dataIn r)) (set (w .marks) (placeIn r) 1)
 
-  pub put-left : isHeld r (w .marks) ≡ false → after w r ≡ put
+  pub put-left : isHeld r (w .marks) ≡ false → memoryAfter w r ≡ piecePut
   put-left h =
       let p = piece-put r (w .marks) (w .image) h in
       let s = step-taken (w .state) r (w .image) (w .marks) z k in
-      called w r (stepped Accepted (w .state) 0) (put .image) (put .marks) (s .0, p .0 ∙ s .1, p .1 ∙ s .2)
+      called w r (stepped Accepted (w .state) 0) (piecePut .image) (piecePut .marks) (s .0, p .0 ∙ s .1, p .1 ∙ s .2)
 
   fits : numberIn r + length (dataIn r) ≤ length (w .image)
   fits =
       let a = piece-in (w .state .length) (numberIn r) (length (dataIn r)) (taken .inside) (taken .sized) in
-      let b = taken .image-room in
+      let b = taken .enough .image-room in
       omega arith
 
-  pub put-stands : standing r (put .image) ≡ dataIn r
+  pub put-stands : standing r (piecePut .image) ≡ dataIn r
   put-stands =
       let b = dataIn r in
       let e = over-parts (w .image) (numberIn r) b fits in
@@ -99,42 +99,42 @@ module _ (w : Memory) (r : List ℕ) (z : faultAt w r ≡ 0) (k : kindIn r ≡ p
       ∙ ap (take (length b)) (drop-at (take (numberIn r) (w .image)) (b ++ drop (numberIn r + length b) (w .image)) (numberIn r) n)
       ∙ take-at b (drop (numberIn r + length b) (w .image)) (length b) refl
 
-  put-fine : faultAt put r ≡ 0
+  put-fine : faultAt piecePut r ≡ 0
   put-fine =
       let t = taken in
-      piece-fine (w .state) r (put .image) (put .marks) (accepted-form (w .state) r (w .image) (w .marks) z) (t .open-now)
-      (still-enough (length-over (w .image) (numberIn r) (dataIn r)) (length-set (w .marks) (placeIn r) 1) (taken-enough t))
+      piece-fine (w .state) r (piecePut .image) (piecePut .marks) (accepted-form (w .state) r (w .image) (w .marks) z) (t .open-now)
+      (still-enough (length-over (w .image) (numberIn r) (dataIn r)) (length-set (w .marks) (placeIn r) 1) (t .enough))
       k (t .inside) (t .on-grid) (t .sized)
-      (ap (λ (t : Bool). both (isHeld r (put .marks)) (not t)) (equal-same (standing r (put .image)) (dataIn r) put-stands) ∙ both-none (isHeld r (put .marks)))
+      (ap (λ (t : Bool). both (isHeld r (piecePut .marks)) (not t)) (equal-same (standing r (piecePut .image)) (dataIn r) put-stands) ∙ both-none (isHeld r (piecePut .marks)))
 
-  pub put-held : isHeld r (put .marks) ≡ true
+  pub put-held : isHeld r (piecePut .marks) ≡ true
   put-held =
-      let n = lt-of-lt-of-le (place-in (w .state .length) (numberIn r) (taken .inside)) (taken .mark-room) in
+      let n = lt-of-lt-of-le (place-in (w .state .length) (numberIn r) (taken .inside)) (taken .enough .mark-room) in
       let s = getD-set-same (w .marks) (placeIn r) 1 0 n in
-      held-yes r (put .marks) (numberIn r) refl (λ e. omega arith)
+      held-yes r (piecePut .marks) (numberIn r) refl (λ e. omega arith)
 
 -- the same piece straight after it was taken is taken, and changes nothing
 pub again-keeps : (w : Memory) (r : List ℕ) → faultAt w r ≡ 0 → kindIn r ≡ pieceKind
-    → (faultAt (after w r) r ≡ 0) × (after (after w r) r ≡ after w r)
+    → (faultAt (memoryAfter w r) r ≡ 0) × (memoryAfter (memoryAfter w r) r ≡ memoryAfter w r)
 again-keeps w r z k = ⊎-elim from-held from-free (true-or-false (isHeld r (w .marks)))
   where
-    from-held : isHeld r (w .marks) ≡ true → (faultAt (after w r) r ≡ 0) × (after (after w r) r ≡ after w r)
+    from-held : isHeld r (w .marks) ≡ true → (faultAt (memoryAfter w r) r ≡ 0) × (memoryAfter (memoryAfter w r) r ≡ memoryAfter w r)
     from-held h =
         let e = repeat-keeps w r z k h .1 in
-        (ap (λ (v : Memory). faultAt v r) e ∙ z, ap (λ (v : Memory). after v r) e)
+        (ap (λ (v : Memory). faultAt v r) e ∙ z, ap (λ (v : Memory). memoryAfter v r) e)
 
-    from-free : isHeld r (w .marks) ≡ false → (faultAt (after w r) r ≡ 0) × (after (after w r) r ≡ after w r)
+    from-free : isHeld r (w .marks) ≡ false → (faultAt (memoryAfter w r) r ≡ 0) × (memoryAfter (memoryAfter w r) r ≡ memoryAfter w r)
     from-free h =
         let e = put-left w r z k h in
-        let f = repeat-keeps (put w r z k) r (put-fine w r z k) k (put-held w r z k) .1 in
-        (ap (λ (v : Memory). faultAt v r) e ∙ put-fine w r z k, ap (λ (v : Memory). after v r) e ∙ f ∙ sym e)
+        let f = repeat-keeps (piecePut w r z k) r (put-fine w r z k) k (put-held w r z k) .1 in
+        (ap (λ (v : Memory). faultAt v r) e ∙ put-fine w r z k, ap (λ (v : Memory). memoryAfter v r) e ∙ f ∙ sym e)
 
 -- ---- a close
 
 -- with a piece missing it is 26
 pub missing-refused : (w : Memory) (r : List ℕ) → formed r ≡ true → kindIn r ≡ closeKind → isOpened (w .state) ≡ true
     → LongEnough (w .state) (w .image) (w .marks) → (k : ℕ) → k < piecesOf (w .state .length) → getD (w .marks) k 0 ≡ 0
-    → (answer w r ≡ stepped (refuse pieceMissing 0) (w .state) 0) × (after w r ≡ w)
+    → (answerTo w r ≡ stepped (refuse pieceMissing 0) (w .state) 0) × (memoryAfter w r ≡ w)
 missing-refused w r f c o m k h e =
     let n = close-lacks (w .state) r (w .image) (w .marks) f o m c (gap-found (w .marks) (piecesOf (w .state .length)) k h (lt-of-lt-of-le h (m .mark-room)) e) in
     let s = refused-keeps w r (λ z. omega arith) in
@@ -142,7 +142,7 @@ missing-refused w r f c o m k h e =
 
 -- taken, it reports the image length, leaves both buffers, and the state is fresh
 pub close-ends : (w : Memory) (r : List ℕ) → faultAt w r ≡ 0 → kindIn r ≡ closeKind
-    → (answer w r ≡ stepped Accepted freshState (w .state .length)) × (after w r ≡ memory freshState (w .image) (w .marks))
+    → (answerTo w r ≡ stepped Accepted freshState (w .state .length)) × (memoryAfter w r ≡ memory freshState (w .image) (w .marks))
 close-ends w r z c =
     let s = step-closed (w .state) r (w .image) (w .marks) z c in
     (sym (s .0), called w r _ _ _ s)
@@ -162,7 +162,7 @@ module _ (w : Memory) (r : List ℕ) (closed : isOpened (w .state) ≡ false) wh
 
 module _ (w : Memory) (r : List ℕ) where
   -- outside a record's piece no byte of the image buffer changes
-  image-outside : (i : ℕ) → Outside i r → getD (after w r .image) i 0 ≡ getD (w .image) i 0
+  image-outside : (i : ℕ) → Outside i r → getD (memoryAfter w r .image) i 0 ≡ getD (w .image) i 0
   unfolding imageAfter
   image-outside i h = go (eqb (faultAt w r) 0) (eqb (kindIn r) pieceKind) (isHeld r (w .marks))
     where
@@ -172,15 +172,15 @@ module _ (w : Memory) (r : List ℕ) where
       go true false c = refl
       go false b c = refl
 
-  no-piece : faultAt w r ≡ 0 → (kindIn r ≡ pieceKind → ⊥) → after w r .image ≡ w .image
+  no-piece : faultAt w r ≡ 0 → (kindIn r ≡ pieceKind → ⊥) → memoryAfter w r .image ≡ w .image
   unfolding imageAfter
   no-piece z h = rw (z, ne-eqb _ _ h) refl
 
-  taken-accepts : faultAt w r ≡ 0 → kindIn r ≡ pieceKind → answer w r .verdict ≡ Accepted
+  taken-accepts : faultAt w r ≡ 0 → kindIn r ≡ pieceKind → answerTo w r .verdict ≡ Accepted
   taken-accepts z k = sym (ap (λ (a : Stepped). a .verdict) (step-taken (w .state) r (w .image) (w .marks) z k .0))
 
   -- and none but those of a piece that is taken
-  pub image-elsewhere : (i : ℕ) → OutsideTaken i w r → getD (after w r .image) i 0 ≡ getD (w .image) i 0
+  pub image-elsewhere : (i : ℕ) → OutsideTaken i w r → getD (memoryAfter w r .image) i 0 ≡ getD (w .image) i 0
   image-elsewhere i h =
       ⊎-elim
       (λ z.
@@ -189,7 +189,7 @@ module _ (w : Memory) (r : List ℕ) where
       (zero-or (faultAt w r))
 
   pub marks-elsewhere : (k : ℕ) → (kindIn r ≡ openKind → piecesOf (numberIn r) ≤ k) → (kindIn r ≡ pieceKind → k ≡ placeIn r → ⊥)
-      → getD (after w r .marks) k 0 ≡ getD (w .marks) k 0
+      → getD (memoryAfter w r .marks) k 0 ≡ getD (w .marks) k 0
   unfolding marksAfter
   marks-elsewhere k f g = go (eqb (faultAt w r) 0) (eqb (kindIn r) openKind) (eqb (kindIn r) pieceKind) (isHeld r (w .marks)) (λ e. f (eqb-true _ _ e)) (λ e. g (eqb-true _ _ e))
     where
@@ -205,7 +205,7 @@ module _ (w : Memory) (r : List ℕ) where
       go true false false d p q = refl
       go false b c d p q = refl
 
-  pub lengths-kept : (length (after w r .image) ≡ length (w .image)) × (length (after w r .marks) ≡ length (w .marks))
+  pub lengths-kept : (length (memoryAfter w r .image) ≡ length (w .image)) × (length (memoryAfter w r .marks) ≡ length (w .marks))
   unfolding imageAfter marksAfter
   lengths-kept = (
     image (eqb (faultAt w r) 0) (eqb (kindIn r) pieceKind) (isHeld r (w .marks)),
@@ -231,10 +231,10 @@ module _ (w : Memory) (r : List ℕ) where
 pub run-elsewhere : (rs : List (List ℕ)) (w : Memory) (i : ℕ) → OutsideAll i w rs → getD (run w rs .image) i 0 ≡ getD (w .image) i 0
 unfolding run OutsideAll
 run-elsewhere [] w i h = refl
-run-elsewhere (r ∷ rs) w i h = run-elsewhere rs (after w r) i (h .1) ∙ image-elsewhere w r i (h .0)
+run-elsewhere (r ∷ rs) w i h = run-elsewhere rs (memoryAfter w r) i (h .1) ∙ image-elsewhere w r i (h .0)
 
 -- nor a mark but those of the pieces that are opened or brought
 pub run-marks-elsewhere : (rs : List (List ℕ)) (w : Memory) (k : ℕ) → All (OtherMark k) rs → getD (run w rs .marks) k 0 ≡ getD (w .marks) k 0
 unfolding run All
 run-marks-elsewhere [] w k h = refl
-run-marks-elsewhere (r ∷ rs) w k h = run-marks-elsewhere rs (after w r) k (h .1) ∙ marks-elsewhere w r k (h .0 .0) (h .0 .1)
+run-marks-elsewhere (r ∷ rs) w k h = run-marks-elsewhere rs (memoryAfter w r) k (h .1) ∙ marks-elsewhere w r k (h .0 .0) (h .0 .1)

@@ -54,20 +54,20 @@ sent-in (p ∷ ps) r h = ⊎-elim (λ e. inl (ap placeIn e)) (λ m. inr (sent-in
 -- ---- the image
 
 module _ (n : ℕ) (ps : List (List ℕ)) (all : CompleteSet n ps) where
-  abbrev byteAt : ℕ → ℕ
-  byteAt i = getD (bytesFor ps (i / pieceSize)) (i % pieceSize) 0
+  abbrev contentByte : ℕ → ℕ
+  contentByte i = getD (bytesFor ps (i / pieceSize)) (i % pieceSize) 0
 
   -- byte by byte
   content : List ℕ
-  content = filled byteAt 0 n n
+  content = filled contentByte 0 n n
 
   content-length : length content ≡ n
   unfolding content
-  content-length = length-filled byteAt 0 n n
+  content-length = length-filled contentByte 0 n n
 
-  content-at : (i : ℕ) → i < n → getD content i 0 ≡ byteAt i
+  content-at : (i : ℕ) → i < n → getD content i 0 ≡ contentByte i
   unfolding content
-  content-at i h = filled-at byteAt 0 0 n n i h (omega arith)
+  content-at i h = filled-at contentByte 0 0 n n i h (omega arith)
 
   module _ (r : List ℕ) (m : In ps r) where
     fit : PieceFor n r

@@ -8,3 +8,4 @@ pub mod Between
 pub mod Repeats
 pub mod Missing
 pub mod Long
+pub mod Refused

@@ -1,6 +1,6 @@
 -- A record that is longer than any piece is refused by its kind and the turn alone, so a shorter one of that kind that is too long as well
 -- stands for it: what the program eif_assemble hands over. Assumes nothing.
-use Prim.Native.Nat.{ℕ, _+_, _%_, _<_}
+use Prim.Native.Nat.{ℕ, _%_, _<_}
 use mathlib.Core.Path.{_≡_, refl, sym, ap, _∙_}
 use mathlib.Core.Bool.{Bool, true, false, not}
 use mathlib.Core.List.{List}
@@ -11,9 +11,8 @@ use lib.Dec.{leb, eqb}
 use lib.ListN.{length, length-drop}
 use Rattle.eif.specs.Numbers.{pieceRecordWrong, pieceOutOfTurn}
 use Rattle.octets.specs.Logic.{both, either, choose}
-use Rattle.eif.specs.Roll.{recordHeadSize}
 use Rattle.octets.proofs.Logic.{equal-or-not}
-use Rattle.assembler.specs.Records.{pieceSize, numberSize, openKind, pieceKind, closeKind, sizeIn, kindIn, numberIn, dataIn, sizeFits, formed, pieceSizeAt, offGrid}
+use Rattle.assembler.specs.Records.{dataAt, pieceSize, numberSize, openKind, pieceKind, closeKind, sizeIn, kindIn, numberIn, dataIn, sizeFits, formed, pieceSizeAt, offGrid}
 use Rattle.assembler.specs.Rules.{isOpened, faultOf}
 use Rattle.assembler.specs.ByKind.{pieceFault}
 use Rattle.assembler.specs.declared.State.{State}
@@ -64,7 +63,7 @@ module _ (st : State) (r x y : List ℕ) (long : LongRecord r) where
     by-turn false o = sym (fault-not-open st r x y ok (λ e. omega arith) o)
     by-turn true o =
         let l = long .longer in
-        let d = length-drop (recordHeadSize + numberSize) r in
+        let d = length-drop dataAt r in
         sym (pick-yes _ _ _ (long-off-grid (st .length) (numberIn r) (length (dataIn r)) (omega arith)) ∙ fault-piece st r x y ok k o)
 
     is-piece : faultOf st r x y ≡ longFault st (kindIn r)

@@ -7,8 +7,9 @@ use mathlib.Core.List.{List, [], _∷_, _++_}
 use mathlib.Core.Logic.{_⊎_, inl, inr, ⊎-elim}
 use native.Mathlib.Omega.{arith}
 use native.Mathlib.Nat.{zero-add}
-use lib.ListN.{length, take, drop, getD, set, replicate, length-take, length-drop, length-set, length-replicate, getD-replicate}
+use lib.ListN.{length, take, drop, getD, replicate, length-take, length-drop, length-set, length-replicate, getD-replicate}
 use lib.Seq.{getD-take, getD-drop, getD-set-same, getD-set-other, ext-getD, take-at}
+use Rattle.assembler.proofs.Faults.{LongEnough}
 use Rattle.octets.specs.Lists.{All}
 use Rattle.octets.specs.Over.{over}
 use Rattle.octets.proofs.Over.{length-over, le-or-lt}
@@ -21,13 +22,13 @@ use Rattle.assembler.specs.Rules.{allHeld, isHeld, standing, heldWithOther, fau
 use Rattle.assembler.specs.Step.{openState, freshState, stepped}
 use Rattle.assembler.specs.declared.State.{State}
 use Rattle.assembler.specs.declared.Stepped.{Stepped}
-use Rattle.assembler.proofs.Piece.{place-in, piece-in, held-yes, held-no, not-held, piece-kept, piece-put}
+use Rattle.assembler.proofs.Piece.{place-in, piece-in, held-yes, held-no, not-held}
 use Rattle.assembler.proofs.Steps.{step-opened, step-taken, step-closed}
-use Rattle.assembler_laws.specs.Run.{Memory, memory, answer, after, run, AllAccepted, OpenFor, PieceOf, Close, Sent, Pieces, Transfer, Assembled}
+use Rattle.assembler_laws.specs.Run.{Memory, memory, answerTo, memoryAfter, run, AllAccepted, OpenFor, PieceOf, Close, Sent, Pieces, Transfer, Assembled}
 use Rattle.octets.proofs.Same.{equal-same}
 use Rattle.assembler_laws.proofs.Lists.{over-other, over-in, starts-with, all-held}
-use Rattle.assembler_laws.proofs.Accept.{LongEnough, open-fine, piece-fine, close-fine}
-use Rattle.assembler_laws.proofs.Calls.{called}
+use Rattle.assembler_laws.proofs.Accept.{open-fine, piece-fine, close-fine}
+use Rattle.assembler_laws.proofs.Calls.{called, repeat-keeps, piecePut, put-left}
 
 -- ---- while a transfer of m is open, over buffers that first held x and y
 
@@ -42,22 +43,22 @@ pub record InProgress (m x y : List ℕ) (w : Memory) : Type 0 where
   pub marks-rest : (k : ℕ) → piecesOf (length m) ≤ k → getD (w .marks) k 0 ≡ getD y k 0
 
 -- v comes after w by a piece of a place: the transfer is still open, that piece is held, and so is each that was held
-pub record Next (m x y : List ℕ) (w : Memory) (place : ℕ) (v : Memory) : Type 0 where
+pub record PieceAdded (m x y : List ℕ) (w : Memory) (place : ℕ) (v : Memory) : Type 0 where
   pub open-still : InProgress m x y v
   pub here : getD (v .marks) place 0 ≡ 1
   pub still : (k : ℕ) → getD (w .marks) k 0 ≡ 1 → getD (v .marks) k 0 ≡ 1
 
 -- ---- calls in turn
 
-run-append : (rs : List (List ℕ)) (w : Memory) (ss : List (List ℕ)) → run w (rs ++ ss) ≡ run (run w rs) ss
+pub run-append : (rs : List (List ℕ)) (w : Memory) (ss : List (List ℕ)) → run w (rs ++ ss) ≡ run (run w rs) ss
 unfolding run
 run-append [] w ss = refl
-run-append (r ∷ rs) w ss = run-append rs (after w r) ss
+run-append (r ∷ rs) w ss = run-append rs (memoryAfter w r) ss
 
 accepted-append : (rs : List (List ℕ)) (w : Memory) (ss : List (List ℕ)) → AllAccepted w rs → AllAccepted (run w rs) ss → AllAccepted w (rs ++ ss)
 unfolding AllAccepted run
 accepted-append [] w ss a b = b
-accepted-append (r ∷ rs) w ss a b = (a .0, accepted-append rs (after w r) ss (a .1) b)
+accepted-append (r ∷ rs) w ss a b = (a .0, accepted-append rs (memoryAfter w r) ss (a .1) b)
 
 module _ (m x y : List ℕ) (image-room : length m ≤ length x) (mark-room : piecesOf (length m) ≤ length y) where
   -- ---- one piece
@@ -114,7 +115,7 @@ module _ (m x y : List ℕ) (image-room : length m ≤ length x) (mark-room : pi
             piece-fine (w .state) r (w .image) (w .marks) (p .form) open-now long-enough (p .kind) (omega arith) (p .on-grid)
             (count-is ∙ ap (λ (n : ℕ). pieceSizeAt n (numberIn r)) (sym s)) no-other
 
-        accepts : answer w r .verdict ≡ Accepted
+        accepts : answerTo w r .verdict ≡ Accepted
         accepts = sym (ap (λ (a : Stepped). a .verdict) (step-taken (w .state) r (w .image) (w .marks) taken (p .kind) .0))
 
       -- held already
@@ -141,14 +142,11 @@ module _ (m x y : List ℕ) (image-room : length m ≤ length x) (mark-room : pi
             ap (λ (t : Bool). both (isHeld r (w .marks)) (not t)) (equal-same (standing r (w .image)) (dataIn r) stands)
             ∙ both-none (isHeld r (w .marks))
 
-        stays : after w r ≡ w
-        stays =
-            let k = piece-kept r (w .marks) (w .image) held-now in
-            let s = step-taken (w .state) r (w .image) (w .marks) (taken agrees) (p .kind) in
-            called w r (stepped Accepted (w .state) 0) (w .image) (w .marks) (s .0, k .0 ∙ s .1, k .1 ∙ s .2)
+        stays : memoryAfter w r ≡ w
+        stays = repeat-keeps w r (taken agrees) (p .kind) held-now .1
 
-        next-held : Next m x y w (placeIn r) (after w r)
-        next-held = subst (Next m x y w (placeIn r)) (sym stays) (record { open-still = g; here = e; still = λ k h. h })
+        next-held : PieceAdded m x y w (placeIn r) (memoryAfter w r)
+        next-held = subst (PieceAdded m x y w (placeIn r)) (sym stays) (record { open-still = g; here = e; still = λ k h. h })
 
       -- not held yet
       module _ (e : getD (w .marks) (placeIn r) 0 ≡ 0) where
@@ -159,13 +157,10 @@ module _ (m x y : List ℕ) (image-room : length m ≤ length x) (mark-room : pi
         passes = sym (not-held r (w .marks) (w .image) free)
 
         abbrev put : Memory
-        put = memory (w .state) (over (w .image) (numberIn r) (dataIn r)) (set (w .marks) (placeIn r) 1)
+        put = piecePut w r (taken passes) (p .kind)
 
-        writes : after w r ≡ put
-        writes =
-            let k = piece-put r (w .marks) (w .image) free in
-            let s = step-taken (w .state) r (w .image) (w .marks) (taken passes) (p .kind) in
-            called w r (stepped Accepted (w .state) 0) (put .image) (put .marks) (s .0, k .0 ∙ s .1, k .1 ∙ s .2)
+        writes : memoryAfter w r ≡ put
+        writes = put-left w r (taken passes) (p .kind) free
 
         set-here : getD (put .marks) (placeIn r) 0 ≡ 1
         set-here =
@@ -196,7 +191,7 @@ module _ (m x y : List ℕ) (image-room : length m ≤ length x) (mark-room : pi
             ∙ over-in (w .image) (numberIn r) (dataIn r) (i - numberIn r) (omega arith) (omega arith)
             ∙ byte-is (i - numberIn r) (omega arith) ∙ ap (λ (k : ℕ). getD m k 0) j
 
-        next-put : Next m x y w (placeIn r) put
+        next-put : PieceAdded m x y w (placeIn r) put
         next-put =
             record {
               open-still =
@@ -228,11 +223,11 @@ module _ (m x y : List ℕ) (image-room : length m ≤ length x) (mark-room : pi
             still-put k q =
                 ⊎-elim (λ z. ap (λ (n : ℕ). getD (put .marks) n 0) z ∙ set-here) (λ z. set-other k z ∙ q) (equal-or-not k (placeIn r))
 
-        next-free : Next m x y w (placeIn r) (after w r)
-        next-free = subst (Next m x y w (placeIn r)) (sym writes) next-put
+        next-free : PieceAdded m x y w (placeIn r) (memoryAfter w r)
+        next-free = subst (PieceAdded m x y w (placeIn r)) (sym writes) next-put
 
       -- either way
-      pub one-piece : (answer w r .verdict ≡ Accepted) × Next m x y w (placeIn r) (after w r)
+      pub one-piece : (answerTo w r .verdict ≡ Accepted) × PieceAdded m x y w (placeIn r) (memoryAfter w r)
       one-piece =
           ⊎-elim
           (λ e. (accepts (passes e), next-free e))
@@ -252,13 +247,13 @@ module _ (m x y : List ℕ) (image-room : length m ≤ length x) (mark-room : pi
   through [] w g a = record { accepted = tt; open-still = g; held-all = λ k s. absurd s; still = λ k h. h }
   through (r ∷ rs) w g a =
       let o = one-piece w g r (a .0) in
-      let t = through rs (after w r) (o .1 .open-still) (a .1) in
+      let t = through rs (memoryAfter w r) (o .1 .open-still) (a .1) in
       record {
         accepted = (o .0, t .accepted);
         open-still = t .open-still;
         held-all =
             λ k s.
-            ⊎-elim (λ e. t .still k (sym (ap (λ (n : ℕ). getD (after w r .marks) n 0) e) ∙ o .1 .here)) (λ e. t .held-all k e) s;
+            ⊎-elim (λ e. t .still k (sym (ap (λ (n : ℕ). getD (memoryAfter w r .marks) n 0) e) ∙ o .1 .here)) (λ e. t .held-all k e) s;
         still = λ k h. t .still k (o .1 .still k h);
       }
 
@@ -281,11 +276,11 @@ module _ (m x y : List ℕ) (image-room : length m ≤ length x) (mark-room : pi
         (λ k h. g .marks-rest k (omega arith))
         ∙ ap (λ (j : ℕ). ones ++ drop j y) n
 
-    pub close-answer : answer full c ≡ stepped Accepted freshState (length m)
+    pub close-answer : answerTo full c ≡ stepped Accepted freshState (length m)
     close-answer =
         sym (step-closed (full .state) c (full .image) (full .marks) taken kind .0) ∙ ap (λ (n : ℕ). stepped Accepted freshState n) (size-is full g)
 
-    pub close-leaves : after full c ≡ memory freshState (m ++ drop (length m) x) (replicate (piecesOf (length m)) 1 ++ drop (piecesOf (length m)) y)
+    pub close-leaves : memoryAfter full c ≡ memory freshState (m ++ drop (length m) x) (replicate (piecesOf (length m)) 1 ++ drop (piecesOf (length m)) y)
     close-leaves =
         called full c _ _ _ (step-closed (full .state) c (full .image) (full .marks) taken kind)
         ∙ ap (λ (l : List ℕ). memory freshState l (full .marks)) image-is
@@ -302,13 +297,13 @@ module _ (m x y : List ℕ) (image-room : length m ≤ length x) (mark-room : pi
         let n = opens .announced in
         open-fine st o x y (opens .form) (opens .kind) closed (rw n small) (rw n image-room) (rw n mark-room)
 
-    open-accepts : answer begun o .verdict ≡ Accepted
+    open-accepts : answerTo begun o .verdict ≡ Accepted
     open-accepts = sym (ap (λ (a : Stepped). a .verdict) (step-opened st o x y open-taken (opens .kind) .0))
 
     abbrev cleared : List ℕ
     cleared = over y 0 (replicate (piecesOf (length m)) 0)
 
-    opened-memory : after begun o ≡ memory (openState (length m) (length x) (length y)) x cleared
+    opened-memory : memoryAfter begun o ≡ memory (openState (length m) (length x) (length y)) x cleared
     opened-memory =
         called begun o _ _ _ (step-opened st o x y open-taken (opens .kind))
         ∙ ap (λ (n : ℕ). memory (openState n (length x) (length y)) x (over y 0 (replicate (piecesOf n) 0))) (opens .announced)
@@ -320,7 +315,7 @@ module _ (m x y : List ℕ) (image-room : length m ≤ length x) (mark-room : pi
         ∙ over-in y 0 (replicate (piecesOf (length m)) 0) k (omega arith) (omega arith)
         ∙ getD-replicate (piecesOf (length m)) k 0 0 h
 
-    pub starts : InProgress m x y (after begun o)
+    pub starts : InProgress m x y (memoryAfter begun o)
     starts =
         subst (InProgress m x y) (sym opened-memory)
         (record {
@@ -339,11 +334,11 @@ module _ (m x y : List ℕ) (image-room : length m ≤ length x) (mark-room : pi
     -- ---- the close
 
     module _ (rs : List (List ℕ)) (pieces : Pieces m rs) (c : List ℕ) (closes : Close c) where
-      t : Through (after begun o) rs
-      t = through rs (after begun o) starts (pieces .agree)
+      t : Through (memoryAfter begun o) rs
+      t = through rs (memoryAfter begun o) starts (pieces .agree)
 
       abbrev full : Memory
-      full = run (after begun o) rs
+      full = run (memoryAfter begun o) rs
 
       abbrev g : InProgress m x y full
       g = t .open-still
@@ -358,16 +353,16 @@ module _ (m x y : List ℕ) (image-room : length m ≤ length x) (mark-room : pi
           (ap (λ (k : ℕ). allHeld (take (piecesOf k) (full .marks))) (size-is full g)
           ∙ all-held (full .marks) (piecesOf (length m)) (omega arith) (λ k h z. let e = complete k h in omega arith))
 
-      answer-is : answer full c ≡ stepped Accepted freshState (length m)
+      answer-is : answerTo full c ≡ stepped Accepted freshState (length m)
       answer-is = close-answer full g complete c close-taken (closes .kind)
 
       pub ends : Assembled m begun o rs c
       unfolding AllAccepted run
       ends =
           record {
-            accepted = (open-accepts, accepted-append rs (after begun o) (c ∷ []) (t .accepted) (ap (λ (a : Stepped). a .verdict) answer-is, tt));
+            accepted = (open-accepts, accepted-append rs (memoryAfter begun o) (c ∷ []) (t .accepted) (ap (λ (a : Stepped). a .verdict) answer-is, tt));
             reported = ap (λ (a : Stepped). a .length) answer-is;
-            left = run-append rs (after begun o) (c ∷ []) ∙ close-leaves full g complete c close-taken (closes .kind);
+            left = run-append rs (memoryAfter begun o) (c ∷ []) ∙ close-leaves full g complete c close-taken (closes .kind);
           }
 
 -- every transfer of m, whatever the order of its pieces and however often each comes

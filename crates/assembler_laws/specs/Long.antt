@@ -9,12 +9,12 @@ use lib.ListN.{length}
 use Rattle.eif.specs.Numbers.{pieceRecordWrong, pieceOutOfTurn}
 use Rattle.octets.specs.Logic.{both, choose}
 use Rattle.eif.specs.Roll.{recordHeadSize}
-use Rattle.assembler.specs.Records.{pieceSize, numberSize, pieceKind, sizeIn}
+use Rattle.assembler.specs.Records.{dataAt, pieceSize, pieceKind, sizeIn}
 use Rattle.assembler.specs.Rules.{isOpened}
 use Rattle.assembler.specs.declared.State.{State}
 
 pub record LongRecord (r : List ℕ) : Type 0 where
-  pub longer : recordHeadSize + numberSize + pieceSize < length r
+  pub longer : dataAt + pieceSize < length r
   pub whole : sizeIn r ≡ length r - recordHeadSize
 
 -- what is answered depends on the kind and the turn alone

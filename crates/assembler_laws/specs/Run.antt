@@ -6,6 +6,8 @@ use mathlib.Core.Bool.{true, false}
 use mathlib.Core.List.{List, [], _∷_, _++_}
 use mathlib.Core.Logic.{_⊎_}
 use lib.ListN.{length, take, drop, replicate}
+use lib.Dec.{eqb}
+use Rattle.octets.specs.Logic.{choose}
 use Rattle.octets.specs.Lists.{All}
 use Rattle.eif.specs.Numbers.{sizeLimit}
 use Rattle.eif.specs.declared.Verdict.the-variants.{Accepted}
@@ -27,11 +29,11 @@ abbrev pub memory : State → List ℕ → List ℕ → Memory
 memory state image marks = record { state = state; image = image; marks = marks }
 
 -- what the call with a record answers, and what it leaves: the contract of `assembler_step::step`
-abbrev pub answer : Memory → List ℕ → Stepped
-answer w r = stepAnswer (w .state) r (w .image) (w .marks)
+abbrev pub answerTo : Memory → List ℕ → Stepped
+answerTo w r = stepAnswer (w .state) r (w .image) (w .marks)
 
-abbrev pub after : Memory → List ℕ → Memory
-after w r = memory (answer w r .state) (imageAfter (w .state) r (w .image) (w .marks)) (marksAfter (w .state) r (w .image) (w .marks))
+abbrev pub memoryAfter : Memory → List ℕ → Memory
+memoryAfter w r = memory (answerTo w r .state) (imageAfter (w .state) r (w .image) (w .marks)) (marksAfter (w .state) r (w .image) (w .marks))
 
 -- the number that it refuses with; 0: it is taken
 abbrev pub faultAt : Memory → List ℕ → ℕ
@@ -39,12 +41,19 @@ faultAt w r = faultOf (w .state) r (w .image) (w .marks)
 
 unfoldable pub run : Memory → List (List ℕ) → Memory
 run w [] = w
-run w (r ∷ rs) = run (after w r) rs
+run w (r ∷ rs) = run (memoryAfter w r) rs
+
+-- of records in turn, those that are taken
+unfoldable pub takenOf : Memory → List (List ℕ) → List (List ℕ)
+takenOf w [] = []
+takenOf w (r ∷ rs) =
+    let rest = takenOf (memoryAfter w r) rs in
+    choose (eqb (faultAt w r) 0) (r ∷ rest) rest
 
 -- each call in turn is accepted
 unfoldable pub AllAccepted : Memory → List (List ℕ) → Type 0
 AllAccepted w [] = Unit
-AllAccepted w (r ∷ rs) = (answer w r .verdict ≡ Accepted) × AllAccepted (after w r) rs
+AllAccepted w (r ∷ rs) = (answerTo w r .verdict ≡ Accepted) × AllAccepted (memoryAfter w r) rs
 
 -- ---- records about an image m
 
@@ -90,7 +99,7 @@ pub record Transfer (m : List ℕ) (w : Memory) (o : List ℕ) (rs : List (List 
 -- other byte of both buffers is as it was
 pub record Assembled (m : List ℕ) (w : Memory) (o : List ℕ) (rs : List (List ℕ)) (c : List ℕ) : Type 0 where
   pub accepted : AllAccepted w (o ∷ (rs ++ (c ∷ [])))
-  pub reported : answer (run w (o ∷ rs)) c .length ≡ length m
+  pub reported : answerTo (run w (o ∷ rs)) c .length ≡ length m
   pub left : run w (o ∷ (rs ++ (c ∷ [])))
       ≡ memory freshState (m ++ drop (length m) (w .image)) (replicate (piecesOf (length m)) 1 ++ drop (piecesOf (length m)) (w .marks))
 
@@ -102,12 +111,12 @@ Outside i r = (i < numberIn r) ⊎ (numberIn r + length (dataIn r) ≤ i)
 
 -- if the call takes a piece, byte i lies outside it
 abbrev pub OutsideTaken : ℕ → Memory → List ℕ → Type 0
-OutsideTaken i w r = answer w r .verdict ≡ Accepted → kindIn r ≡ pieceKind → Outside i r
+OutsideTaken i w r = answerTo w r .verdict ≡ Accepted → kindIn r ≡ pieceKind → Outside i r
 
 -- and so for each call in turn
 unfoldable pub OutsideAll : ℕ → Memory → List (List ℕ) → Type 0
 OutsideAll i w [] = Unit
-OutsideAll i w (r ∷ rs) = OutsideTaken i w r × OutsideAll i (after w r) rs
+OutsideAll i w (r ∷ rs) = OutsideTaken i w r × OutsideAll i (memoryAfter w r) rs
 
 -- mark k is of no piece that the record opens or brings
 abbrev pub OtherMark : ℕ → List ℕ → Type 0
@@ -123,13 +132,13 @@ pub record Agrees (m r : List ℕ) : Type 0 where
 -- none of the calls closes the transfer
 unfoldable pub StaysOpen : Memory → List (List ℕ) → Type 0
 StaysOpen w [] = Unit
-StaysOpen w (r ∷ rs) = (isOpened (after w r .state) ≡ true) × StaysOpen (after w r) rs
+StaysOpen w (r ∷ rs) = (isOpened (memoryAfter w r .state) ≡ true) × StaysOpen (memoryAfter w r) rs
 
 -- a piece is taken, any calls follow with the transfer open, and a record comes with the same start and the same bytes
 pub record Repeated (w : Memory) (r : List ℕ) (rs : List (List ℕ)) (s : List ℕ) : Type 0 where
-  pub taken : answer w r .verdict ≡ Accepted
+  pub taken : answerTo w r .verdict ≡ Accepted
   pub kind : kindIn r ≡ pieceKind
-  pub stays-open : StaysOpen (after w r) rs
+  pub stays-open : StaysOpen (memoryAfter w r) rs
   pub form-again : formed s ≡ true
   pub kind-again : kindIn s ≡ pieceKind
   pub same-start : numberIn s ≡ numberIn r
@@ -137,17 +146,17 @@ pub record Repeated (w : Memory) (r : List ℕ) (rs : List (List ℕ)) (s : List
 
 pub record AnyBetween (m : List ℕ) (w : Memory) (o : List ℕ) (rs : List (List ℕ)) (c : List ℕ) : Type 0 where
   pub opens : OpenFor m o
-  pub open-accepted : answer w o .verdict ≡ Accepted
+  pub open-accepted : answerTo w o .verdict ≡ Accepted
   pub agree : All (Agrees m) rs
-  pub stays-open : StaysOpen (after w o) rs
+  pub stays-open : StaysOpen (memoryAfter w o) rs
   pub closes : Close c
-  pub close-accepted : answer (run (after w o) rs) c .verdict ≡ Accepted
+  pub close-accepted : answerTo (run (memoryAfter w o) rs) c .verdict ≡ Accepted
 
 -- ---- a piece missing: after an open, any records but the piece of a place, and a close
 
 pub record WithoutPiece (k : ℕ) (w : Memory) (o : List ℕ) (rs : List (List ℕ)) (c : List ℕ) : Type 0 where
   pub open-kind : kindIn o ≡ openKind
-  pub open-accepted : answer w o .verdict ≡ Accepted
+  pub open-accepted : answerTo w o .verdict ≡ Accepted
   pub of-image : k < piecesOf (numberIn o)
   pub not-sent : All (λ r. kindIn r ≡ pieceKind → placeIn r ≡ k → ⊥) rs
   pub closes : Close c

@@ -7,9 +7,8 @@ ghost use mathlib.Core.Path.{_≡_};
 ghost use Prim.Native.Nat.{_+_, _<_, _≤_};
 ghost use lib.ListN.{length, replicate};
 ghost use Rattle.octets.specs.Over.{over};
-ghost use Rattle.eif.specs.Roll.{recordHeadSize};
 ghost use Rattle.eif.specs.declared.Verdict.the-variants.{Accepted};
-ghost use Rattle.assembler.specs.Records.{numberSize, placeIn};
+ghost use Rattle.assembler.specs.Records.{dataAt, placeIn};
 ghost use Rattle.assembler.specs.Step.{freshState, openState, stepped, pieceWritten, pieceMarked, stepAnswer, imageAfter, marksAfter};
 use assembler::PIECE_SIZE;
 use assembler::PieceRecord;
@@ -67,7 +66,7 @@ fn clear(marks: &mut [u8], count: usize)
 
 // Writes a piece's bytes and its mark, unless it is held.
 fn take_piece(sent: &[u8], image: &mut [u8], marks: &mut [u8])
-    requires { ⌜ recordHeadSize + numberSize ≤ length (now sent) ⌝ }
+    requires { ⌜ dataAt ≤ length (now sent) ⌝ }
     requires { ⌜ placeIn (now sent) < length (now marks) ⌝ }
     ensures { λ _. ⌜ now (image .exit) ≡ pieceWritten (now (sent .entry)) (now (image .entry)) (now (marks .entry)) ⌝ }
     ensures { λ _. ⌜ now (marks .exit) ≡ pieceMarked (now (sent .entry)) (now (marks .entry)) ⌝ }

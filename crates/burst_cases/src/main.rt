@@ -2,24 +2,21 @@
 // alone, each tried at every place of a small image and never accepted; and a stretch that reaches into the checksum, of which nothing is
 // promised: two images that differ in four neighbouring bytes of the file, and both are accepted. Section types are FORMAT.md's numbers.
 ghost use Prim.Native.Nat.{_<_, _≤_};
+ghost use Rattle.burst_cases.specs.Sizes.{damagedSize, stretchCount};
+use case_lines::byte;
+use case_lines::labelled;
+use case_lines::text;
 use eif::Header;
 use eif::Verdict;
 
-// ---- lines
-
-fn text(bytes: &[u8]) {
-    io::write_all(libc::STDOUT_FILENO, bytes);
-}
-
-fn number(n: usize) {
-    io::print_decimal(libc::STDOUT_FILENO, n as u64);
-}
-
-fn byte(b: u8) {
-    io::print_hex(libc::STDOUT_FILENO, b as u64, 2);
-}
-
 // ---- the image and its damage
+
+// The size of the image: that of the worked example, and three bytes of ramdisk.
+const SIZE: usize = case_images::WORKED_SIZE + 3;
+
+// How many stretches of four neighbouring checked bytes it has: the four bytes of the checksum are not checked, and none starts at the last
+// three.
+const STRETCHES: usize = SIZE - 4 - 3;
 
 // Kernel, command line and a ramdisk of three bytes, and in the reserved bytes before the checksum a number, which nothing judges.
 fn build(image: &mut [u8], reserved: u32) {
@@ -52,16 +49,16 @@ fn invert(image: &mut [u8], at: usize, bits: u8) {
 
 // Where the checked byte k stands: the four bytes of the checksum are not among them.
 fn place(k: usize) -> usize
-    requires { ⌜ k < 589 ⌝ }
+    requires { ⌜ k < damagedSize ⌝ }
 {
     if k < Header::CHECKSUM_AT { k } else { k + 4 }
 }
 
 // Whether the image is accepted with four neighbouring checked bytes damaged, from the byte k on.
 fn slips(k: usize, a: u8, b: u8, c: u8, d: u8) -> bool
-    requires { ⌜ k < 582 ⌝ }
+    requires { ⌜ k < stretchCount ⌝ }
 {
-    let mut image = [0u8; 589];
+    let mut image = [0u8; SIZE];
     build(&mut image, 0);
     invert(&mut image, place(k), a);
     invert(&mut image, place(k + 1), b);
@@ -70,13 +67,13 @@ fn slips(k: usize, a: u8, b: u8, c: u8, d: u8) -> bool
     accepted(&image)
 }
 
-// How many of 582 places let the damage through.
+// How many places let the damage through.
 fn count_slips(a: u8, b: u8, c: u8, d: u8) -> usize
-    ensures { λ r. ⌜ r ≤ 582 ⌝ }
+    ensures { λ r. ⌜ r ≤ stretchCount ⌝ }
 {
     let mut n: usize = 0;
     let mut k: usize = 0;
-    while k < 582 {
+    while k < STRETCHES {
         n += one_if(slips(k, a, b, c, d));
         k += 1;
     }
@@ -85,7 +82,7 @@ fn count_slips(a: u8, b: u8, c: u8, d: u8) -> usize
 
 // Whether the image is accepted with one byte of its checksum damaged.
 fn field_slips(at: usize, bits: u8) -> bool {
-    let mut image = [0u8; 589];
+    let mut image = [0u8; SIZE];
     build(&mut image, 0);
     invert(&mut image, at, bits);
     accepted(&image)
@@ -112,23 +109,24 @@ fn damage(a: u8, b: u8, c: u8, d: u8) {
     byte(b);
     byte(c);
     byte(d);
-    text(b", at each of 582 places: accepted ");
-    number(count_slips(a, b, c, d));
+    labelled(b", at each of ", STRETCHES as u64);
+    labelled(b" places: accepted ", count_slips(a, b, c, d) as u64);
     text(b"\n");
 }
 
 fn field_damage(at: usize) {
-    text(b"byte ");
-    number(at);
-    text(b" alone, in each of 255 ways: accepted ");
-    number(count_field_slips(at));
+    labelled(b"byte ", at as u64);
+    labelled(
+        b" alone, in each of 255 ways: accepted ",
+        count_field_slips(at) as u64,
+    );
     text(b"\n");
 }
 
 // Each byte in which two images differ.
-fn differences(one: &[u8; 589], other: &[u8; 589]) {
+fn differences(one: &[u8; SIZE], other: &[u8; SIZE]) {
     let mut i: usize = 0;
-    while i < 589 {
+    while i < SIZE {
         difference(i, one[i], other[i]);
         i += 1;
     }
@@ -136,8 +134,7 @@ fn differences(one: &[u8; 589], other: &[u8; 589]) {
 
 fn difference(at: usize, one: u8, other: u8) {
     if one != other {
-        text(b"byte ");
-        number(at);
+        labelled(b"byte ", at as u64);
         text(b": ");
         byte(one);
         text(b" and ");
@@ -159,14 +156,14 @@ fn main() {
     damage(0x80, 0, 0, 1);
     damage(0xFF, 0xFF, 0xFF, 0xFF);
     damage(0xED, 0xB8, 0x83, 0x20);
-    field_damage(544);
-    field_damage(545);
-    field_damage(546);
-    field_damage(547);
+    field_damage(Header::CHECKSUM_AT);
+    field_damage(Header::CHECKSUM_AT + 1);
+    field_damage(Header::CHECKSUM_AT + 2);
+    field_damage(Header::CHECKSUM_AT + 3);
     text(b"a stretch that reaches into the checksum, found by search:\n");
-    let mut one = [0u8; 589];
+    let mut one = [0u8; SIZE];
     build(&mut one, 0);
-    let mut other = [0u8; 589];
+    let mut other = [0u8; SIZE];
     build(&mut other, 0x0019F999);
     differences(&one, &other);
     answer(&one);

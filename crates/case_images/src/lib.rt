@@ -93,6 +93,9 @@ pub fn worked_plan() -> Plan
 
 // ---- whole images
 
+// The size of the worked example.
+pub const WORKED_SIZE: usize = Header::SIZE + 3 * SectionHeader::SIZE + 2;
+
 // The most sections of a shape.
 pub const MOST: usize = 6;
 
@@ -114,7 +117,7 @@ const RAMDISK: u16 = SectionType::RAMDISK;
 
 // The shapes that two programs or more have.
 impl Shape {
-    // The worked example of FORMAT.md; its data is `Ka`.
+    // The worked example of FORMAT.md, of `WORKED_SIZE` bytes; its data is `Ka`.
     pub const WORKED: Shape = Shape {
         version: 2,
         flags: 0,

@@ -30,14 +30,37 @@ abbrev pub pairs : ℕ
 pairs = 5
 
 -- ---- the head of a major type with a number below 2 to the 64, in its shortest form (RFC 8949, 3 and 4.2.1): the first byte is 32
--- times the major type, plus the number itself, or plus 24, 25, 26 or 27 where the number follows in 1, 2, 4 or 8 bytes
+-- times the major type, plus the number itself where it is below 24, or plus one of these where it follows in 1, 2, 4 or 8 bytes
+
+abbrev pub inOneByte : ℕ
+inOneByte = 24
+
+abbrev pub inTwoBytes : ℕ
+inTwoBytes = 25
+
+abbrev pub inFourBytes : ℕ
+inFourBytes = 26
+
+abbrev pub inEightBytes : ℕ
+inEightBytes = 27
+
+-- the numbers of one, two and four bytes are below
+abbrev pub oneByteLimit : ℕ
+oneByteLimit = 256
+
+abbrev pub twoByteLimit : ℕ
+twoByteLimit = 65536
+
+abbrev pub fourByteLimit : ℕ
+fourByteLimit = 4294967296
+
 unfoldable pub headBytes : ℕ → ℕ → List ℕ
 headBytes major n =
-    choose (ltb n 24) ((32 * major + n) ∷ [])
-    (choose (ltb n 256) ((32 * major + 24) ∷ n ∷ [])
-    (choose (ltb n 65536) ((32 * major + 25) ∷ beBytes 2 n)
-    (choose (ltb n 4294967296) ((32 * major + 26) ∷ beBytes 4 n)
-    ((32 * major + 27) ∷ beBytes 8 n))))
+    choose (ltb n inOneByte) ((32 * major + n) ∷ [])
+    (choose (ltb n oneByteLimit) ((32 * major + inOneByte) ∷ n ∷ [])
+    (choose (ltb n twoByteLimit) ((32 * major + inTwoBytes) ∷ beBytes 2 n)
+    (choose (ltb n fourByteLimit) ((32 * major + inFourBytes) ∷ beBytes 4 n)
+    ((32 * major + inEightBytes) ∷ beBytes 8 n))))
 
 -- a byte string or a text string
 unfoldable pub stringBytes : ℕ → List ℕ → List ℕ

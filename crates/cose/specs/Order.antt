@@ -8,7 +8,7 @@ use lib.ListN.{length}
 use Rattle.eif.specs.Numbers.{notSign1, outputTooShort}
 use Rattle.eif.specs.Order.{Rule, rule}
 use Rattle.cose.specs.Sign1.{signatureFits, sign1Bytes}
-use Rattle.cose.specs.Read.{accepted}
+use Rattle.cose.specs.Read.{sign1Formed}
 use Rattle.cose.specs.declared.Claim.{Claim}
 
 -- for so many bytes of room
@@ -19,4 +19,4 @@ sign1WriteRules c signature room =
     ∷ []
 
 unfoldable pub sign1ReadRules : List ℕ → List Rule
-sign1ReadRules s = rule (not (accepted s)) notSign1 0 0 ∷ []
+sign1ReadRules s = rule (not (sign1Formed s)) notSign1 0 0 ∷ []

@@ -13,37 +13,35 @@ use Rattle.octets.specs.Logic.{choose, both}
 use Rattle.octets.specs.Same.{sameBytes}
 use Rattle.eif.specs.Answers.{refuse}
 use Rattle.eif.specs.declared.Verdict.the-variants.{Accepted}
+use Rattle.cose.specs.Cbor.{inOneByte, inTwoBytes, inFourBytes}
 use Rattle.cose.specs.Sign1.{registerSize, es256, es384, es512, signatureSize, sign1Bytes}
 use Rattle.cose.specs.declared.Claim.{Claim}
 use Rattle.cose.specs.declared.Sign1Reading.{Sign1Reading}
 
 -- ---- numbers
 
+-- in how many bytes a number follows a head's first byte
+unfoldable pub numberWidth : ℕ → ℕ
+numberWidth first =
+    choose (ltb first inOneByte) 0
+    (choose (eqb first inOneByte) 1
+    (choose (eqb first inTwoBytes) 2
+    (choose (eqb first inFourBytes) 4
+    8)))
+
 -- the number whose head stands at a position, and where the head ends
 unfoldable pub numberAt : List ℕ → ℕ → ℕ
-numberAt s at =
-    let first = getD s at 0 in
-    choose (ltb first 24) first
-    (choose (eqb first 24) (getD s (at + 1) 0)
-    (choose (eqb first 25) (field 2 (at + 1) s)
-    (choose (eqb first 26) (field 4 (at + 1) s)
-    (field 8 (at + 1) s))))
+numberAt s at = let first = getD s at 0 in choose (ltb first inOneByte) first (field (numberWidth first) (at + 1) s)
 
 unfoldable pub numberEnd : List ℕ → ℕ → ℕ
-numberEnd s at =
-    let first = getD s at 0 in
-    choose (ltb first 24) (at + 1)
-    (choose (eqb first 24) (at + 2)
-    (choose (eqb first 25) (at + 3)
-    (choose (eqb first 26) (at + 5)
-    (at + 9))))
+numberEnd s at = at + 1 + numberWidth (getD s at 0)
 
 -- the same of a number below 256
 unfoldable pub byteAt : List ℕ → ℕ → ℕ
-byteAt s at = choose (ltb (getD s at 0) 24) (getD s at 0) (getD s (at + 1) 0)
+byteAt s at = choose (ltb (getD s at 0) inOneByte) (getD s at 0) (getD s (at + 1) 0)
 
 unfoldable pub byteEnd : List ℕ → ℕ → ℕ
-byteEnd s at = choose (ltb (getD s at 0) 24) (at + 1) (at + 2)
+byteEnd s at = choose (ltb (getD s at 0) inOneByte) (at + 1) (at + 2)
 
 -- n such numbers from a position on, and where the last ends
 unfoldable pub bytesFrom : List ℕ → ℕ → ℕ → List ℕ
@@ -91,8 +89,8 @@ abbrev pub signatureIn : List ℕ → Sign1Reading → List ℕ
 signatureIn s r = drop (r .position .0) s
 
 -- the signature has its algorithm's length and nothing stands after it; and all bytes are those of the claim
-unfoldable pub accepted : List ℕ → Bool
-accepted s =
+unfoldable pub sign1Formed : List ℕ → Bool
+sign1Formed s =
     both (eqb (length s) (signatureStart s + signatureSize (algorithmOf s)))
     (sameBytes s (sign1Bytes (claimOf s) (signatureOf s)))
 
@@ -109,4 +107,4 @@ acceptedSign1 c position size =
 
 unfoldable pub readSign1 : List ℕ → Sign1Reading
 readSign1 s =
-    choose (accepted s) (acceptedSign1 (claimOf s) (signatureStart s) (signatureSize (algorithmOf s))) refusedSign1
+    choose (sign1Formed s) (acceptedSign1 (claimOf s) (signatureStart s) (signatureSize (algorithmOf s))) refusedSign1

@@ -34,14 +34,17 @@ es384 = 35
 abbrev pub es512 : ℕ
 es512 = 36
 
--- the bytes of the longest signatures
+-- the bytes of the shortest and of the longest signatures
+abbrev pub shortestSignature : ℕ
+shortestSignature = 64
+
 abbrev pub longestSignature : ℕ
 longestSignature = 132
 
 -- the bytes of an algorithm's signatures; 0: it may not sign
 unfoldable pub signatureSize : ℕ → ℕ
 signatureSize algorithm =
-    choose (eqb algorithm es256) 64
+    choose (eqb algorithm es256) shortestSignature
     (choose (eqb algorithm es384) 96
     (choose (eqb algorithm es512) longestSignature
     0))

@@ -3,8 +3,11 @@
 use mathlib.Core.Path.{_≡_, refl}
 use mathlib.Core.List.{[], _∷_, _++_, map}
 use lib.ListN.{length, replicate}
+use Rattle.eif.specs.Answers.{refuse}
+use Rattle.cose.specs.Write.{sign1Verdict}
+use Rattle.cose.specs.Read.{readSign1, sign1Formed, refusedSign1, signatureStart, algorithmOf, valueStart, indexStart, numberEnd, numberWidth, bytesEnd, byteEnd}
 use Rattle.cose.specs.Cbor.{unsigned, negative, headBytes, stringBytes, numbersBytes}
-use Rattle.cose.specs.Sign1.{longest, es256, es384, es512, signatureSize, protectedBytes, indexPair, valuePair, payloadBytes, sign1Bytes}
+use Rattle.cose.specs.Sign1.{longest, es256, es384, es512, signatureSize, protectedBytes, indexPair, valuePair, payloadBytes, sign1Bytes, signatureFits}
 use Rattle.cose.specs.declared.Claim.{Claim}
 
 -- 0, 1, 10, 23, 24, 25, 100, 255, 256, 1000, 65535, 65536, 1000000, 2^32-1, 2^32, 1000000000000, 2^64-1
@@ -35,10 +38,10 @@ unfolding signatureSize
 signature-sizes = refl
 
 -- register 3, a value of 46 bytes 0x17 and of 0x18 and 0xff, signed by ES384 with 96 bytes 0x5a
-abbrev claim : Claim
-claim = record { algorithm = es384; «register_index» = 3; «register_value» = replicate 46 0x17 ++ (0x18 ∷ 0xff ∷ []) }
+abbrev workedClaim : Claim
+workedClaim = record { algorithm = es384; «register_index» = 3; «register_value» = replicate 46 0x17 ++ (0x18 ∷ 0xff ∷ []) }
 
-worked-bytes : sign1Bytes claim (replicate 96 0x5a)
+worked-bytes : sign1Bytes workedClaim (replicate 96 0x5a)
     -- an array of four: a byte string of 4 with {1: -35}, an empty map
     ≡ (0x84 ∷ 0x44 ∷ 0xa1 ∷ 0x01 ∷ 0x38 ∷ 0x22 ∷ 0xa0 ∷ [])
     -- a byte string of 84 with a map of two: "register_index", 3
@@ -55,3 +58,12 @@ worked-bytes = refl
 longest-there : length (sign1Bytes (record { algorithm = es512; «register_index» = 18446744073709551615; «register_value» = replicate 48 255 }) (replicate 132 0)) ≡ longest
 unfolding sign1Bytes protectedBytes payloadBytes indexPair valuePair stringBytes numbersBytes headBytes
 longest-there = refl
+
+-- no bytes, and a claim whose signature is a byte too long; 28 and 14 are written out, as FORMAT.md prints them
+pub not-read : readSign1 [] .verdict ≡ refuse 28 0
+unfolding readSign1 sign1Formed refusedSign1 signatureStart algorithmOf valueStart indexStart numberEnd numberWidth bytesEnd byteEnd signatureSize
+not-read = refl
+
+pub not-written : sign1Verdict workedClaim (replicate 97 0x5a) 300 ∷ sign1Verdict workedClaim (replicate 96 0x5a) 0 ∷ [] ≡ refuse 28 0 ∷ refuse 14 0 ∷ []
+unfolding sign1Verdict signatureFits signatureSize sign1Bytes protectedBytes payloadBytes indexPair valuePair stringBytes numbersBytes headBytes
+not-written = refl

@@ -4,25 +4,25 @@ use Prim.Native.Nat.{ℕ}
 use mathlib.Core.Bool.{not}
 use mathlib.Core.List.{List}
 use mathlib.Core.Path.{_≡_}
-use lib.Dec.{ltb}
 use lib.ListN.{length, take}
-use Rattle.eif.specs.Numbers.{notSign1, outputTooShort}
+use Rattle.eif.specs.Numbers.{notSign1}
 use Rattle.octets.specs.Logic.{choose}
-use Rattle.eif.specs.Answers.{refuse}
-use Rattle.eif.specs.Output.{outputFor}
-use Rattle.eif.specs.Plan.{writtenFor}
+use Rattle.eif.specs.Answers.{refuse, andThen}
+use Rattle.eif.specs.Output.{roomVerdict, writtenFor, outputFor}
 use Rattle.eif.specs.declared.Written.{Written}
 use Rattle.eif.specs.declared.Verdict.{Verdict}
 use Rattle.eif.specs.declared.Verdict.the-variants.{Accepted}
 use Rattle.cose.specs.Sign1.{signatureFits, sign1Bytes, Typed}
 use Rattle.cose.specs.declared.Claim.{Claim}
 
+-- 28
+abbrev pub claimVerdict : Claim → List ℕ → Verdict
+claimVerdict c signature = choose (not (signatureFits (c .algorithm) (length signature))) (refuse notSign1 0) Accepted
+
 -- for so many bytes of room
 unfoldable pub sign1Verdict : Claim → List ℕ → ℕ → Verdict
 sign1Verdict c signature room =
-    choose (not (signatureFits (c .algorithm) (length signature))) (refuse notSign1 0)
-    (choose (ltb room (length (sign1Bytes c signature))) (refuse outputTooShort 0)
-    Accepted)
+    andThen (claimVerdict c signature) (roomVerdict room (length (sign1Bytes c signature)))
 
 unfoldable pub sign1Answer : Claim → List ℕ → ℕ → Written
 sign1Answer c signature room = writtenFor (sign1Verdict c signature room) (length (sign1Bytes c signature))

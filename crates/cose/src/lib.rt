@@ -19,7 +19,8 @@ pub fn longest() -> usize
     LONGEST
 }
 
-// The algorithms that may sign. Their numbers in the COSE registry are -7, -35 and -36; here the sign is left off.
+// The algorithms that may sign. Their numbers in the COSE registry are -7, -35 and -36; here the sign is left off. And the bytes of
+// their signatures.
 pub struct Algorithm;
 
 impl Algorithm {
@@ -28,6 +29,32 @@ impl Algorithm {
     pub const ES384: u64 = 35;
 
     pub const ES512: u64 = 36;
+
+    pub const ES256_SIZE: usize = 64;
+
+    pub const ES384_SIZE: usize = 96;
+
+    pub const ES512_SIZE: usize = 132;
+}
+
+// The first byte of a CBOR head (RFC 8949, 3), beside the major type: the number itself where it is below IN_ONE_BYTE, or one of these
+// where it follows in 1, 2, 4 or 8 bytes. And what the numbers of one, two and four bytes are below.
+pub struct Head;
+
+impl Head {
+    pub const IN_ONE_BYTE: u8 = 24;
+
+    pub const IN_TWO_BYTES: u8 = 25;
+
+    pub const IN_FOUR_BYTES: u8 = 26;
+
+    pub const IN_EIGHT_BYTES: u8 = 27;
+
+    pub const ONE_BYTE_LIMIT: u64 = 256;
+
+    pub const TWO_BYTE_LIMIT: u64 = 65536;
+
+    pub const FOUR_BYTE_LIMIT: u64 = 4294967296;
 }
 
 // A position in a COSE_Sign1, from its first byte.

@@ -1,40 +1,17 @@
 // Runs the cases of COSE_Sign1, one line each: claims written and read back, and byte strings and claims that are refused.
+use case_lines::hex;
+use case_lines::labelled;
+use case_lines::number;
+use case_lines::refusal;
+use case_lines::text;
 use cose::Algorithm;
 use cose::Claim;
 use cose::REGISTER_SIZE;
-use eif::Refusal;
 use eif::Verdict;
 
 const ROOM: usize = 300;
 
 // ---- lines
-
-fn text(bytes: &[u8]) {
-    io::write_all(libc::STDOUT_FILENO, bytes);
-}
-
-fn number(n: u64) {
-    io::print_decimal(libc::STDOUT_FILENO, n);
-}
-
-fn byte(b: u8) {
-    io::print_hex(libc::STDOUT_FILENO, b as u64, 2);
-}
-
-fn hex(bytes: &[u8]) {
-    let mut i: usize = 0;
-    while i < bytes.len() {
-        byte(bytes[i]);
-        i += 1;
-    }
-}
-
-fn refusal(r: Refusal) {
-    text(b"refused ");
-    number(r.number as u64);
-    text(b" at ");
-    number(r.index);
-}
 
 fn answer(verdict: Verdict) {
     match verdict {
@@ -86,16 +63,12 @@ fn listed(s: &[u8]) {
     let value = claim.register_value;
     text(b"read ");
     answer(verdict);
-    text(b" -");
-    number(claim.algorithm);
-    text(b" ");
-    number(claim.register_index);
+    labelled(b" -", claim.algorithm);
+    labelled(b" ", claim.register_index);
     text(b" ");
     hex(&value);
-    text(b" ");
-    number(reading.position.0);
-    text(b"+");
-    number(reading.length.0);
+    labelled(b" ", reading.position.0);
+    labelled(b"+", reading.length.0);
     text(b"\n");
 }
 
@@ -103,24 +76,18 @@ fn listed(s: &[u8]) {
 
 // What is to be written, and into how many bytes.
 fn asked(algorithm: u64, index: u64, kind: u8, size: usize, room: usize) {
-    text(b"write -");
-    number(algorithm);
-    text(b" ");
-    number(index);
-    text(b" value ");
-    number(kind as u64);
-    text(b" signature ");
-    number(size as u64);
-    text(b" room ");
-    number(room as u64);
+    labelled(b"write -", algorithm);
+    labelled(b" ", index);
+    labelled(b" value ", kind as u64);
+    labelled(b" signature ", size as u64);
+    labelled(b" room ", room as u64);
     text(b": ");
 }
 
 // The whole buffer, and what reads back.
 fn shown(out: &[u8], verdict: Verdict, length: u64) {
     answer(verdict);
-    text(b" ");
-    number(length);
+    labelled(b" ", length);
     text(b"\n  ");
     hex(out);
     text(b"\n  ");
@@ -188,10 +155,8 @@ fn refused_writes() {
 // ---- damaged byte strings
 
 fn changed(at: usize, cut: usize, with: &[u8]) {
-    text(b"at ");
-    number(at as u64);
-    text(b" cut ");
-    number(cut as u64);
+    labelled(b"at ", at as u64);
+    labelled(b" cut ", cut as u64);
     text(b" put ");
     hex(with);
     text(b": ");
@@ -230,8 +195,7 @@ fn resized(s: &[u8], size: u8, at: usize, cut: usize, with: &[u8]) {
     let mut made = [0u8; 180];
     octets::copy(&mut made, 0, s);
     made[7] = size;
-    text(b"payload ");
-    number(size as u64);
+    labelled(b"payload ", size as u64);
     text(b" ");
     spliced(&made, at, cut, with);
 }

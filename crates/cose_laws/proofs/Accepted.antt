@@ -15,21 +15,22 @@ use Rattle.octets.specs.Over.{over}
 use Rattle.octets.proofs.Value.{field-lt, bytes-drop, bytes-append}
 use Rattle.eif.specs.Numbers.{notSign1, outputTooShort}
 use Rattle.octets.specs.Logic.{choose}
-use Rattle.eif.specs.Answers.{refuse}
-use Rattle.eif.specs.Plan.{writtenFor}
+use Rattle.eif.specs.Answers.{refuse, andThen}
+use Rattle.eif.specs.Output.{writtenFor}
 use Rattle.eif.specs.declared.Verdict.the-variants.{Accepted}
 use Rattle.eif.specs.declared.Written.{Written}
 use Rattle.octets.proofs.Logic.{both-true}
 use Rattle.eif_lemmas.proofs.Verdicts.{never}
+use Rattle.cose.specs.Cbor.{inOneByte, inTwoBytes, inFourBytes}
 use Rattle.cose.specs.Sign1.{registerSize, signatureSize, signatureFits, Writable, IsSign1, sign1Bytes}
 use Rattle.cose.specs.Write.{sign1Verdict, sign1Answer, sign1Output, IsWritten}
 use Rattle.octets.specs.Same.{sameBytes}
-use Rattle.cose.specs.Read.{numberAt, byteAt, byteEnd, bytesFrom, algorithmOf, indexStart, valueStart, signatureStart, claimOf, signatureOf, accepted, acceptedSign1, refusedSign1, readSign1, signatureIn}
+use Rattle.cose.specs.Read.{numberWidth, numberAt, byteAt, byteEnd, bytesFrom, algorithmOf, indexStart, valueStart, signatureStart, claimOf, signatureOf, sign1Formed, acceptedSign1, refusedSign1, readSign1, signatureIn}
 use Rattle.cose.specs.declared.Claim.{Claim}
 use Rattle.cose.specs.declared.Sign1Reading.{Sign1Reading}
 use Rattle.cose_lemmas.proofs.Answers.{fine}
 use Rattle.octets.proofs.Same.{same-equal}
-use Rattle.cose_lemmas.proofs.Same.{fits}
+use Rattle.cose_lemmas.proofs.Same.{signature-fits}
 use Rattle.cose_laws.proofs.RoundTrip.{reads-back, written-part, none-begins}
 
 -- ---- what is taken from a byte string can be written
@@ -41,22 +42,21 @@ module _ (s : List ℕ) (bytes : AreBytes s) where
   byte-below (x ∷ xs) a (suc i) = byte-below xs (a .1) i
 
   number-fits : (at : ℕ) → numberAt s at < 2 ^ 64
-  unfolding numberAt
+  unfolding numberAt numberWidth
   number-fits at =
       let b = getD s at 0 in
-      by (ltb b 24) (eqb b 24) (eqb b 25) (eqb b 26)
+      by (ltb b inOneByte) (eqb b inOneByte) (eqb b inTwoBytes) (eqb b inFourBytes)
     where
-      by : (p q r t : Bool)
-          → choose p (getD s at 0) (choose q (getD s (at + 1) 0) (choose r (field 2 (at + 1) s) (choose t (field 4 (at + 1) s) (field 8 (at + 1) s)))) < 2 ^ 64
+      by : (p q r t : Bool) → choose p (getD s at 0) (field (choose p 0 (choose q 1 (choose r 2 (choose t 4 8)))) (at + 1) s) < 2 ^ 64
       by true q r t = lt-of-lt-of-le (byte-below s bytes at) (omega arith)
-      by false true r t = lt-of-lt-of-le (byte-below s bytes (at + 1)) (omega arith)
+      by false true r t = lt-of-lt-of-le (field-lt 1 (at + 1) s bytes) (omega arith)
       by false false true t = lt-of-lt-of-le (field-lt 2 (at + 1) s bytes) (omega arith)
       by false false false true = lt-of-lt-of-le (field-lt 4 (at + 1) s bytes) (omega arith)
       by false false false false = field-lt 8 (at + 1) s bytes
 
   byte-fits : (at : ℕ) → byteAt s at < 256
   unfolding byteAt
-  byte-fits at = by (ltb (getD s at 0) 24)
+  byte-fits at = by (ltb (getD s at 0) inOneByte)
     where
       by : (p : Bool) → choose p (getD s at 0) (getD s (at + 1) 0) < 256
       by true = byte-below s bytes at
@@ -77,7 +77,7 @@ module _ (s : List ℕ) (bytes : AreBytes s) where
     unfolding claimOf signatureOf
     taken-writable =
         record {
-          fits = fits s size;
+          fits = signature-fits s size;
           typed =
               record {
                 index-fits = number-fits (indexStart s);
@@ -90,11 +90,11 @@ module _ (s : List ℕ) (bytes : AreBytes s) where
 -- ---- the two answers
 
 module _ (s : List ℕ) where
-  yes-answer : accepted s ≡ true → readSign1 s ≡ acceptedSign1 (claimOf s) (signatureStart s) (signatureSize (algorithmOf s))
+  yes-answer : sign1Formed s ≡ true → readSign1 s ≡ acceptedSign1 (claimOf s) (signatureStart s) (signatureSize (algorithmOf s))
   unfolding readSign1
   yes-answer e = rw e
 
-  no-answer : accepted s ≡ false → readSign1 s ≡ refusedSign1
+  no-answer : sign1Formed s ≡ false → readSign1 s ≡ refusedSign1
   unfolding readSign1
   no-answer e = rw e
 
@@ -102,16 +102,16 @@ module _ (s : List ℕ) where
   unfolding refusedSign1
   refused-verdict e = never _ e
 
-  verdict-true : readSign1 s .verdict ≡ Accepted → accepted s ≡ true
-  verdict-true e = by (accepted s) refl
+  verdict-true : readSign1 s .verdict ≡ Accepted → sign1Formed s ≡ true
+  verdict-true e = by (sign1Formed s) refl
     where
-      by : (b : Bool) → accepted s ≡ b → b ≡ true
+      by : (b : Bool) → sign1Formed s ≡ b → b ≡ true
       by true f = refl
       by false f = absurd (refused-verdict (sym (ap (λ (r : Sign1Reading). r .verdict) (no-answer f)) ∙ e))
 
   -- the two facts behind an acceptance
-  facts : accepted s ≡ true → (length s ≡ signatureStart s + signatureSize (algorithmOf s)) × (s ≡ sign1Bytes (claimOf s) (signatureOf s))
-  unfolding accepted
+  facts : sign1Formed s ≡ true → (length s ≡ signatureStart s + signatureSize (algorithmOf s)) × (s ≡ sign1Bytes (claimOf s) (signatureOf s))
+  unfolding sign1Formed
   facts e =
       let made = sign1Bytes (claimOf s) (signatureOf s) in
       let h = both-true (eqb (length s) (signatureStart s + signatureSize (algorithmOf s))) (sameBytes s made) e in
@@ -137,9 +137,9 @@ module _ (s : List ℕ) (bytes : AreBytes s) where
 
   -- anything else has the one refusal, with all zero beside it
   pub refused-else : (IsSign1 s → ⊥) → readSign1 s ≡ refusedSign1
-  refused-else not = by (accepted s) refl
+  refused-else not = by (sign1Formed s) refl
     where
-      by : (b : Bool) → accepted s ≡ b → readSign1 s ≡ refusedSign1
+      by : (b : Bool) → sign1Formed s ≡ b → readSign1 s ≡ refusedSign1
       by true f =
           absurd (not (accepted-only (ap (λ (r : Sign1Reading). r .verdict) (yes-answer s f) ∙ accepted-verdict (claimOf s) (signatureStart s) (signatureSize (algorithmOf s)))))
       by false f = no-answer s f
@@ -182,7 +182,7 @@ module _ (s : List ℕ) (bytes : AreBytes s) where
 -- ---- the accepted byte strings are exactly the written ones
 
 -- neither 28 nor 14 applies
-passes : (f short : Bool) → choose (not f) (refuse notSign1 0) (choose short (refuse outputTooShort 0) Accepted) ≡ Accepted → (f ≡ true) × (short ≡ false)
+passes : (f short : Bool) → andThen (choose (not f) (refuse notSign1 0) Accepted) (choose short (refuse outputTooShort 0) Accepted) ≡ Accepted → (f ≡ true) × (short ≡ false)
 passes true false e = (refl, refl)
 passes true true e = never _ e
 passes false short e = never _ e

@@ -10,24 +10,24 @@ use lib.Seq.{getD-at, getD-append-add}
 use Rattle.octets.specs.Bytes.{AreBytes, beBytes, field}
 use Rattle.octets.proofs.Value.{field-at, field-past}
 use Rattle.octets.proofs.Over.{le-or-lt}
-use Rattle.cose.specs.Cbor.{unsigned, headBytes, numbersBytes}
-use Rattle.cose.specs.Read.{numberAt, numberEnd, byteAt, byteEnd, bytesFrom, bytesEnd}
+use Rattle.cose.specs.Cbor.{unsigned, inOneByte, inTwoBytes, inFourBytes, inEightBytes, oneByteLimit, twoByteLimit, fourByteLimit, headBytes, numbersBytes}
+use Rattle.cose.specs.Read.{numberWidth, numberAt, numberEnd, byteAt, byteEnd, bytesFrom, bytesEnd}
 use Rattle.cose_lemmas.proofs.Head.{own-one, own-two, head-three, head-five, head-nine, size-one, size-two, size-three, size-five, size-nine}
-use Rattle.cose_lemmas.proofs.Numbers.{at-one, at-two, at-three, at-five, at-nine, end-one, end-two, end-three, end-five, end-nine, byte-one, byte-two, byte-end-one, byte-end-two}
+use Rattle.cose_lemmas.proofs.Numbers.{at-own, at-after, field-one, width-own, byte-one, byte-two, byte-end-one, byte-end-two}
 
 -- ---- one number
 
 -- the five forms of a head
 pub data Form (n : ℕ) : Type 0 where
-  one : n < 24 → Form n
-  two : 24 ≤ n → n < 256 → Form n
-  three : 256 ≤ n → n < 65536 → Form n
-  five : 65536 ≤ n → n < 4294967296 → Form n
-  nine : 4294967296 ≤ n → Form n
+  one : n < inOneByte → Form n
+  two : inOneByte ≤ n → n < oneByteLimit → Form n
+  three : oneByteLimit ≤ n → n < twoByteLimit → Form n
+  five : twoByteLimit ≤ n → n < fourByteLimit → Form n
+  nine : fourByteLimit ≤ n → Form n
 
 pub form : (n : ℕ) → Form n
 form n =
-    ⊎-elim (λ a. ⊎-elim (λ b. ⊎-elim (λ c. ⊎-elim (λ d. nine d) (λ d. five c d) (le-or-lt 4294967296 n)) (λ c. three b c) (le-or-lt 65536 n)) (λ b. two a b) (le-or-lt 256 n)) (λ a. one a) (le-or-lt 24 n)
+    ⊎-elim (λ a. ⊎-elim (λ b. ⊎-elim (λ c. ⊎-elim (λ d. nine d) (λ d. five c d) (le-or-lt fourByteLimit n)) (λ c. three b c) (le-or-lt twoByteLimit n)) (λ b. two a b) (le-or-lt oneByteLimit n)) (λ a. one a) (le-or-lt inOneByte n)
 
 module _ (p r : List ℕ) (at : ℕ) (e : length p ≡ at) where
   first-is : (b : ℕ) (x : List ℕ) → getD (p ++ (b ∷ x)) at 0 ≡ b
@@ -42,57 +42,55 @@ module _ (p r : List ℕ) (at : ℕ) (e : length p ≡ at) where
   abbrev with : List ℕ → List ℕ
   with h = p ++ (h ++ r)
 
+  -- a number that follows the first byte, and where the head ends
+  after-is : (b : ℕ) (x : List ℕ) → inOneByte ≤ b → (w : ℕ) → numberWidth b ≡ w → numberAt (p ++ (b ∷ x)) at ≡ field w (at + 1) (p ++ (b ∷ x))
+  after-is b x l w e = at-after (p ++ (b ∷ x)) at (rw (first-is b x) l) w (ap numberWidth (first-is b x) ∙ e)
+
+  end-is : (b : ℕ) (x : List ℕ) (w n : ℕ) → numberWidth b ≡ w → 1 + w ≡ n → numberEnd (p ++ (b ∷ x)) at ≡ at + n
+  unfolding numberEnd
+  end-is b x w n e h = ap (λ (k : ℕ). at + 1 + numberWidth k) (first-is b x) ∙ ap (λ (k : ℕ). at + 1 + k) e ∙ omega arith
+
   module _ (n : ℕ) where
     pub number-back : n < 2 ^ 64 → Form n → numberAt (with (headBytes unsigned n)) at ≡ n
+    unfolding numberWidth
     number-back k (one h) =
-        ap (λ (x : List ℕ). numberAt (with x) at) (own-one n h) ∙ at-one (p ++ (n ∷ r)) at (rw (first-is n r) h) ∙ first-is n r
+        ap (λ (x : List ℕ). numberAt (with x) at) (own-one n h) ∙ at-own (p ++ (n ∷ r)) at (rw (first-is n r) h) ∙ first-is n r
     number-back k (two l h) =
-        ap (λ (x : List ℕ). numberAt (with x) at) (own-two n l h) ∙ at-two (p ++ (24 ∷ n ∷ r)) at (first-is 24 (n ∷ r)) ∙ second-is 24 n r
+        ap (λ (x : List ℕ). numberAt (with x) at) (own-two n l h) ∙ after-is inOneByte (n ∷ r) (omega arith) 1 refl
+        ∙ field-one (p ++ (inOneByte ∷ n ∷ r)) (at + 1) ∙ second-is inOneByte n r
     number-back k (three l h) =
-        ap (λ (x : List ℕ). numberAt (with x) at) (head-three unsigned n l h)
-        ∙ at-three (p ++ (25 ∷ (beBytes 2 n ++ r))) at (first-is 25 (beBytes 2 n ++ r)) ∙ wide-is 2 25 n h
+        ap (λ (x : List ℕ). numberAt (with x) at) (head-three unsigned n l h) ∙ after-is inTwoBytes (beBytes 2 n ++ r) (omega arith) 2 refl ∙ wide-is 2 inTwoBytes n h
     number-back k (five l h) =
-        ap (λ (x : List ℕ). numberAt (with x) at) (head-five unsigned n l h)
-        ∙ at-five (p ++ (26 ∷ (beBytes 4 n ++ r))) at (first-is 26 (beBytes 4 n ++ r)) ∙ wide-is 4 26 n h
+        ap (λ (x : List ℕ). numberAt (with x) at) (head-five unsigned n l h) ∙ after-is inFourBytes (beBytes 4 n ++ r) (omega arith) 4 refl ∙ wide-is 4 inFourBytes n h
     number-back k (nine l) =
-        ap (λ (x : List ℕ). numberAt (with x) at) (head-nine unsigned n l)
-        ∙ at-nine (p ++ (27 ∷ (beBytes 8 n ++ r))) at (rw (first-is 27 (beBytes 8 n ++ r)) (omega arith)) ∙ wide-is 8 27 n k
+        ap (λ (x : List ℕ). numberAt (with x) at) (head-nine unsigned n l) ∙ after-is inEightBytes (beBytes 8 n ++ r) (omega arith) 8 refl ∙ wide-is 8 inEightBytes n k
 
     pub number-ends : Form n → numberEnd (with (headBytes unsigned n)) at ≡ at + length (headBytes unsigned n)
-    number-ends (one h) =
-        ap (λ (x : List ℕ). numberEnd (with x) at) (own-one n h) ∙ end-one (p ++ (n ∷ r)) at (rw (first-is n r) h)
-        ∙ ap (λ (k : ℕ). at + k) (size-one n h)
-    number-ends (two l h) =
-        ap (λ (x : List ℕ). numberEnd (with x) at) (own-two n l h) ∙ end-two (p ++ (24 ∷ n ∷ r)) at (first-is 24 (n ∷ r))
-        ∙ ap (λ (k : ℕ). at + k) (size-two n l h)
-    number-ends (three l h) =
-        ap (λ (x : List ℕ). numberEnd (with x) at) (head-three unsigned n l h)
-        ∙ end-three (p ++ (25 ∷ (beBytes 2 n ++ r))) at (first-is 25 (beBytes 2 n ++ r)) ∙ ap (λ (k : ℕ). at + k) (size-three n l h)
-    number-ends (five l h) =
-        ap (λ (x : List ℕ). numberEnd (with x) at) (head-five unsigned n l h)
-        ∙ end-five (p ++ (26 ∷ (beBytes 4 n ++ r))) at (first-is 26 (beBytes 4 n ++ r)) ∙ ap (λ (k : ℕ). at + k) (size-five n l h)
-    number-ends (nine l) =
-        ap (λ (x : List ℕ). numberEnd (with x) at) (head-nine unsigned n l)
-        ∙ end-nine (p ++ (27 ∷ (beBytes 8 n ++ r))) at (rw (first-is 27 (beBytes 8 n ++ r)) (omega arith)) ∙ ap (λ (k : ℕ). at + k) (size-nine n l)
+    unfolding numberWidth
+    number-ends (one h) = ap (λ (x : List ℕ). numberEnd (with x) at) (own-one n h) ∙ end-is n r 0 _ (width-own n h) (size-one n h)
+    number-ends (two l h) = ap (λ (x : List ℕ). numberEnd (with x) at) (own-two n l h) ∙ end-is inOneByte (n ∷ r) 1 _ refl (size-two n l h)
+    number-ends (three l h) = ap (λ (x : List ℕ). numberEnd (with x) at) (head-three unsigned n l h) ∙ end-is inTwoBytes (beBytes 2 n ++ r) 2 _ refl (size-three n l h)
+    number-ends (five l h) = ap (λ (x : List ℕ). numberEnd (with x) at) (head-five unsigned n l h) ∙ end-is inFourBytes (beBytes 4 n ++ r) 4 _ refl (size-five n l h)
+    number-ends (nine l) = ap (λ (x : List ℕ). numberEnd (with x) at) (head-nine unsigned n l) ∙ end-is inEightBytes (beBytes 8 n ++ r) 8 _ refl (size-nine n l)
 
     -- below 256
-    module _ (small : n < 256) where
+    module _ (small : n < oneByteLimit) where
       byte-back : byteAt (with (headBytes unsigned n)) at ≡ n
       byte-back =
           ⊎-elim
           (λ l. ap (λ (x : List ℕ). byteAt (with x) at) (own-two n l small)
-          ∙ byte-two (p ++ (24 ∷ n ∷ r)) at (rw (first-is 24 (n ∷ r)) (omega arith)) ∙ second-is 24 n r)
+          ∙ byte-two (p ++ (inOneByte ∷ n ∷ r)) at (rw (first-is inOneByte (n ∷ r)) (omega arith)) ∙ second-is inOneByte n r)
           (λ h. ap (λ (x : List ℕ). byteAt (with x) at) (own-one n h) ∙ byte-one (p ++ (n ∷ r)) at (rw (first-is n r) h) ∙ first-is n r)
-          (le-or-lt 24 n)
+          (le-or-lt inOneByte n)
 
       byte-ends : byteEnd (with (headBytes unsigned n)) at ≡ at + length (headBytes unsigned n)
       byte-ends =
           ⊎-elim
           (λ l. ap (λ (x : List ℕ). byteEnd (with x) at) (own-two n l small)
-          ∙ byte-end-two (p ++ (24 ∷ n ∷ r)) at (rw (first-is 24 (n ∷ r)) (omega arith)) ∙ ap (λ (k : ℕ). at + k) (size-two n l small))
+          ∙ byte-end-two (p ++ (inOneByte ∷ n ∷ r)) at (rw (first-is inOneByte (n ∷ r)) (omega arith)) ∙ ap (λ (k : ℕ). at + k) (size-two n l small))
           (λ h. ap (λ (x : List ℕ). byteEnd (with x) at) (own-one n h) ∙ byte-end-one (p ++ (n ∷ r)) at (rw (first-is n r) h)
           ∙ ap (λ (k : ℕ). at + k) (size-one n h))
-          (le-or-lt 24 n)
+          (le-or-lt inOneByte n)
 
 -- ---- a row of numbers
 

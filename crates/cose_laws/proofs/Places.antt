@@ -10,12 +10,13 @@ use lib.Dec.{ltb, eqb}
 use lib.ListN.{length, drop, length-append}
 use lib.Seq.{drop-at}
 use Rattle.octets.proofs.Logic.{both-true}
-use Rattle.cose.specs.Cbor.{unsigned, byteString, headBytes, stringBytes, numbersBytes}
+use Rattle.cose.specs.Cbor.{unsigned, byteString, inOneByte, oneByteLimit, headBytes, stringBytes, numbersBytes}
 use Rattle.cose.specs.Sign1.{registerSize, longest, signatureSize, signatureFits, Writable, payloadBytes, sign1Bytes}
 use Rattle.cose.specs.Read.{numberAt, numberEnd, bytesFrom, bytesEnd, algorithmOf, indexStart, valueStart, signatureStart, claimOf, signatureOf}
 use Rattle.cose.specs.declared.Claim.{Claim}
 use Rattle.cose_lemmas.proofs.Head.{head-two, numbers-bounds, size-one, size-two, size-three, size-five, size-nine}
-use Rattle.cose_lemmas.proofs.Parts.{which, size-bounds, opening, opening-first, opening-second, opening-last, beforeIndex, beforeValue, payload-parts, payload-size, sign-parts, sign-size}
+use Rattle.cose_lemmas.specs.Opening.{opening}
+use Rattle.cose_lemmas.proofs.Parts.{which, size-bounds, opening-first, opening-second, opening-last, beforeIndex, beforeValue, payload-parts, payload-size, sign-parts, sign-size}
 use Rattle.cose_laws.proofs.Numbers.{Form, one, two, three, five, nine, form, number-back, number-ends, row-back}
 
 -- a head takes at most nine bytes
@@ -70,7 +71,7 @@ module _ (c : Claim) (sig : List ℕ) (writable : Writable c sig) where
   abbrev payload : List ℕ
   payload = payloadBytes (c .«register_index») (c .«register_value»)
 
-  payload-bounds : (24 ≤ length payload) × (length payload < 256)
+  payload-bounds : (inOneByte ≤ length payload) × (length payload < oneByteLimit)
   payload-bounds =
       let n = numbers-bounds (c .«register_value») (writable .typed .value-bytes) in
       let i = head-size (c .«register_index») (form (c .«register_index»)) in
@@ -78,7 +79,7 @@ module _ (c : Claim) (sig : List ℕ) (writable : Writable c sig) where
       let v = writable .typed .value-long in
       (omega arith, omega arith)
 
-  signature-bounds : (24 ≤ length sig) × (length sig < 256)
+  signature-bounds : (inOneByte ≤ length sig) × (length sig < oneByteLimit)
   signature-bounds = let h = size-bounds (c .algorithm) known in let e = sized in (omega arith, omega arith)
 
   -- none is longer
@@ -97,24 +98,24 @@ module _ (c : Claim) (sig : List ℕ) (writable : Writable c sig) where
   abbrev index : List ℕ
   index = headBytes unsigned (c .«register_index»)
 
-  abbrev value : List ℕ
-  value = numbersBytes (c .«register_value»)
+  abbrev valueBytes : List ℕ
+  valueBytes = numbersBytes (c .«register_value»)
 
-  abbrev string : List ℕ
-  string = headBytes byteString (length payload)
+  abbrev stringHead : List ℕ
+  stringHead = headBytes byteString (length payload)
 
   abbrev last : List ℕ
   last = headBytes byteString (length sig)
 
   -- what stands before the index, before the value, and before the signature
   before-index : List ℕ
-  before-index = opening (c .algorithm) ++ (string ++ beforeIndex)
+  before-index = opening (c .algorithm) ++ (stringHead ++ beforeIndex)
 
   before-value : List ℕ
   before-value = before-index ++ (index ++ beforeValue)
 
   before-signature : List ℕ
-  before-signature = before-value ++ (value ++ last)
+  before-signature = before-value ++ (valueBytes ++ last)
 
   length-index : length before-index ≡ length (opening (c .algorithm)) + 18
   unfolding before-index
@@ -126,77 +127,77 @@ module _ (c : Claim) (sig : List ℕ) (writable : Writable c sig) where
   unfolding before-value
   length-value = simp length-append (omega arith)
 
-  length-signature : length before-signature ≡ length before-value + length value + 2
+  length-signature : length before-signature ≡ length before-value + length valueBytes + 2
   unfolding before-signature
   length-signature =
       let e = ap length (head-two byteString (length sig) (signature-bounds .0) (signature-bounds .1)) in
       simp length-append (omega arith)
 
   module _ (t : List ℕ) where
-    abbrev pub whole : List ℕ
-    whole = sign1Bytes c sig ++ t
+    abbrev pub sign1Then : List ℕ
+    sign1Then = sign1Bytes c sig ++ t
 
-    whole-opening : whole ≡ opening (c .algorithm) ++ (string ++ (payload ++ (stringBytes byteString sig ++ t)))
+    whole-opening : sign1Then ≡ opening (c .algorithm) ++ (stringHead ++ (payload ++ (stringBytes byteString sig ++ t)))
     whole-opening = ap (λ (l : List ℕ). l ++ t) (sign-parts c sig) ∙ simp append-assoc
 
-    whole-index : whole ≡ before-index ++ (index ++ (beforeValue ++ (value ++ (last ++ (sig ++ t)))))
+    whole-index : sign1Then ≡ before-index ++ (index ++ (beforeValue ++ (valueBytes ++ (last ++ (sig ++ t)))))
     unfolding before-index stringBytes
     whole-index = whole-opening ∙ simp (payload-parts, append-assoc)
 
-    whole-value : whole ≡ before-value ++ (value ++ (last ++ (sig ++ t)))
+    whole-value : sign1Then ≡ before-value ++ (valueBytes ++ (last ++ (sig ++ t)))
     unfolding before-value
     whole-value = whole-index ∙ simp append-assoc
 
-    whole-signature : whole ≡ before-signature ++ (sig ++ t)
+    whole-signature : sign1Then ≡ before-signature ++ (sig ++ t)
     unfolding before-signature
     whole-signature = whole-value ∙ simp append-assoc
 
     -- ---- what the reader takes from it
 
-    pub algorithm-same : algorithmOf whole ≡ c .algorithm
+    pub algorithm-same : algorithmOf sign1Then ≡ c .algorithm
     algorithm-same = ap algorithmOf whole-opening ∙ algorithm-back (c .algorithm) known _
 
-    index-start : indexStart whole ≡ length before-index
+    index-start : indexStart sign1Then ≡ length before-index
     index-start = ap indexStart whole-opening ∙ index-start-back (c .algorithm) known _ ∙ sym length-index
 
-    index-same : numberAt whole (indexStart whole) ≡ c .«register_index»
+    index-same : numberAt sign1Then (indexStart sign1Then) ≡ c .«register_index»
     index-same =
         ap₂ numberAt whole-index index-start
-        ∙ number-back before-index (beforeValue ++ (value ++ (last ++ (sig ++ t)))) (length before-index) refl (c .«register_index») (writable .typed .index-fits) (form (c .«register_index»))
+        ∙ number-back before-index (beforeValue ++ (valueBytes ++ (last ++ (sig ++ t)))) (length before-index) refl (c .«register_index») (writable .typed .index-fits) (form (c .«register_index»))
 
-    value-start : valueStart whole ≡ length before-value
+    value-start : valueStart sign1Then ≡ length before-value
     unfolding valueStart
     value-start =
         ap (λ (k : ℕ). k + 17)
         (ap₂ numberEnd whole-index index-start
-        ∙ number-ends before-index (beforeValue ++ (value ++ (last ++ (sig ++ t)))) (length before-index) refl (c .«register_index») (form (c .«register_index»)))
+        ∙ number-ends before-index (beforeValue ++ (valueBytes ++ (last ++ (sig ++ t)))) (length before-index) refl (c .«register_index») (form (c .«register_index»)))
         ∙ sym length-value
 
-    row : (bytesFrom whole registerSize (valueStart whole) ≡ c .«register_value») × (bytesEnd whole registerSize (valueStart whole) ≡ length before-value + length value)
-    row =
+    values-back : (bytesFrom sign1Then registerSize (valueStart sign1Then) ≡ c .«register_value») × (bytesEnd sign1Then registerSize (valueStart sign1Then) ≡ length before-value + length valueBytes)
+    values-back =
         let f = row-back (last ++ (sig ++ t)) (c .«register_value») (writable .typed .value-bytes) before-value (length before-value) refl in
         let n = sym (writable .typed .value-long) in (
-          ap₂ (λ (l : List ℕ) (k : ℕ). bytesFrom l k (valueStart whole)) whole-value n ∙ ap (bytesFrom _ (length (c .«register_value»))) value-start ∙ f .0,
-          ap₂ (λ (l : List ℕ) (k : ℕ). bytesEnd l k (valueStart whole)) whole-value n ∙ ap (bytesEnd _ (length (c .«register_value»))) value-start ∙ f .1,
+          ap₂ (λ (l : List ℕ) (k : ℕ). bytesFrom l k (valueStart sign1Then)) whole-value n ∙ ap (bytesFrom _ (length (c .«register_value»))) value-start ∙ f .0,
+          ap₂ (λ (l : List ℕ) (k : ℕ). bytesEnd l k (valueStart sign1Then)) whole-value n ∙ ap (bytesEnd _ (length (c .«register_value»))) value-start ∙ f .1,
         )
 
-    signature-start : signatureStart whole ≡ length before-signature
+    signature-start : signatureStart sign1Then ≡ length before-signature
     unfolding signatureStart
-    signature-start = ap (λ (k : ℕ). k + 2) (row .1) ∙ sym length-signature
+    signature-start = ap (λ (k : ℕ). k + 2) (values-back .1) ∙ sym length-signature
 
     abbrev taken : ℕ → ℕ → List ℕ → Claim
     taken a n v = record { algorithm = a; «register_index» = n; «register_value» = v }
 
-    pub claim-same : claimOf whole ≡ c
+    pub claim-same : claimOf sign1Then ≡ c
     unfolding claimOf
-    claim-same = ap₂ (λ (a n : ℕ). taken a n (bytesFrom whole registerSize (valueStart whole))) algorithm-same index-same ∙ ap (taken (c .algorithm) (c .«register_index»)) (row .0)
+    claim-same = ap₂ (λ (a n : ℕ). taken a n (bytesFrom sign1Then registerSize (valueStart sign1Then))) algorithm-same index-same ∙ ap (taken (c .algorithm) (c .«register_index»)) (values-back .0)
 
-    pub signature-same : signatureOf whole ≡ sig ++ t
+    pub signature-same : signatureOf sign1Then ≡ sig ++ t
     unfolding signatureOf
     signature-same = ap₂ (λ (k : ℕ) (l : List ℕ). drop k l) signature-start whole-signature ∙ drop-at before-signature (sig ++ t) (length before-signature) refl
 
     -- the signature ends where the claim's bytes end
-    pub end-same : signatureStart whole + length sig ≡ length (sign1Bytes c sig)
+    pub end-same : signatureStart sign1Then + length sig ≡ length (sign1Bytes c sig)
     end-same =
         let e = ap length whole-signature in
         let f = length-append (sign1Bytes c sig) t in

@@ -8,7 +8,7 @@ use lib.ListN.{length, take, drop, length-append}
 use lib.Seq.{take-at, drop-at}
 use Rattle.octets.proofs.Lists.{none-of}
 use Rattle.octets.proofs.Over.{over-start}
-use Rattle.eif.specs.Plan.{writtenFor}
+use Rattle.eif.specs.Output.{writtenFor}
 use Rattle.eif.specs.declared.Verdict.the-variants.{Accepted}
 use Rattle.cose.specs.Sign1.{signatureSize, Writable, sign1Bytes}
 use Rattle.cose.specs.Write.{sign1Answer, sign1Output}
@@ -17,12 +17,12 @@ use Rattle.cose.specs.declared.Claim.{Claim}
 use Rattle.cose_lemmas.proofs.Answers.{fine}
 use Rattle.octets.proofs.Same.{equal-same}
 use Rattle.cose_lemmas.proofs.Same.{read-same}
-use Rattle.cose_laws.proofs.Places.{sized, whole, algorithm-same, claim-same, signature-same, end-same}
+use Rattle.cose_laws.proofs.Places.{sized, sign1Then, algorithm-same, claim-same, signature-same, end-same}
 
 -- ---- what is written reads back: the same claim, and its signature is the last bytes
 
 module _ (c : Claim) (sig : List ℕ) (writable : Writable c sig) where
-  whole-is : whole c sig writable [] ≡ sign1Bytes c sig
+  whole-is : sign1Then c sig writable [] ≡ sign1Bytes c sig
   whole-is = append-nil (sign1Bytes c sig)
 
   abbrev s : List ℕ

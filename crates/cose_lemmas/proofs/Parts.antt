@@ -8,15 +8,16 @@ use native.Mathlib.Omega.{arith}
 use native.Mathlib.Decide.{ℕ-discrete}
 use borrow.Author.Tests.{ne-eqb}
 use lib.ListN.{length, length-append}
-use Rattle.cose.specs.Cbor.{unsigned, byteString, elements, pairs, headBytes, stringBytes, numbersBytes}
-use Rattle.cose.specs.Sign1.{es256, es384, es512, signatureSize, indexName, valueName, protectedBytes, indexPair, valuePair, payloadBytes, sign1Bytes}
+use Rattle.cose_lemmas.specs.Opening.{opening}
+use Rattle.cose.specs.Cbor.{unsigned, byteString, inOneByte, oneByteLimit, headBytes, stringBytes, numbersBytes}
+use Rattle.cose.specs.Sign1.{es256, es384, es512, shortestSignature, longestSignature, signatureSize, indexName, valueName, protectedBytes, indexPair, valuePair, payloadBytes, sign1Bytes}
 use Rattle.cose.specs.declared.Claim.{Claim}
 use Rattle.cose_lemmas.proofs.Head.{head-two}
 
 -- ---- the algorithms
 
 module _ (a : ℕ) where
-  pub size-256 : a ≡ es256 → signatureSize a ≡ 64
+  pub size-256 : a ≡ es256 → signatureSize a ≡ shortestSignature
   unfolding signatureSize
   size-256 e = rw e
 
@@ -24,7 +25,7 @@ module _ (a : ℕ) where
   unfolding signatureSize
   size-384 e = rw e
 
-  pub size-512 : a ≡ es512 → signatureSize a ≡ 132
+  pub size-512 : a ≡ es512 → signatureSize a ≡ longestSignature
   unfolding signatureSize
   size-512 e = rw e
 
@@ -47,16 +48,13 @@ module _ (a : ℕ) where
       ]
 
 -- its signatures take 64 to 132 bytes
-pub size-bounds : (a : ℕ) → 0 < signatureSize a → (64 ≤ signatureSize a) × (signatureSize a ≤ 132)
+pub size-bounds : (a : ℕ) → 0 < signatureSize a → (shortestSignature ≤ signatureSize a) × (signatureSize a ≤ longestSignature)
 size-bounds a h =
     ⊎-elim (λ e. let k = size-256 a e in (omega arith, omega arith))
     (⊎-elim (λ e. let k = size-384 a e in (omega arith, omega arith)) (λ e. let k = size-512 a e in (omega arith, omega arith)))
     (which a h)
 
 -- ---- up to the payload's head
-
-unfoldable pub opening : ℕ → List ℕ
-opening a = headBytes elements 4 ++ (stringBytes byteString (protectedBytes a) ++ headBytes pairs 0)
 
 -- it is one of three
 module _ (a : ℕ) where
@@ -109,8 +107,8 @@ module _ (c : Claim) (signature : List ℕ) where
   unfolding sign1Bytes opening stringBytes
   sign-parts = simp append-assoc
 
-  module _ (small : length (payloadBytes (c .«register_index») (c .«register_value»)) < 256) (large : 24 ≤ length (payloadBytes (c .«register_index») (c .«register_value»))) where
-    pub sign-size : 24 ≤ length signature → length signature < 256
+  module _ (small : length (payloadBytes (c .«register_index») (c .«register_value»)) < oneByteLimit) (large : inOneByte ≤ length (payloadBytes (c .«register_index») (c .«register_value»))) where
+    pub sign-size : inOneByte ≤ length signature → length signature < oneByteLimit
         → length (sign1Bytes c signature) ≡ length (opening (c .algorithm)) + 2 + length (payloadBytes (c .«register_index») (c .«register_value»)) + 2 + length signature
     unfolding stringBytes
     sign-size l h =

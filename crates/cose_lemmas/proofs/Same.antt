@@ -15,19 +15,19 @@ use Rattle.octets.specs.Logic.{choose}
 use Rattle.octets.specs.Same.{sameBytes}
 use Rattle.octets.proofs.Same.{not-same}
 use Rattle.eif.specs.declared.Written.{Written}
-use Rattle.cose.specs.Sign1.{registerSize, es256, es384, es512, signatureSize, signatureFits, sign1Bytes}
+use Rattle.cose.specs.Sign1.{registerSize, es256, es384, es512, shortestSignature, longestSignature, signatureSize, signatureFits, sign1Bytes}
 use Rattle.cose.specs.Write.{sign1Answer, sign1Output}
-use Rattle.cose.specs.Read.{numberAt, numberEnd, bytesFrom, bytesEnd, algorithmOf, indexStart, valueStart, signatureStart, claimOf, signatureOf, accepted, readSign1, acceptedSign1, refusedSign1}
+use Rattle.cose.specs.Read.{numberAt, numberEnd, bytesFrom, bytesEnd, algorithmOf, indexStart, valueStart, signatureStart, claimOf, signatureOf, sign1Formed, readSign1, acceptedSign1, refusedSign1}
 use Rattle.cose.specs.declared.Claim.{Claim}
 use Rattle.cose_lemmas.proofs.Answers.{fitting-yes, short, fine}
 
 -- ---- the claim that a byte string could make
 
-pub algorithm-known : (s : List ℕ) → (64 ≤ signatureSize (algorithmOf s)) × (signatureSize (algorithmOf s) ≤ 132)
+pub algorithm-known : (s : List ℕ) → (shortestSignature ≤ signatureSize (algorithmOf s)) × (signatureSize (algorithmOf s) ≤ longestSignature)
 unfolding algorithmOf signatureSize
 algorithm-known s = by (eqb (getD s 1 0) 67) (eqb (getD s 5 0) 34)
   where
-    by : (a b : Bool) → (64 ≤ signatureSize (choose a es256 (choose b es384 es512))) × (signatureSize (choose a es256 (choose b es384 es512)) ≤ 132)
+    by : (a b : Bool) → (shortestSignature ≤ signatureSize (choose a es256 (choose b es384 es512))) × (signatureSize (choose a es256 (choose b es384 es512)) ≤ longestSignature)
     by true b = (omega arith, omega arith)
     by false true = (omega arith, omega arith)
     by false false = (omega arith, omega arith)
@@ -37,8 +37,8 @@ module _ (s : List ℕ) (sized : length s ≡ signatureStart s + signatureSize (
   unfolding signatureOf
   signature-size = length-drop (signatureStart s) s ∙ (let e : length s - signatureStart s ≡ signatureSize (algorithmOf s) = omega arith in e)
 
-  pub fits : signatureFits (algorithmOf s) (length (signatureOf s)) ≡ true
-  fits = let h = algorithm-known s in fitting-yes (algorithmOf s) (length (signatureOf s)) (omega arith) signature-size
+  pub signature-fits : signatureFits (algorithmOf s) (length (signatureOf s)) ≡ true
+  signature-fits = let h = algorithm-known s in fitting-yes (algorithmOf s) (length (signatureOf s)) (omega arith) signature-size
 
   module _ (d : List ℕ) where
     abbrev made : List ℕ
@@ -49,7 +49,7 @@ module _ (s : List ℕ) (sized : length s ≡ signatureStart s + signatureSize (
 
     fit : signatureFits (claimOf s .algorithm) (length (signatureOf s)) ≡ true
     unfolding claimOf
-    fit = fits
+    fit = signature-fits
 
     -- another length was written: another byte string
     pub written-other : length s ≤ length d → (answer .length ≡ length s → ⊥) → sameBytes s made ≡ false
@@ -76,17 +76,17 @@ module _ (s : List ℕ) (sized : length s ≡ signatureStart s + signatureSize (
 
 module _ (s : List ℕ) where
   pub read-sized : (length s ≡ signatureStart s + signatureSize (algorithmOf s) → ⊥) → refusedSign1 ≡ readSign1 s
-  unfolding readSign1 accepted
+  unfolding readSign1 sign1Formed
   read-sized differ = simp (ne-eqb _ _ differ)
 
   module _ (sized : length s ≡ signatureStart s + signatureSize (algorithmOf s)) where
     pub read-other : sameBytes s (sign1Bytes (claimOf s) (signatureOf s)) ≡ false → refusedSign1 ≡ readSign1 s
-    unfolding readSign1 accepted
+    unfolding readSign1 sign1Formed
     read-other e = simp (eq-eqb _ _ sized, e)
 
     pub read-same : sameBytes s (sign1Bytes (claimOf s) (signatureOf s)) ≡ true
         → acceptedSign1 (claimOf s) (signatureStart s) (signatureSize (algorithmOf s)) ≡ readSign1 s
-    unfolding readSign1 accepted
+    unfolding readSign1 sign1Formed
     read-same e = simp (eq-eqb _ _ sized, e)
 
 -- ---- the parts that the code reads are those of the definition

@@ -8,9 +8,10 @@ ghost use Prim.Native.Nat.{_+_, _*_, _≤_};
 ghost use lib.ListN.{length, getD};
 ghost use Rattle.cose.specs.Sign1.{registerSize, longest, positionLimit, signatureSize, sign1Bytes};
 ghost use Rattle.octets.specs.Same.{sameBytes};
-ghost use Rattle.cose.specs.Read.{numberAt, numberEnd, byteAt, byteEnd, bytesFrom, bytesEnd, algorithmOf, indexStart, signatureStart, claimOf, signatureOf, refusedSign1, readSign1};
+ghost use Rattle.cose.specs.Read.{numberWidth, numberAt, numberEnd, byteAt, byteEnd, bytesFrom, bytesEnd, algorithmOf, indexStart, signatureStart, claimOf, signatureOf, refusedSign1, readSign1};
 use cose::Algorithm;
 use cose::Claim;
+use cose::Head;
 use cose::LONGEST;
 use cose::REGISTER_SIZE;
 use cose::Sign1Position;
@@ -28,22 +29,42 @@ fn byte(s: &[u8], at: usize) -> u8
 
 // ---- numbers
 
+// In how many bytes a number follows a head's first byte.
+fn number_width(first: u8) -> usize
+    ensures { λ r. ⌜ r ≡ numberWidth first ⌝ }
+    ensures { λ r. ⌜ r ≤ 8 ⌝ }
+{
+    if first < Head::IN_ONE_BYTE {
+        return 0;
+    }
+    if first == Head::IN_ONE_BYTE {
+        return 1;
+    }
+    if first == Head::IN_TWO_BYTES {
+        return 2;
+    }
+    if first == Head::IN_FOUR_BYTES {
+        return 4;
+    }
+    8
+}
+
 // The number whose head stands at a position.
 fn number_at(s: &[u8], at: usize) -> u64
     requires { ⌜ at ≤ positionLimit ⌝ }
     ensures { λ r. ⌜ r ≡ numberAt (now (s .entry)) at ⌝ }
 {
     let b = byte(s, at);
-    if b < 24 {
+    if b < Head::IN_ONE_BYTE {
         return b as u64;
     }
-    if b == 24 {
+    if b == Head::IN_ONE_BYTE {
         return byte(s, at + 1) as u64;
     }
-    if b == 25 {
+    if b == Head::IN_TWO_BYTES {
         return octets::be16(s, at + 1) as u64;
     }
-    if b == 26 {
+    if b == Head::IN_FOUR_BYTES {
         return octets::be32(s, at + 1) as u64;
     }
     octets::be64(s, at + 1)
@@ -55,20 +76,7 @@ fn number_end(s: &[u8], at: usize) -> usize
     ensures { λ r. ⌜ r ≡ numberEnd (now (s .entry)) at ⌝ }
     ensures { λ r. ⌜ r ≤ at + 9 ⌝ }
 {
-    let b = byte(s, at);
-    if b < 24 {
-        return at + 1;
-    }
-    if b == 24 {
-        return at + 2;
-    }
-    if b == 25 {
-        return at + 3;
-    }
-    if b == 26 {
-        return at + 5;
-    }
-    at + 9
+    at + 1 + number_width(byte(s, at))
 }
 
 // ---- the register's value
@@ -85,7 +93,11 @@ fn byte_at(s: &[u8], at: usize) -> u8
     ensures { λ r. ⌜ r ≡ byteAt (now (s .entry)) at ⌝ }
 {
     let b = byte(s, at);
-    if b < 24 { b } else { byte(s, at + 1) }
+    if b < Head::IN_ONE_BYTE {
+        b
+    } else {
+        byte(s, at + 1)
+    }
 }
 
 // Where that head ends.
@@ -94,7 +106,11 @@ fn byte_end(s: &[u8], at: usize) -> usize
     ensures { λ r. ⌜ r ≡ byteEnd (now (s .entry)) at ⌝ }
     ensures { λ r. ⌜ r ≤ at + 2 ⌝ }
 {
-    if byte(s, at) < 24 { at + 1 } else { at + 2 }
+    if byte(s, at) < Head::IN_ONE_BYTE {
+        at + 1
+    } else {
+        at + 2
+    }
 }
 
 // As many numbers below 256 as a register has bytes, from a position on.

@@ -1,20 +1,22 @@
 // Writing one COSE_Sign1 that signs a register: one crate for its bytes, so that the reader can hold what it finds to them.
 //
 // The claim is judged and measured before a byte is written, so that a refusal leaves every byte of the output as it was. Heads are
-// written in their shortest form; with 48 numbers and a signature of 64 to 132 bytes, payload and signature always have a head of two bytes.
+// written in their shortest form; with the numbers of a register's value and a signature of 64 to 132 bytes, payload and signature always
+// have a head of two bytes.
 ghost use mathlib.Core.Path.{_≡_};
 ghost use Prim.Native.Nat.{_+_, _*_, _≤_, _<_};
 ghost use mathlib.Core.List.{_∷_, []};
 ghost use lib.ListN.{length};
 ghost use Rattle.octets.specs.Over.{over};
 ghost use Rattle.eif.specs.Answers.{refuse};
-ghost use Rattle.eif.specs.Plan.{writtenFor};
-ghost use Rattle.cose.specs.Cbor.{unsigned, byteString, headBytes, stringBytes, numbersBytes};
+ghost use Rattle.eif.specs.Output.{writtenFor};
+ghost use Rattle.cose.specs.Cbor.{unsigned, byteString, inOneByte, oneByteLimit, headBytes, stringBytes, numbersBytes};
 ghost use Rattle.cose.specs.Sign1.{registerSize, positionLimit, longestSignature, signatureSize, payloadBytes, sign1Bytes};
 ghost use Rattle.cose.specs.Write.{sign1Answer, sign1Output};
-ghost use Rattle.cose_lemmas.proofs.Parts.{opening};
+ghost use Rattle.cose_lemmas.specs.Opening.{opening};
 use cose::Algorithm;
 use cose::Claim;
+use cose::Head;
 use cose::REGISTER_SIZE;
 use eif::Refusal;
 use eif::Verdict;
@@ -28,13 +30,13 @@ pub fn signature_size(algorithm: u64) -> usize
     ensures { λ r. ⌜ r ≤ longestSignature ⌝ }
 {
     if algorithm == Algorithm::ES256 {
-        return 64;
+        return Algorithm::ES256_SIZE;
     }
     if algorithm == Algorithm::ES384 {
-        return 96;
+        return Algorithm::ES384_SIZE;
     }
     if algorithm == Algorithm::ES512 {
-        return 132;
+        return Algorithm::ES512_SIZE;
     }
     0
 }
@@ -44,16 +46,13 @@ fn number_size(n: u64) -> usize
     ensures { λ r. ⌜ r ≡ length (headBytes unsigned n) ⌝ }
     ensures { λ r. ⌜ r ≤ 9 ⌝ }
 {
-    if n < 24 {
-        return 1;
+    if n < Head::ONE_BYTE_LIMIT {
+        return small_size(n as u8);
     }
-    if n < 256 {
-        return 2;
-    }
-    if n < 65536 {
+    if n < Head::TWO_BYTE_LIMIT {
         return 3;
     }
-    if n < 4294967296 {
+    if n < Head::FOUR_BYTE_LIMIT {
         return 5;
     }
     9
@@ -64,7 +63,7 @@ fn small_size(n: u8) -> usize
     ensures { λ r. ⌜ r ≡ length (headBytes unsigned n) ⌝ }
     ensures { λ r. ⌜ (1 ≤ r) × (r ≤ 2) ⌝ }
 {
-    if n < 24 { 1 } else { 2 }
+    if n < Head::IN_ONE_BYTE { 1 } else { 2 }
 }
 
 // How long the numbers of a register's value are together.
@@ -84,7 +83,7 @@ fn value_size(value: [u8; REGISTER_SIZE]) -> usize
 // How long the payload is.
 fn payload_size(index: u64, value: [u8; REGISTER_SIZE]) -> usize
     ensures { λ r. ⌜ r ≡ length (payloadBytes index value) ⌝ }
-    ensures { λ r. ⌜ (24 ≤ r) × (r ≤ 138) ⌝ }
+    ensures { λ r. ⌜ (inOneByte ≤ r) × (r ≤ 138) ⌝ }
 {
     33 + number_size(index) + value_size(value)
 }
@@ -115,20 +114,20 @@ fn put_number(out: &mut [u8], at: usize, n: u64) -> usize
     ensures { λ r. ⌜ r ≤ at + 9 ⌝ }
     ensures { λ _. ⌜ now (out .exit) ≡ over (now (out .entry)) at (headBytes unsigned n) ⌝ }
 {
-    if n < 256 {
+    if n < Head::ONE_BYTE_LIMIT {
         return put_small(out, at, n as u8);
     }
-    if n < 65536 {
-        put_byte(out, at, 25);
+    if n < Head::TWO_BYTE_LIMIT {
+        put_byte(out, at, Head::IN_TWO_BYTES);
         octets::put_be16(out, at + 1, n as u16);
         return at + 3;
     }
-    if n < 4294967296 {
-        put_byte(out, at, 26);
+    if n < Head::FOUR_BYTE_LIMIT {
+        put_byte(out, at, Head::IN_FOUR_BYTES);
         octets::put_be32(out, at + 1, n as u32);
         return at + 5;
     }
-    put_byte(out, at, 27);
+    put_byte(out, at, Head::IN_EIGHT_BYTES);
     octets::put_be64(out, at + 1, n);
     at + 9
 }
@@ -140,8 +139,8 @@ fn put_small(out: &mut [u8], at: usize, n: u8) -> usize
     ensures { λ r. ⌜ r ≤ at + 2 ⌝ }
     ensures { λ _. ⌜ now (out .exit) ≡ over (now (out .entry)) at (headBytes unsigned n) ⌝ }
 {
-    if 24 <= n {
-        put_byte(out, at, 24);
+    if Head::IN_ONE_BYTE <= n {
+        put_byte(out, at, Head::IN_ONE_BYTE);
         put_byte(out, at + 1, n);
         return at + 2;
     }
@@ -151,7 +150,7 @@ fn put_small(out: &mut [u8], at: usize, n: u8) -> usize
 
 // The head of a byte string whose length takes one byte after the first.
 fn put_string_head(out: &mut [u8], at: usize, size: u8) -> usize
-    requires { ⌜ (at ≤ positionLimit) × (24 ≤ size) ⌝ }
+    requires { ⌜ (at ≤ positionLimit) × (inOneByte ≤ size) ⌝ }
     ensures { λ r. ⌜ r ≡ at + 2 ⌝ }
     ensures { λ _. ⌜ now (out .exit) ≡ over (now (out .entry)) at (headBytes byteString size) ⌝ }
 {
@@ -210,7 +209,7 @@ fn put_payload(out: &mut [u8], at: usize, index: u64, value: [u8; REGISTER_SIZE]
 
 // The signature: a byte string.
 fn put_signature(out: &mut [u8], at: usize, signature: &[u8])
-    requires { ⌜ (at ≤ 512) × (24 ≤ length (now signature)) × (length (now signature) < 256) ⌝ }
+    requires { ⌜ (at ≤ 512) × (inOneByte ≤ length (now signature)) × (length (now signature) < oneByteLimit) ⌝ }
     ensures { λ _. ⌜ now (out .exit) ≡ over (now (out .entry)) at (stringBytes byteString (now (signature .entry))) ⌝ }
 {
     let next = put_string_head(out, at, signature.len() as u8);
@@ -222,7 +221,7 @@ fn put_signature(out: &mut [u8], at: usize, signature: &[u8])
 // The bytes of a claim that has been judged.
 fn put_sign1(out: &mut [u8], claim: Claim, signature: &[u8])
     requires { ⌜ 0 < signatureSize (claim .algorithm) ⌝ }
-    requires { ⌜ (24 ≤ length (now signature)) × (length (now signature) < 256) ⌝ }
+    requires { ⌜ (inOneByte ≤ length (now signature)) × (length (now signature) < oneByteLimit) ⌝ }
     ensures { λ _. ⌜ now (out .exit) ≡ over (now (out .entry)) 0 (sign1Bytes claim (now (signature .entry))) ⌝ }
 {
     let value = claim.register_value;

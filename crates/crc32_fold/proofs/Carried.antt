@@ -7,15 +7,16 @@ use native.Mathlib.Omega.{arith}
 use lib.ListN.{length, getD}
 use lib.Bits.{bitXor, xor-mod, xor-zero-l, xor-zero-r}
 use Rattle.crc32.proofs.Xor.{xor-assoc}
-use Rattle.crc32_lemmas.specs.Fold.{down, sparse, spread, num, left, pastWord}
+use Rattle.crc32_lemmas.specs.Fold.{down, sparse, spread, num, remainderFrom, pastWord}
+use Rattle.crc32_lemmas.specs.Sizes.{wordAndCarry}
 use Rattle.crc32_lemmas.proofs.Sparse.{down-add, bits-spread}
-use Rattle.crc32_lemmas.proofs.Left.{At, left-fold, xor-last}
+use Rattle.crc32_lemmas.proofs.Remainder.{At, remainder-fold, xor-last}
 use Rattle.crc32_lemmas.proofs.Joined.{up-zero, num-low}
 use Rattle.crc32_fold.specs.declared.Carry.{Carry}
 use Rattle.crc32_fold.specs.Carried.{carried}
 
 -- ---- the remainder of what is left
-module _ (n : Carry) (l : n .a < 2 ^ 64) (s : List ℕ) (i w : ℕ) (h : At s i 8 w) (k : i + 48 ≤ length s) where
+module _ (n : Carry) (l : n .a < 2 ^ 64) (s : List ℕ) (i w : ℕ) (h : At s i 8 w) (k : i + wordAndCarry ≤ length s) where
   carried-low : carried n % 2 ^ 64 ≡ n .a
   unfolding carried
   carried-low = num-low 64 4 (λ (j : ℕ). getD (n .a ∷ n .b ∷ n .c ∷ n .d ∷ n .e ∷ []) j 0) l
@@ -23,20 +24,20 @@ module _ (n : Carry) (l : n .a < 2 ^ 64) (s : List ℕ) (i w : ℕ) (h : At s i 
   enough : pastWord + 64 ≤ 8 * (length s - (i + 8))
   enough = omega arith
 
-  pub bits-turn : left s i (carried n) ≡ left s (i + 8) (bitXor (down 64 (carried n)) (spread sparse 1 pastWord (bitXor (n .a) w)))
+  pub bits-turn : remainderFrom s i (carried n) ≡ remainderFrom s (i + 8) (bitXor (down 64 (carried n)) (spread sparse 1 pastWord (bitXor (n .a) w)))
   bits-turn =
-      left-fold sparse 1 8 pastWord bits-spread s i w (carried n) h enough
-      ∙ ap (λ (x : ℕ). left s (i + 8) (bitXor (down 64 (carried n)) (spread sparse 1 pastWord (bitXor x w)))) carried-low
+      remainder-fold sparse 1 8 pastWord bits-spread s i w (carried n) h enough
+      ∙ ap (λ (x : ℕ). remainderFrom s (i + 8) (bitXor (down 64 (carried n)) (spread sparse 1 pastWord (bitXor x w)))) carried-low
 
   -- with y added too, which moves on
-  pub bits-turn-under : (y : ℕ) → left s i (bitXor (carried n) y)
-      ≡ left s (i + 8) (bitXor (bitXor (down 64 (carried n)) (spread sparse 1 pastWord (bitXor (n .a) (bitXor (y % 2 ^ 64) w)))) (down 64 y))
+  pub bits-turn-under : (y : ℕ) → remainderFrom s i (bitXor (carried n) y)
+      ≡ remainderFrom s (i + 8) (bitXor (bitXor (down 64 (carried n)) (spread sparse 1 pastWord (bitXor (n .a) (bitXor (y % 2 ^ 64) w)))) (down 64 y))
   bits-turn-under y =
       let x : ℕ = carried n in
       let lo : bitXor (bitXor x y % 2 ^ 64) w ≡ bitXor (n .a) (bitXor (y % 2 ^ 64) w) =
       ap (λ (z : ℕ). bitXor z w) (xor-mod x y 64 ∙ ap (λ (z : ℕ). bitXor z (y % 2 ^ 64)) carried-low) ∙ xor-assoc (n .a) (y % 2 ^ 64) w in
-      left-fold sparse 1 8 pastWord bits-spread s i w (bitXor x y) h enough
-      ∙ ap (left s (i + 8)) (ap₂ (λ (p q : ℕ). bitXor p (spread sparse 1 pastWord q)) (down-add 64 x y) lo ∙ xor-last (down 64 x) (down 64 y) (spread sparse 1 pastWord (bitXor (n .a) (bitXor (y % 2 ^ 64) w))))
+      remainder-fold sparse 1 8 pastWord bits-spread s i w (bitXor x y) h enough
+      ∙ ap (remainderFrom s (i + 8)) (ap₂ (λ (p q : ℕ). bitXor p (spread sparse 1 pastWord q)) (down-add 64 x y) lo ∙ xor-last (down 64 x) (down 64 y) (spread sparse 1 pastWord (bitXor (n .a) (bitXor (y % 2 ^ 64) w))))
 
 -- ---- a number alone, and nothing
 pub carried-one : (x : ℕ) → carried (record { a = x; b = 0; c = 0; d = 0; e = 0 }) ≡ x

@@ -5,7 +5,7 @@ use mathlib.Core.Path.{_≡_}
 use mathlib.Core.List.{List, [], _∷_}
 use lib.ListN.{getD}
 use lib.Bits.{bitXor}
-use Rattle.crc32_lemmas.specs.Fold.{up, num, left}
+use Rattle.crc32_lemmas.specs.Fold.{up, num, remainderFrom}
 use Rattle.crc32_fold.specs.declared.Carry.{Carry}
 
 -- the five words of what is carried
@@ -14,4 +14,4 @@ carried n = num 64 5 (λ (k : ℕ). getD (n .a ∷ n .b ∷ n .c ∷ n .d ∷ n 
 
 -- from the state and what was added to the word at i, the state r after the word, whatever y is added to what comes after it
 abbrev pub WordTaken : List ℕ → ℕ → ℕ → ℕ → ℕ → Type 0
-WordTaken s i state more r = (y : ℕ) → left s (i + 8) (bitXor r y) ≡ left s i (bitXor state (bitXor more (up 64 y)))
+WordTaken s i state more r = (y : ℕ) → remainderFrom s (i + 8) (bitXor r y) ≡ remainderFrom s i (bitXor state (bitXor more (up 64 y)))

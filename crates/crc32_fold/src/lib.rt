@@ -31,7 +31,7 @@ ghost use lib.ListN.{length, take, drop};
 ghost use lib.Bits.{bitXor};
 ghost use Rattle.octets.specs.Bytes.{leValue};
 ghost use Rattle.crc32.specs.Crc.{crcFrom, crc32, ones32, shiftBits};
-ghost use Rattle.crc32_lemmas.specs.Fold.{taps, up64, inverse, left, down, sparse, sparser, spread, mix, windowSize, window, ringSize, pastWord, lowRingPower, highRingPower, ring, added, Words};
+ghost use Rattle.crc32_lemmas.specs.Fold.{taps, up64, inverse, remainderFrom, down, sparse, sparser, spread, mix, windowSize, window, ringSize, pastWord, lowRingPower, highRingPower, ring, added, Words};
 ghost use Rattle.crc32_lemmas.specs.Sizes.{carrySize, roundSize, bufferSize, emptiedSize, clearedSize, ringBuffer, ringBytes, lowBack, highBack};
 ghost use Rattle.crc32_fold.specs.Carried.{carried, WordTaken};
 
@@ -223,7 +223,7 @@ fn steps8(x: u32) -> u32
 // What is left from a position on, four bytes at a time and then byte by byte.
 fn tail(state: u32, s: &[u8], from: usize) -> u32
     requires { ⌜ from ≤ length (now s) ⌝ }
-    ensures { λ r. ⌜ r ≡ left (now (s .entry)) from state ⌝ }
+    ensures { λ r. ⌜ r ≡ remainderFrom (now (s .entry)) from state ⌝ }
 {
     let mut c = state;
     let mut i = from;
@@ -284,7 +284,7 @@ fn take_in(state: u32, more: u64, s: &[u8], i: usize) -> u32
 // The last five words.
 fn last_words(n: Carry, s: &[u8], i: usize) -> u32
     requires { ⌜ i + carrySize ≤ length (now s) ⌝ }
-    ensures { λ r. ⌜ left (now (s .entry)) (i + carrySize) r ≡ left (now (s .entry)) i (carried n) ⌝ }
+    ensures { λ r. ⌜ remainderFrom (now (s .entry)) (i + carrySize) r ≡ remainderFrom (now (s .entry)) i (carried n) ⌝ }
 {
     let a = take_in(0, n.a, s, i);
     let b = take_in(a, n.b, s, i + 8);
@@ -296,7 +296,7 @@ fn last_words(n: Carry, s: &[u8], i: usize) -> u32
 // What is left from a position on, and what is added to it.
 fn rest(first: Carry, s: &[u8], from: usize) -> u32
     requires { ⌜ (from + carrySize ≤ length (now s)) × (first .a < 2 ^ 64) ⌝ }
-    ensures { λ r. ⌜ r ≡ left (now (s .entry)) from (carried first) ⌝ }
+    ensures { λ r. ⌜ r ≡ remainderFrom (now (s .entry)) from (carried first) ⌝ }
 {
     let mut n = first;
     let mut i = from;
@@ -338,7 +338,7 @@ fn added_to(v: &[u8; BUFFER], j: usize) -> u8
 // n bytes from a position on are taken away.
 fn fold_bytes(s: &[u8], at: usize, n: usize, v: &mut [u8; BUFFER])
     requires { ⌜ (at + n + windowSize ≤ length (now s)) × (n ≤ roundSize) × Words 8 bufferSize (now v) ⌝ }
-    ensures { λ r. ⌜ (left (now (s .entry)) (at + n) (mix sparse 8 (window (now (v .exit)) n)) ≡ left (now (s .entry)) at (mix sparse 8 (window (now (v .entry)) 0))) × Words 8 bufferSize (now (v .exit)) ⌝ }
+    ensures { λ r. ⌜ (remainderFrom (now (s .entry)) (at + n) (mix sparse 8 (window (now (v .exit)) n)) ≡ remainderFrom (now (s .entry)) at (mix sparse 8 (window (now (v .entry)) 0))) × Words 8 bufferSize (now (v .exit)) ⌝ }
 {
     let mut j = 0;
     while j < n {
@@ -383,7 +383,7 @@ fn added_at(v: &[u8], j: usize) -> u64
 // The bytes under the window, folded as bits, eight at a time, until nothing of the window is left.
 fn empty(s: &[u8], at: usize, v: &[u8]) -> Carry
     requires { ⌜ (at + emptiedSize + carrySize ≤ length (now s)) × (length (now v) ≡ clearedSize) × (down (8 * windowSize) (leValue (now v)) ≡ 0) ⌝ }
-    ensures { λ r. ⌜ (left (now (s .entry)) (at + emptiedSize) (carried r) ≡ left (now (s .entry)) at (mix sparse 8 (leValue (now (v .entry))))) × (r .a < 2 ^ 64) ⌝ }
+    ensures { λ r. ⌜ (remainderFrom (now (s .entry)) (at + emptiedSize) (carried r) ≡ remainderFrom (now (s .entry)) at (mix sparse 8 (leValue (now (v .entry))))) × (r .a < 2 ^ 64) ⌝ }
 {
     let mut n = Carry::NONE;
     let mut j = 0;
@@ -422,7 +422,7 @@ fn long(state: u32, s: &[u8]) -> u32
 // One word taken away. It takes the place of the oldest, at j; the other two that are added to it stand at p and q.
 fn turn(s: &[u8], at: usize, j: usize, p: usize, q: usize, v: &mut [u32; RING_BUFFER])
     requires { ⌜ (at + (4 + ringBytes) ≤ length (now s)) × (j < ringSize) × (p ≡ (j + lowRingPower) % ringSize) × (q ≡ (j + highRingPower) % ringSize) × Words 32 ringBuffer (now v) ⌝ }
-    ensures { λ r. ⌜ (left (now (s .entry)) (at + 4) (mix sparser 32 (ring (now (v .exit)) (j + 1))) ≡ left (now (s .entry)) at (mix sparser 32 (ring (now (v .entry)) j))) × Words 32 ringBuffer (now (v .exit)) ⌝ }
+    ensures { λ r. ⌜ (remainderFrom (now (s .entry)) (at + 4) (mix sparser 32 (ring (now (v .exit)) (j + 1))) ≡ remainderFrom (now (s .entry)) at (mix sparser 32 (ring (now (v .entry)) j))) × Words 32 ringBuffer (now (v .exit)) ⌝ }
 {
     let w = v[j] ^ v[p] ^ v[q] ^ le32(s, at);
     v[j] = w;
@@ -432,7 +432,7 @@ fn turn(s: &[u8], at: usize, j: usize, p: usize, q: usize, v: &mut [u32; RING_BU
 // knows the distances from j.
 fn turn_first(s: &[u8], at: usize, v: &mut [u32; RING_BUFFER])
     requires { ⌜ (at + 2 * ringBytes ≤ length (now s)) × Words 32 ringBuffer (now v) ⌝ }
-    ensures { λ r. ⌜ (left (now (s .entry)) (at + 4 * highBack) (mix sparser 32 (ring (now (v .exit)) highBack)) ≡ left (now (s .entry)) at (mix sparser 32 (ring (now (v .entry)) 0))) × Words 32 ringBuffer (now (v .exit)) ⌝ }
+    ensures { λ r. ⌜ (remainderFrom (now (s .entry)) (at + 4 * highBack) (mix sparser 32 (ring (now (v .exit)) highBack)) ≡ remainderFrom (now (s .entry)) at (mix sparser 32 (ring (now (v .entry)) 0))) × Words 32 ringBuffer (now (v .exit)) ⌝ }
 {
     let mut j = 0;
     while j < HIGH_BACK {
@@ -443,7 +443,7 @@ fn turn_first(s: &[u8], at: usize, v: &mut [u32; RING_BUFFER])
 
 fn turn_second(s: &[u8], at: usize, v: &mut [u32; RING_BUFFER])
     requires { ⌜ (at + 2 * ringBytes ≤ length (now s)) × Words 32 ringBuffer (now v) ⌝ }
-    ensures { λ r. ⌜ (left (now (s .entry)) (at + 4 * lowBack) (mix sparser 32 (ring (now (v .exit)) lowBack)) ≡ left (now (s .entry)) (at + 4 * highBack) (mix sparser 32 (ring (now (v .entry)) highBack))) × Words 32 ringBuffer (now (v .exit)) ⌝ }
+    ensures { λ r. ⌜ (remainderFrom (now (s .entry)) (at + 4 * lowBack) (mix sparser 32 (ring (now (v .exit)) lowBack)) ≡ remainderFrom (now (s .entry)) (at + 4 * highBack) (mix sparser 32 (ring (now (v .entry)) highBack))) × Words 32 ringBuffer (now (v .exit)) ⌝ }
 {
     let mut j = HIGH_BACK;
     while j < LOW_BACK {
@@ -454,7 +454,7 @@ fn turn_second(s: &[u8], at: usize, v: &mut [u32; RING_BUFFER])
 
 fn turn_third(s: &[u8], at: usize, v: &mut [u32; RING_BUFFER])
     requires { ⌜ (at + 2 * ringBytes ≤ length (now s)) × Words 32 ringBuffer (now v) ⌝ }
-    ensures { λ r. ⌜ (left (now (s .entry)) (at + ringBytes) (mix sparser 32 (ring (now (v .exit)) 0)) ≡ left (now (s .entry)) (at + 4 * lowBack) (mix sparser 32 (ring (now (v .entry)) lowBack))) × Words 32 ringBuffer (now (v .exit)) ⌝ }
+    ensures { λ r. ⌜ (remainderFrom (now (s .entry)) (at + ringBytes) (mix sparser 32 (ring (now (v .exit)) 0)) ≡ remainderFrom (now (s .entry)) (at + 4 * lowBack) (mix sparser 32 (ring (now (v .entry)) lowBack))) × Words 32 ringBuffer (now (v .exit)) ⌝ }
 {
     let mut j = LOW_BACK;
     while j < RING {
@@ -480,7 +480,7 @@ fn pair_at(v: &[u32; RING_BUFFER], i: usize) -> u64
 // The words under the window, folded as bits, until nothing of the window is left.
 fn empty_ring(s: &[u8], at: usize, v: &[u32; RING_BUFFER]) -> Carry
     requires { ⌜ (at + ringBytes + carrySize ≤ length (now s)) × Words 32 ringBuffer (now v) ⌝ }
-    ensures { λ r. ⌜ (left (now (s .entry)) (at + ringBytes) (carried r) ≡ left (now (s .entry)) at (mix sparser 32 (ring (now (v .entry)) 0))) × (r .a < 2 ^ 64) ⌝ }
+    ensures { λ r. ⌜ (remainderFrom (now (s .entry)) (at + ringBytes) (carried r) ≡ remainderFrom (now (s .entry)) at (mix sparser 32 (ring (now (v .entry)) 0))) × (r .a < 2 ^ 64) ⌝ }
 {
     let mut n = Carry::NONE;
     let mut j = 0;

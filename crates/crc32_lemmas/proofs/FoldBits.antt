@@ -10,56 +10,56 @@ use Rattle.crc32_lemmas.proofs.Sparse.{down-up}
 use Rattle.crc32_lemmas.proofs.Joined.{up-up, up-zero, two-words, num-xor, num-down}
 
 -- five words
-abbrev pub five : ℕ → ℕ → ℕ → ℕ → ℕ → ℕ
-five a b c d e = num 64 5 (λ (k : ℕ). getD (a ∷ b ∷ c ∷ d ∷ e ∷ []) k 0)
+abbrev pub fiveWords : ℕ → ℕ → ℕ → ℕ → ℕ → ℕ
+fiveWords a b c d e = num 64 5 (λ (k : ℕ). getD (a ∷ b ∷ c ∷ d ∷ e ∷ []) k 0)
 
-five-xor : (a b c d e a′ b′ c′ d′ e′ : ℕ) → bitXor (five a b c d e) (five a′ b′ c′ d′ e′) ≡ five (bitXor a a′) (bitXor b b′) (bitXor c c′) (bitXor d d′) (bitXor e e′)
+five-xor : (a b c d e a′ b′ c′ d′ e′ : ℕ) → bitXor (fiveWords a b c d e) (fiveWords a′ b′ c′ d′ e′) ≡ fiveWords (bitXor a a′) (bitXor b b′) (bitXor c c′) (bitXor d d′) (bitXor e e′)
 unfolding num
 five-xor a b c d e a′ b′ c′ d′ e′ = num-xor 64 5 (λ (k : ℕ). getD (a ∷ b ∷ c ∷ d ∷ e ∷ []) k 0) (λ (k : ℕ). getD (a′ ∷ b′ ∷ c′ ∷ d′ ∷ e′ ∷ []) k 0)
 
 -- two words among five, at 1, 2 and 3
-at-1 : (p q : ℕ) → five 0 p q 0 0 ≡ up 64 (bitXor p (up 64 q))
+at-1 : (p q : ℕ) → fiveWords 0 p q 0 0 ≡ up 64 (bitXor p (up 64 q))
 unfolding num
 at-1 p q = simp (up-zero, xor-zero-r, xor-zero-l)
 
-at-2 : (p q : ℕ) → five 0 0 p q 0 ≡ up 64 (up 64 (bitXor p (up 64 q)))
+at-2 : (p q : ℕ) → fiveWords 0 0 p q 0 ≡ up 64 (up 64 (bitXor p (up 64 q)))
 unfolding num
 at-2 p q = simp (up-zero, xor-zero-r, xor-zero-l)
 
-at-3 : (p q : ℕ) → five 0 0 0 p q ≡ up 64 (up 64 (up 64 (bitXor p (up 64 q))))
+at-3 : (p q : ℕ) → fiveWords 0 0 0 p q ≡ up 64 (up 64 (up 64 (bitXor p (up 64 q))))
 unfolding num
 at-3 p q = simp (up-zero, xor-zero-r, xor-zero-l)
 
-up-1 : (k t u : ℕ) → k + t ≡ 64 → five 0 (u * 2 ^ k % 2 ^ 64) (u / 2 ^ t) 0 0 ≡ up (k + 64) u
+up-1 : (k t u : ℕ) → k + t ≡ 64 → fiveWords 0 (u * 2 ^ k % 2 ^ 64) (u / 2 ^ t) 0 0 ≡ up (k + 64) u
 up-1 k t u e = at-1 (u * 2 ^ k % 2 ^ 64) (u / 2 ^ t) ∙ ap (up 64) (two-words k t u e) ∙ up-up 64 k u
 
-up-2 : (k t u : ℕ) → k + t ≡ 64 → five 0 0 (u * 2 ^ k % 2 ^ 64) (u / 2 ^ t) 0 ≡ up (k + 64 + 64) u
+up-2 : (k t u : ℕ) → k + t ≡ 64 → fiveWords 0 0 (u * 2 ^ k % 2 ^ 64) (u / 2 ^ t) 0 ≡ up (k + 64 + 64) u
 up-2 k t u e =
     at-2 (u * 2 ^ k % 2 ^ 64) (u / 2 ^ t) ∙ ap (λ (x : ℕ). up 64 (up 64 x)) (two-words k t u e) ∙ ap (up 64) (up-up 64 k u) ∙ up-up 64 (k + 64) u
 
-up-3 : (k t u : ℕ) → k + t ≡ 64 → five 0 0 0 (u * 2 ^ k % 2 ^ 64) (u / 2 ^ t) ≡ up (k + 64 + 64 + 64) u
+up-3 : (k t u : ℕ) → k + t ≡ 64 → fiveWords 0 0 0 (u * 2 ^ k % 2 ^ 64) (u / 2 ^ t) ≡ up (k + 64 + 64 + 64) u
 up-3 k t u e =
     at-3 (u * 2 ^ k % 2 ^ 64) (u / 2 ^ t) ∙ ap (λ (x : ℕ). up 64 (up 64 (up 64 x))) (two-words k t u e)
     ∙ ap (λ (x : ℕ). up 64 (up 64 x)) (up-up 64 k u) ∙ ap (up 64) (up-up 64 (k + 64) u) ∙ up-up 64 (k + 64 + 64) u
 
 -- what a word adds, by shifts
 pub spread-bits : (u : ℕ)
-    → spread sparse 1 pastWord u ≡ five 0 (bitXor (u * 2 ^ 55 % 2 ^ 64) (u * 2 ^ 17 % 2 ^ 64)) (bitXor (bitXor (u * 2 ^ 19 % 2 ^ 64) (u / 2 ^ 9)) (u / 2 ^ 47)) (bitXor (u * 2 ^ 44 % 2 ^ 64) (u / 2 ^ 45)) (u / 2 ^ 20)
+    → spread sparse 1 pastWord u ≡ fiveWords 0 (bitXor (u * 2 ^ 55 % 2 ^ 64) (u * 2 ^ 17 % 2 ^ 64)) (bitXor (bitXor (u * 2 ^ 19 % 2 ^ 64) (u / 2 ^ 9)) (u / 2 ^ 47)) (bitXor (u * 2 ^ 44 % 2 ^ 64) (u / 2 ^ 45)) (u / 2 ^ 20)
 unfolding spread mix taps
 spread-bits u =
     ap₂ bitXor (ap₂ bitXor (ap (bitXor (up pastWord u)) (down-up lowPower 147 u)) (down-up midPower 119 u)) (down-up highPower 81 u)
     ∙ sym (ap₂ bitXor (ap₂ bitXor (ap₂ bitXor (up-3 44 20 u refl) (up-2 19 45 u refl)) (up-1 55 9 u refl)) (up-1 17 47 u refl))
-    ∙ ap (λ (x : ℕ). bitXor (bitXor x (five 0 (u * 2 ^ 55 % 2 ^ 64) (u / 2 ^ 9) 0 0)) (five 0 (u * 2 ^ 17 % 2 ^ 64) (u / 2 ^ 47) 0 0))
+    ∙ ap (λ (x : ℕ). bitXor (bitXor x (fiveWords 0 (u * 2 ^ 55 % 2 ^ 64) (u / 2 ^ 9) 0 0)) (fiveWords 0 (u * 2 ^ 17 % 2 ^ 64) (u / 2 ^ 47) 0 0))
     (five-xor 0 0 0 (u * 2 ^ 44 % 2 ^ 64) (u / 2 ^ 20) 0 0 (u * 2 ^ 19 % 2 ^ 64) (u / 2 ^ 45) 0)
-    ∙ ap (λ (x : ℕ). bitXor x (five 0 (u * 2 ^ 17 % 2 ^ 64) (u / 2 ^ 47) 0 0))
+    ∙ ap (λ (x : ℕ). bitXor x (fiveWords 0 (u * 2 ^ 17 % 2 ^ 64) (u / 2 ^ 47) 0 0))
     (five-xor 0 0 (bitXor 0 (u * 2 ^ 19 % 2 ^ 64)) (bitXor (u * 2 ^ 44 % 2 ^ 64) (u / 2 ^ 45)) (bitXor (u / 2 ^ 20) 0) 0 (u * 2 ^ 55 % 2 ^ 64) (u / 2 ^ 9) 0 0)
     ∙ five-xor 0 (bitXor 0 (u * 2 ^ 55 % 2 ^ 64)) (bitXor (bitXor 0 (u * 2 ^ 19 % 2 ^ 64)) (u / 2 ^ 9)) (bitXor (bitXor (u * 2 ^ 44 % 2 ^ 64) (u / 2 ^ 45)) 0) (bitXor (bitXor (u / 2 ^ 20) 0) 0) 0 (u * 2 ^ 17 % 2 ^ 64) (u / 2 ^ 47) 0 0
     ∙ simp (xor-zero-l, xor-zero-r)
 
 -- the carry a word further
-pub next-carry : (a b c d e p q r z : ℕ) → a < 2 ^ 64 → five b (bitXor c p) (bitXor d q) (bitXor e r) z ≡ bitXor (down 64 (five a b c d e)) (five 0 p q r z)
+pub next-carry : (a b c d e p q r z : ℕ) → a < 2 ^ 64 → fiveWords b (bitXor c p) (bitXor d q) (bitXor e r) z ≡ bitXor (down 64 (fiveWords a b c d e)) (fiveWords 0 p q r z)
 unfolding num
 next-carry a b c d e p q r z l =
-    let g : down 64 (five a b c d e) ≡ five b c d e 0 =
+    let g : down 64 (fiveWords a b c d e) ≡ fiveWords b c d e 0 =
     num-down 64 4 (λ (k : ℕ). getD (a ∷ b ∷ c ∷ d ∷ e ∷ []) k 0) l ∙ simp (up-zero, xor-zero-r, xor-zero-l) in
-    sym (ap (λ (x : ℕ). bitXor x (five 0 p q r z)) g ∙ five-xor b c d e 0 0 p q r z ∙ simp (xor-zero-l, xor-zero-r))
+    sym (ap (λ (x : ℕ). bitXor x (fiveWords 0 p q r z)) g ∙ five-xor b c d e 0 0 p q r z ∙ simp (xor-zero-l, xor-zero-r))

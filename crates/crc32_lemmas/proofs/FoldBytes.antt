@@ -1,6 +1,6 @@
 -- The window of 300 bytes as a number: at the start, and read eight bytes at a time.
 -- Assumes nothing.
-use Prim.Native.Nat.{ℕ, zero, suc, _+_, _*_, _/_, _%_, _^_, _<_, _≤_}
+use Prim.Native.Nat.{ℕ, zero, suc, _+_, _-_, _*_, _/_, _%_, _^_, _<_, _≤_}
 use mathlib.Core.Path.{_≡_, refl, sym, ap, _∙_}
 use mathlib.Core.List.{List, [], _∷_}
 use native.Mathlib.Omega.{arith}
@@ -9,7 +9,7 @@ use lib.Dec.{lit≤}
 use lib.Pow.{shr-shr}
 use lib.ListN.{getD, take, drop, replicate}
 use lib.Bits.{bitXor, xor-comm, xor-shifted}
-use Rattle.crc32_lemmas.specs.Sizes.{clearedSize}
+use Rattle.crc32_lemmas.specs.Sizes.{emptiedSize, clearedSize, bufferRest}
 use Rattle.octets.specs.Lists.{All}
 use Rattle.octets.specs.Bytes.{leValue}
 use Rattle.crc32_lemmas.specs.Fold.{down, up, mix, num, numFrom, window, sparse, windowSize}
@@ -45,17 +45,17 @@ pub cleared : (v₀ v : List ℕ) → ((k : ℕ) → getD v k 0 < 2 ^ 8) → ((k
     → ((k : ℕ) → windowSize ≤ k → k < clearedSize → getD v k 0 ≡ 0) → leValue (take clearedSize v) ≡ window v₀ 0
 unfolding numFrom
 cleared v₀ v h p z =
-    value-num clearedSize v h ∙ num-cut windowSize 168 (λ (k : ℕ). getD v k 0) z
+    value-num clearedSize v h ∙ num-cut windowSize (clearedSize - windowSize) (λ (k : ℕ). getD v k 0) z
     ∙ num-ext 8 windowSize (λ (k : ℕ). getD v k 0) (λ (k : ℕ). getD v₀ (0 + k) 0) (λ k m. p k m ∙ ap (λ (i : ℕ). getD v₀ i 0) (sym (zero-add k)))
 
-pub window-end : (v : List ℕ) → ((k : ℕ) → getD v k 0 < 2 ^ 8) → down 2400 (window v 0) ≡ 0
+pub window-end : (v : List ℕ) → ((k : ℕ) → getD v k 0 < 2 ^ 8) → down (8 * windowSize) (window v 0) ≡ 0
 unfolding numFrom
 window-end v h = num-past 8 windowSize windowSize (λ (k : ℕ). getD v (0 + k) 0) (λ k. h (0 + k)) (lit≤ tt)
 
-pub mix-end : (x : ℕ) → down 2400 x ≡ 0 → down (8 * 304) (mix sparse 8 x) ≡ 0
+pub mix-end : (x : ℕ) → down (8 * windowSize) x ≡ 0 → down (8 * emptiedSize) (mix sparse 8 x) ≡ 0
 unfolding down
 mix-end x e =
-    sym (mix-down sparse 8 2432 x) ∙ ap (mix sparse 8) (sym (shr-shr x 2400 32) ∙ ap (λ (y : ℕ). y / 2 ^ 32) e) ∙ mix-zero sparse 8
+    sym (mix-down sparse 8 (8 * emptiedSize) x) ∙ ap (mix sparse 8) (sym (shr-shr x (8 * windowSize) (8 * (emptiedSize - windowSize))) ∙ ap (λ (y : ℕ). y / 2 ^ (8 * (emptiedSize - windowSize))) e) ∙ mix-zero sparse 8
 
 -- ---- eight bytes
 drop-value : (i : ℕ) (v : List ℕ) → ((k : ℕ) → getD v k 0 < 256) → leValue (drop i v) ≡ down (8 * i) (leValue v)
@@ -93,12 +93,12 @@ bytes-back x a b c d l p q r t =
     let e₁ : b + 256 * (c + 256 * d) ≡ x / 2 ^ 8 = omega arith in
     omega arith
 
-pub start-window : (x a b c d : ℕ) → ((k : ℕ) → getD (a ∷ b ∷ c ∷ d ∷ replicate 1320 0) k 0 < 2 ^ 8) → x < 2 ^ 32
-    → a + 256 * (b + 256 * (c + 256 * (d + 0))) ≡ x → mix sparse 8 (window (a ∷ b ∷ c ∷ d ∷ replicate 1320 0) 0) ≡ x
+pub start-window : (x a b c d : ℕ) → ((k : ℕ) → getD (a ∷ b ∷ c ∷ d ∷ replicate bufferRest 0) k 0 < 2 ^ 8) → x < 2 ^ 32
+    → a + 256 * (b + 256 * (c + 256 * (d + 0))) ≡ x → mix sparse 8 (window (a ∷ b ∷ c ∷ d ∷ replicate bufferRest 0) 0) ≡ x
 unfolding All
 start-window x a b c d h l e =
     ap (mix sparse 8)
-    (window-value (a ∷ b ∷ c ∷ d ∷ noughts 1320) h
-    ∙ ap (λ (y : ℕ). a + 256 * (b + 256 * (c + 256 * (d + 256 * y)))) (none 296 1320)
+    (window-value (a ∷ b ∷ c ∷ d ∷ noughts bufferRest) h
+    ∙ ap (λ (y : ℕ). a + 256 * (b + 256 * (c + 256 * (d + 256 * y)))) (none (windowSize - 4) bufferRest)
     ∙ e)
     ∙ mix-small 32 8 x l sparse (lit≤ tt, (lit≤ tt, (lit≤ tt, tt)))

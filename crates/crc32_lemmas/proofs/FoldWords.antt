@@ -11,11 +11,11 @@ use lib.Pow.{pow-mono, pow-pos}
 use lib.ListN.{length, getD, set, length-set, replicate, length-replicate}
 use lib.Seq.{getD-set-same, getD-set-other}
 use lib.Bits.{bitXor, xor-mod, xor-zero-r}
-use Rattle.crc32_lemmas.specs.Sizes.{bufferSize}
+use Rattle.crc32_lemmas.specs.Sizes.{bufferSize, windowLast}
 use Rattle.octets.specs.Lists.{All}
-use Rattle.crc32_lemmas.specs.Fold.{down, up, mix, spread, taps, num, numFrom, window, left, lowest, added, sparse, Words, windowSize}
+use Rattle.crc32_lemmas.specs.Fold.{down, up, mix, spread, taps, num, numFrom, window, remainderFrom, lowest, added, sparse, Words, windowSize}
 use Rattle.crc32_lemmas.proofs.Sparse.{Spreads, down-add, mix-down, mix-xor, bytes-spread}
-use Rattle.crc32_lemmas.proofs.Left.{At, left-fold}
+use Rattle.crc32_lemmas.proofs.Remainder.{At, remainder-fold}
 use Rattle.crc32_lemmas.proofs.Joined.{up-zero, down-places, num-ext, num-zero, num-down, num-low, num-top, num-drop}
 
 abbrev Within : ℕ → List ℕ → Type 0
@@ -56,36 +56,36 @@ module _ (b n : ℕ) (f : ℕ → ℕ) (j : ℕ) (h : (k : ℕ) → f k < 2 ^ b)
 module _ (ks : List ℕ) (b n : ℕ) (q : Within n ks) (e : Spreads ks (8 * b) (8 * b) (8 * b * n)) (f : ℕ → ℕ) (j : ℕ) (h : (k : ℕ) → f k < 2 ^ (8 * b)) where
   pub mix-turn : (s : List ℕ) (i w : ℕ) → At s i b w → 8 * b * n + 8 * b ≤ 8 * (length s - (i + b))
       → (g : ℕ → ℕ) → Pushed n f g j (bitXor (lowest ks f j) w)
-      → left s i (mix ks (8 * b) (numFrom (8 * b) (suc n) f j)) ≡ left s (i + b) (mix ks (8 * b) (numFrom (8 * b) (suc n) g (j + 1)))
+      → remainderFrom s i (mix ks (8 * b) (numFrom (8 * b) (suc n) f j)) ≡ remainderFrom s (i + b) (mix ks (8 * b) (numFrom (8 * b) (suc n) g (j + 1)))
   unfolding spread
   mix-turn s i w a l g p =
       let c : ℕ = 8 * b in
       let x : ℕ = numFrom c (suc n) f j in
       let u : ℕ = bitXor (lowest ks f j) w in
-      left-fold ks c b (c * n) e s i w (mix ks c x) a l
-      ∙ ap₂ (λ (y z : ℕ). left s (i + b) (bitXor y (mix ks c (up (c * n) (bitXor z w))))) (sym (mix-down ks c c x)) (mix-low c n f j h ks q)
-      ∙ ap (left s (i + b)) (sym (mix-xor ks c (down c x) (up (c * n) u)) ∙ ap (mix ks c) (sym (pushed c n f j h g u p)))
+      remainder-fold ks c b (c * n) e s i w (mix ks c x) a l
+      ∙ ap₂ (λ (y z : ℕ). remainderFrom s (i + b) (bitXor y (mix ks c (up (c * n) (bitXor z w))))) (sym (mix-down ks c c x)) (mix-low c n f j h ks q)
+      ∙ ap (remainderFrom s (i + b)) (sym (mix-xor ks c (down c x) (up (c * n) u)) ∙ ap (mix ks c) (sym (pushed c n f j h g u p)))
 
 -- ---- the window of 300 bytes in v
 abbrev bytes : List ℕ → ℕ → ℕ
 bytes v k = getD v k 0
 
 module _ (v : List ℕ) (j : ℕ) (h : (k : ℕ) → getD v k 0 < 2 ^ 8) (l : j + windowSize < length v) where
-  window-push : (u : ℕ) → Pushed 299 (bytes v) (bytes (set v (j + windowSize) u)) j u
+  window-push : (u : ℕ) → Pushed windowLast (bytes v) (bytes (set v (j + windowSize) u)) j u
   window-push u =
-      let e : j + 1 + 299 ≡ j + windowSize = omega arith in (
+      let e : j + 1 + windowLast ≡ j + windowSize = omega arith in (
         (λ k m.
             let o : j + 1 + k ≡ j + suc k = omega arith in
             getD-set-other v (j + windowSize) (j + 1 + k) u 0 (λ q. omega arith) ∙ ap (bytes v) o),
         ap (bytes (set v (j + windowSize) u)) e ∙ getD-set-same v (j + windowSize) u 0 l,
       )
 
-  pub bytes-turn : (s : List ℕ) (i w : ℕ) → At s i 1 w → i + 301 ≤ length s
-      → left s i (mix sparse 8 (window v j)) ≡ left s (i + 1) (mix sparse 8 (window (set v (j + windowSize) (bitXor (added v j) w)) (j + 1)))
+  pub bytes-turn : (s : List ℕ) (i w : ℕ) → At s i 1 w → i + 1 + windowSize ≤ length s
+      → remainderFrom s i (mix sparse 8 (window v j)) ≡ remainderFrom s (i + 1) (mix sparse 8 (window (set v (j + windowSize) (bitXor (added v j) w)) (j + 1)))
   unfolding All
   bytes-turn s i w a b =
       let u : ℕ = bitXor (added v j) w in
-      mix-turn sparse 1 299 (lit≤ tt, (lit≤ tt, (lit≤ tt, tt))) bytes-spread (bytes v) j h s i w a (omega arith) (bytes (set v (j + windowSize) u)) (window-push u)
+      mix-turn sparse 1 windowLast (lit≤ tt, (lit≤ tt, (lit≤ tt, tt))) bytes-spread (bytes v) j h s i w a (omega arith) (bytes (set v (j + windowSize) u)) (window-push u)
 
 -- ---- the window moved to the front
 module _ (v₀ v : List ℕ) (n j : ℕ) (h : Words 8 bufferSize v) (p : (k : ℕ) → k < j → getD v k 0 ≡ getD v₀ (n + k) 0) (q : (k : ℕ) → j ≤ k → getD v k 0 ≡ getD v₀ k 0) (l : j < bufferSize) where

@@ -1,7 +1,7 @@
 pub mod Tabulate
 pub mod Sparse
 pub mod Steps
-pub mod Left
+pub mod Remainder
 pub mod Joined
 pub mod FoldBits
 pub mod FoldWords

@@ -13,6 +13,7 @@ use lib.Bits.{bitXor, xor-shr, xor-self, xor-zero-l}
 use Rattle.octets.specs.Lists.{All}
 use Rattle.crc32.specs.Crc.{poly, shiftBit, shiftBits}
 use Rattle.crc32_lemmas.specs.Fold.{down, up, taps, mix, spread, sparse, sparser, pastWord, ringSize, windowSize}
+use Rattle.crc32_lemmas.specs.Sizes.{windowLast, ringLast}
 use Rattle.crc32.proofs.Xor.{xor-assoc, xor-swap, bit-lt, too-big}
 use Rattle.crc32.proofs.Linear.{shiftBits-linear, shiftBits-high, shiftBits-add}
 
@@ -166,11 +167,11 @@ pub bits-spread : Spreads sparse 1 64 pastWord
 unfolding All
 bits-spread = ((lit≤ tt, (lit≤ tt, (lit≤ tt, tt))), sparse-multiple)
 
-pub bytes-spread : Spreads sparse 8 8 2392
+pub bytes-spread : Spreads sparse 8 8 (8 * windowLast)
 unfolding All
 bytes-spread = ((lit≤ tt, (lit≤ tt, (lit≤ tt, tt))), to-8 sparse windowSize sparse-multiple)
 
-pub ring-spread : Spreads sparser 32 32 96160
+pub ring-spread : Spreads sparser 32 32 (32 * ringLast)
 unfolding All
 ring-spread = ((lit≤ tt, (lit≤ tt, tt)), double sparser ringSize 16 (double sparser ringSize 8 (to-8 sparser ringSize sparser-multiple)))
 

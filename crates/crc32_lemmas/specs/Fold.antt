@@ -97,8 +97,8 @@ abbrev pub added : List ℕ → ℕ → ℕ
 added v j = lowest sparse (λ (k : ℕ). getD v k 0) j
 
 -- the remainder of s from i on, with x added to it
-unfoldable pub left : List ℕ → ℕ → ℕ → ℕ
-left s i x = shiftBits (8 * (length s - i)) (bitXor x (leValue (drop i s)))
+unfoldable pub remainderFrom : List ℕ → ℕ → ℕ → ℕ
+remainderFrom s i x = shiftBits (8 * (length s - i)) (bitXor x (leValue (drop i s)))
 
 -- n words of b bits
 abbrev pub Words : ℕ → ℕ → List ℕ → Type 0

@@ -7,12 +7,24 @@ use Rattle.crc32_lemmas.specs.Fold.{windowSize, ringSize, lowRingPower, 
 abbrev pub carrySize : ℕ
 carrySize = 5 * 8
 
+-- and with a word before them, which can then be folded
+abbrev pub wordAndCarry : ℕ
+wordAndCarry = 8 + carrySize
+
 -- how many bytes are folded before the window is moved back, and a buffer for both
 abbrev pub roundSize : ℕ
 roundSize = 1024
 
 abbrev pub bufferSize : ℕ
 bufferSize = windowSize + roundSize
+
+-- what is left of it after the four bytes of a state
+abbrev pub bufferRest : ℕ
+bufferRest = bufferSize - 4
+
+-- the place of the window's last byte
+abbrev pub windowLast : ℕ
+windowLast = windowSize - 1
 
 -- the window in whole words of 64 bits, and how far what is added to them reaches
 abbrev pub emptiedSize : ℕ
@@ -27,6 +39,10 @@ ringBuffer = ringSize + 1
 
 abbrev pub ringBytes : ℕ
 ringBytes = 4 * ringSize
+
+-- the place of the ring's last word
+abbrev pub ringLast : ℕ
+ringLast = ringSize - 1
 
 -- how far before a word the two others stand that are added to it, where they are a round behind
 abbrev pub lowBack : ℕ

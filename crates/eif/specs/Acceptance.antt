@@ -46,3 +46,11 @@ pub record MeetsRules (s : List ℕ) : Type 0 where
   pub has-metadata : versionOf s ≡ metadataVersion → Present s metadata (countOf s)
   -- 13
   pub right-checksum : checksum (viewOf s) ≡ checksumOf s
+
+-- ---- byte p of a file is in a section: in its own header or in its data
+
+pub record InSection (s : List ℕ) (p : ℕ) : Type 0 where
+  pub place : ℕ
+  pub used : place < countOf s
+  pub not-before : offsetAt s place ≤ p
+  pub not-after : p < endAt s place

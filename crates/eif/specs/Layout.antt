@@ -68,6 +68,13 @@ sectionFlagsAt = 2
 abbrev pub sectionSizeAt : ℕ
 sectionSizeAt = 4
 
+-- ---- sections one after the other
+
+-- where section i starts, packed from the header's end, where sections have these sizes; at their number: how long such an image is
+unfoldable pub packedBy : (ℕ → ℕ) → ℕ → ℕ
+packedBy sizes zero = headerSize
+packedBy sizes (suc i) = packedBy sizes i + sectionHeaderSize + sizes i
+
 -- ---- what the rules look at
 
 -- A file as the rules see it: its size, the numbers in its header and what each section's own header says.

@@ -1,5 +1,5 @@
 -- The order of the refusals that FORMAT.md gives for each call, as lists: every rule at every section or record that it judges.
--- The chains of `Reading`, `Plan`, `Stream` and `Roll` have the shape of the code, these lists that of the paper. That each verdict is that of
+-- The chains of `Reading`, `Plan`, `Stream` and `Roll` have the shape of the code, these lists that of FORMAT.md. That each verdict is that of
 -- the first rule that applies: `eif_laws/FirstApplies`. Assumes nothing.
 use Prim.Native.Nat.{ℕ, zero, suc, _+_}
 use mathlib.Core.Bool.{Bool, true, not}

@@ -9,14 +9,14 @@ use lib.Dec.{ltb, eqb}
 use lib.ListN.{length, take, drop, getD}
 use Rattle.octets.specs.Bytes.{beBytes, beBytesEach}
 use Rattle.crc32.specs.Crc.{crc32}
-use Rattle.eif.specs.Numbers.{sizeLimit, placeCount, imageTooLong, sectionMissing, outputTooShort, dataLengthDiffers}
+use Rattle.eif.specs.Numbers.{sizeLimit, placeCount, imageTooLong, sectionMissing, dataLengthDiffers}
 use Rattle.octets.specs.Logic.{choose}
-use Rattle.eif.specs.Answers.{refuse, andThen, wholeVerdict, beside}
+use Rattle.eif.specs.Answers.{andThen, wholeVerdict}
 use Rattle.eif.specs.Rules.{fieldFault, typeFault, missing, firstFault}
 use Rattle.eif.specs.Table.{filled, joinFrom}
-use Rattle.eif.specs.Layout.{magicNumber, headerSize, sectionHeaderSize, viewOf, reserved, reservedAfter, countOf, offsetAt, sizeAt, entrySize}
+use Rattle.eif.specs.Layout.{magicNumber, viewOf, reserved, reservedAfter, countOf, offsetAt, sizeAt, entrySize, packedBy}
 use Rattle.eif.specs.Reading.{verdictOf, dataOf, sectionIn}
-use Rattle.eif.specs.Output.{outputFor}
+use Rattle.eif.specs.Output.{roomVerdict, writtenFor, outputFor}
 use Rattle.eif.specs.declared.Section.{Section}
 use Rattle.eif.specs.declared.Reading.{Reading}
 use Rattle.eif.specs.declared.Place.{Place}
@@ -39,10 +39,9 @@ plannedKind l i = placeAt l i .kind
 abbrev pub plannedSize : List Place → ℕ → ℕ
 plannedSize l i = placeAt l i .length .0
 
--- where section i starts, packed from the header's end; at the count: how long the image is
-unfoldable pub packedAt : List Place → ℕ → ℕ
-packedAt l zero = headerSize
-packedAt l (suc i) = packedAt l i + sectionHeaderSize + plannedSize l i
+-- where section i starts; at the count: how long the image is
+abbrev pub packedAt : List Place → ℕ → ℕ
+packedAt l i = packedBy (plannedSize l) i
 
 -- how much data the sections before i have; at the count: the plan's sum of lengths
 unfoldable pub dataBefore : List Place → ℕ → ℕ
@@ -77,8 +76,7 @@ planVerdict p given =
 -- all, for so many bytes of data and of room
 unfoldable pub writeVerdict : Plan → ℕ → ℕ → Verdict
 writeVerdict p given room =
-    andThen (planVerdict p given)
-    (choose (ltb room (plainSize p)) (refuse outputTooShort 0) Accepted)
+    andThen (planVerdict p given) (roomVerdict room (plainSize p))
 
 -- ---- the plain image
 
@@ -127,9 +125,6 @@ plainImage p given =
     headerBytes p ++ (beBytes 4 (crc32 (headerBytes p ++ bodyBytes p given)) ++ bodyBytes p given)
 
 -- ---- the answer and the output
-
-abbrev pub writtenFor : Verdict → ℕ → Written
-writtenFor verdict size = record { verdict = verdict; length = beside verdict size 0 }
 
 unfoldable pub writeAnswer : Plan → ℕ → ℕ → Written
 writeAnswer p given room = writtenFor (writeVerdict p given room) (plainSize p)

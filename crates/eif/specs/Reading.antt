@@ -149,10 +149,17 @@ unfoldable pub markOf : List Section → ℕ
 markOf [] = 0
 markOf (x ∷ xs) = ramdiskBit x + 2 * markOf xs
 
+-- how many ramdisks are in a list whose elements have types
+unfoldable pub ramdisksIn : {A : Type 0} → (A → ℕ) → List A → ℕ
+ramdisksIn kindOf [] = 0
+ramdisksIn kindOf (x ∷ xs) = ramdiskIn (kindOf x) + ramdisksIn kindOf xs
+
+abbrev pub sectionKind : Section → ℕ
+sectionKind x = x .kind
+
 -- the number of ramdisks of a section list
-unfoldable pub ramdiskCount : List Section → ℕ
-ramdiskCount [] = 0
-ramdiskCount (x ∷ xs) = ramdiskBit x + ramdiskCount xs
+abbrev pub ramdiskCount : List Section → ℕ
+ramdiskCount l = ramdisksIn sectionKind l
 
 -- the place of its first ramdisk, or where there is none the number of its places
 unfoldable pub firstRamdisk : List Section → ℕ

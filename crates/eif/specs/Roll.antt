@@ -7,15 +7,14 @@ use mathlib.Core.Path.{_≡_}
 use lib.Dec.{ltb, leb, eqb}
 use lib.ListN.{length, replicate, take, drop}
 use Rattle.octets.specs.Bytes.{leField, leBytes}
-use Rattle.eif.specs.Numbers.{sizeLimit, placeCount, ramdisk, imageTooLong, wrongCount, sectionMissing, outputTooShort, recordCut, recordTypeWrong, bytesAfterEnd}
+use Rattle.eif.specs.Numbers.{sizeLimit, placeCount, ramdisk, imageTooLong, wrongCount, sectionMissing, recordCut, recordTypeWrong, bytesAfterEnd}
 use Rattle.octets.specs.Logic.{both, either, choose}
 use Rattle.eif.specs.Answers.{refuse, refuseAt, andThen}
 use Rattle.eif.specs.Rules.{bootType, orderFault, bootMissing}
 use Rattle.eif.specs.Table.{filled}
-use Rattle.eif.specs.Layout.{headerSize, sectionHeaderSize, headerFlagsOf}
+use Rattle.eif.specs.Layout.{headerFlagsOf, packedBy}
 use Rattle.eif.specs.Reading.{sectionsOf, dataOf, verdictOf}
-use Rattle.eif.specs.Output.{outputFor}
-use Rattle.eif.specs.Plan.{writtenFor}
+use Rattle.eif.specs.Output.{roomVerdict, writtenFor, outputFor}
 use Rattle.eif.specs.declared.Section.{Section}
 use Rattle.eif.specs.declared.RollRecord.{RollRecord}
 use Rattle.eif.specs.declared.RollReading.{RollReading}
@@ -68,18 +67,19 @@ rollOf (r ∷ rs) = headOf (length (r .bytes)) (r .kind) ++ (r .bytes ++ rollOf 
 
 -- ---- the roll of an image
 
-abbrev pub recordFor : List ℕ → Section → Record
-recordFor s x = record { kind = x .kind; bytes = dataOf s x }
+-- what a section's data is, is given by a function
+abbrev pub recordFor : (Section → List ℕ) → Section → Record
+recordFor held x = record { kind = x .kind; bytes = held x }
 
 -- the type and the data of every kernel, command line and ramdisk, in file order
-unfoldable pub recordsIn : List ℕ → List Section → List Record
-recordsIn s [] = []
-recordsIn s (x ∷ xs) =
-    let rest = recordsIn s xs in
-    choose (bootType (x .kind)) (recordFor s x ∷ rest) rest
+unfoldable pub recordsBy : (Section → List ℕ) → List Section → List Record
+recordsBy held [] = []
+recordsBy held (x ∷ xs) =
+    let rest = recordsBy held xs in
+    choose (bootType (x .kind)) (recordFor held x ∷ rest) rest
 
 abbrev pub recordsOf : List ℕ → List Record
-recordsOf s = recordsIn s (sectionsOf s)
+recordsOf s = recordsBy (dataOf s) (sectionsOf s)
 
 unfoldable pub rollBytes : List ℕ → List ℕ
 rollBytes s = flagsRecord (headerFlagsOf s) ++ rollOf (recordsOf s)
@@ -104,8 +104,7 @@ pub record Begins (x y : List ℕ) : Type 0 where
 
 unfoldable pub rollVerdict : List ℕ → ℕ → Verdict
 rollVerdict s room =
-    andThen (verdictOf s)
-    (choose (ltb room (length (rollBytes s))) (refuse outputTooShort 0) Accepted)
+    andThen (verdictOf s) (roomVerdict room (length (rollBytes s)))
 
 unfoldable pub rollAnswer : List ℕ → ℕ → Written
 rollAnswer s room = writtenFor (rollVerdict s room) (length (rollBytes s))
@@ -179,9 +178,8 @@ endFrom s (suc n) i =
     choose (eqb (headFault s i) 0) (choose (isEnd s i) (ended i) judged) (stopped (headFault s i) i)
 
 -- what the records before i would take in an image, with its header
-unfoldable pub sizeAsImage : List ℕ → ℕ → ℕ
-sizeAsImage s zero = headerSize
-sizeAsImage s (suc i) = sizeAsImage s i + sectionHeaderSize + recordSize s i
+abbrev pub sizeAsImage : List ℕ → ℕ → ℕ
+sizeAsImage s i = packedBy (recordSize s) i
 
 -- the rules 18, 12 and 1 on a roll whose end record is record n
 unfoldable pub rollFault : List ℕ → ℕ → ℕ

@@ -5,11 +5,12 @@ use Prim.Native.Nat.{ℕ, zero, suc, _+_, _-_}
 use mathlib.Core.Path.{_≡_, refl}
 use mathlib.Core.List.{List, [], _∷_, _++_, map}
 use lib.ListN.{length, replicate, take}
+use Rattle.eif.specs.Layout.{packedBy}
+use Rattle.eif.specs.Table.{inTable}
 use Rattle.octets.specs.Bytes.{leField}
-use Rattle.eif.specs.Numbers.{placeCount}
 use Rattle.eif.specs.Answers.{refuseAt}
 use Rattle.eif.specs.Rules.{seen, orderFault, missing}
-use Rattle.eif.specs.Roll.{rollOf, headOf, flagsRecord, flagsFault, readRest, readRoll, refusedRoll, acceptedRoll, blankRecord, endFrom, recordAt, headFault, bodyFault, sizeAsImage, rollFault}
+use Rattle.eif.specs.Roll.{rollOf, headOf, flagsRecord, flagsFault, readRest, readRoll, refusedRoll, acceptedRoll, blankRecord, endFrom, recordAt, headFault, bodyFault, rollFault}
 use Rattle.eif.specs.declared.RollRecord.{RollRecord}
 use Rattle.eif.specs.declared.RollReading.{RollReading}
 
@@ -18,8 +19,8 @@ pub record Row : Type 0 where
   pub answer : RollReading
 
 -- the records of the worked roll
-abbrev flags : List ℕ
-flags = flagsRecord 0
+abbrev noFlags : List ℕ
+noFlags = flagsRecord 0
 
 abbrev kernelRecord : List ℕ
 kernelRecord = headOf 1 1 ++ (0x4b ∷ [])
@@ -34,23 +35,23 @@ abbrev endRecord : List ℕ
 endRecord = headOf 0 0
 
 -- 42 bytes that FORMAT.md prints, which follow the flags record
-abbrev rest : List ℕ
-rest =
+abbrev workedRest : List ℕ
+workedRest =
     0x01 ∷ 0x00 ∷ 0x00 ∷ 0x00 ∷ 0x00 ∷ 0x00 ∷ 0x00 ∷ 0x00 ∷ 0x01 ∷ 0x00 ∷ 0x4b
     ∷ 0x01 ∷ 0x00 ∷ 0x00 ∷ 0x00 ∷ 0x00 ∷ 0x00 ∷ 0x00 ∷ 0x00 ∷ 0x02 ∷ 0x00 ∷ 0x61
     ∷ 0x00 ∷ 0x00 ∷ 0x00 ∷ 0x00 ∷ 0x00 ∷ 0x00 ∷ 0x00 ∷ 0x00 ∷ 0x03 ∷ 0x00
     ∷ 0x00 ∷ 0x00 ∷ 0x00 ∷ 0x00 ∷ 0x00 ∷ 0x00 ∷ 0x00 ∷ 0x00 ∷ 0x00 ∷ 0x00 ∷ []
 
 -- with a flags record of no flag
-abbrev pub worked : List ℕ
-worked = 0x02 ∷ 0x00 ∷ 0x00 ∷ 0x00 ∷ 0x00 ∷ 0x00 ∷ 0x00 ∷ 0x00 ∷ 0x00 ∷ 0x01 ∷ 0x00 ∷ 0x00 ∷ rest
+abbrev pub workedRoll : List ℕ
+workedRoll = 0x02 ∷ 0x00 ∷ 0x00 ∷ 0x00 ∷ 0x00 ∷ 0x00 ∷ 0x00 ∷ 0x00 ∷ 0x00 ∷ 0x01 ∷ 0x00 ∷ 0x00 ∷ workedRest
 
 -- type, data position and length of a record
 abbrev listedRecord : ℕ → ℕ → ℕ → RollRecord
 listedRecord kind position size = record { kind = kind; position = record { 0 = position }; length = record { 0 = size } }
 
 abbrev acceptedWith : List RollRecord → RollReading
-acceptedWith records = acceptedRoll 0 (length records) (records ++ replicate (placeCount - length records) blankRecord)
+acceptedWith records = acceptedRoll 0 (length records) (inTable blankRecord records)
 
 abbrev refusedWith : ℕ → ℕ → ℕ → RollReading
 refusedWith number index position = refusedRoll (refuseAt number index position)
@@ -62,26 +63,26 @@ row roll answer = record { roll = roll; answer = answer }
 -- command line exchanged; R7 ramdisk first; R8 kernel twice; R9 first type 4; R10 type 0 with length 1; R11 length of eight ff
 abbrev pub rollRows : List Row
 rollRows =
-    row flags (refusedWith 16 1 12)
-    ∷ row (flags ++ replicate 10 0) (refusedWith 12 0 0)
-    ∷ row worked (acceptedWith (listedRecord 1 22 1 ∷ listedRecord 2 33 1 ∷ listedRecord 3 44 0 ∷ []))
-    ∷ row (take 53 worked) (refusedWith 16 4 44)
-    ∷ row (worked ++ (0 ∷ [])) (refusedWith 18 0 54)
-    ∷ row (flags ++ commandLineRecord ++ kernelRecord ++ ramdiskRecord ++ endRecord) (acceptedWith (listedRecord 2 22 1 ∷ listedRecord 1 33 1 ∷ listedRecord 3 44 0 ∷ []))
-    ∷ row (flags ++ ramdiskRecord ++ kernelRecord ++ commandLineRecord ++ endRecord) (refusedWith 10 1 12)
-    ∷ row (flags ++ kernelRecord ++ rest) (refusedWith 11 2 23)
-    ∷ row (flags ++ headOf 1 4 ++ (0x4b ∷ []) ++ commandLineRecord ++ ramdiskRecord ++ endRecord) (refusedWith 17 1 12)
-    ∷ row (flags ++ headOf 1 0 ++ (0x4b ∷ []) ++ commandLineRecord ++ ramdiskRecord ++ endRecord) (refusedWith 17 1 12)
-    ∷ row (flags ++ replicate 8 0xff ++ (1 ∷ 0 ∷ [])) (refusedWith 16 1 12)
+    row noFlags (refusedWith 16 1 12)
+    ∷ row (noFlags ++ replicate 10 0) (refusedWith 12 0 0)
+    ∷ row workedRoll (acceptedWith (listedRecord 1 22 1 ∷ listedRecord 2 33 1 ∷ listedRecord 3 44 0 ∷ []))
+    ∷ row (take 53 workedRoll) (refusedWith 16 4 44)
+    ∷ row (workedRoll ++ (0 ∷ [])) (refusedWith 18 0 54)
+    ∷ row (noFlags ++ commandLineRecord ++ kernelRecord ++ ramdiskRecord ++ endRecord) (acceptedWith (listedRecord 2 22 1 ∷ listedRecord 1 33 1 ∷ listedRecord 3 44 0 ∷ []))
+    ∷ row (noFlags ++ ramdiskRecord ++ kernelRecord ++ commandLineRecord ++ endRecord) (refusedWith 10 1 12)
+    ∷ row (noFlags ++ kernelRecord ++ workedRest) (refusedWith 11 2 23)
+    ∷ row (noFlags ++ headOf 1 4 ++ (0x4b ∷ []) ++ commandLineRecord ++ ramdiskRecord ++ endRecord) (refusedWith 17 1 12)
+    ∷ row (noFlags ++ headOf 1 0 ++ (0x4b ∷ []) ++ commandLineRecord ++ ramdiskRecord ++ endRecord) (refusedWith 17 1 12)
+    ∷ row (noFlags ++ replicate 8 0xff ++ (1 ∷ 0 ∷ [])) (refusedWith 16 1 12)
     ∷ []
 
 -- a flags record, kernel, command line and thirty empty ramdisks; and what is listed of these ramdisks
-abbrev repeated : ℕ → List ℕ → List ℕ
-repeated zero x = []
-repeated (suc n) x = x ++ repeated n x
+abbrev copies : ℕ → List ℕ → List ℕ
+copies zero x = []
+copies (suc n) x = x ++ copies n x
 
-abbrev full : List ℕ
-full = flags ++ kernelRecord ++ commandLineRecord ++ repeated 30 ramdiskRecord
+abbrev fullRoll : List ℕ
+fullRoll = noFlags ++ kernelRecord ++ commandLineRecord ++ copies 30 ramdiskRecord
 
 abbrev ramdisksFrom : ℕ → ℕ → List RollRecord
 ramdisksFrom zero at = []
@@ -92,27 +93,27 @@ ramdisksFrom (suc n) at = listedRecord 3 at 0 ∷ ramdisksFrom n (at + 10)
 abbrev pub flagsRows : List Row
 flagsRows =
     row [] (refusedWith 16 0 0)
-    ∷ row (take 9 worked) (refusedWith 16 0 0)
-    ∷ row rest (refusedWith 17 0 0)
+    ∷ row (take 9 workedRoll) (refusedWith 16 0 0)
+    ∷ row workedRest (refusedWith 17 0 0)
     ∷ row (replicate 10 0) (refusedWith 17 0 0)
-    ∷ row (headOf 3 256 ++ (0 ∷ 0 ∷ 0 ∷ []) ++ rest) (refusedWith 17 0 0)
+    ∷ row (headOf 3 256 ++ (0 ∷ 0 ∷ 0 ∷ []) ++ workedRest) (refusedWith 17 0 0)
     ∷ row (headOf 3 256) (refusedWith 17 0 0)
-    ∷ row (take 11 worked) (refusedWith 16 0 0)
-    ∷ row (flags ++ worked) (refusedWith 17 1 12)
+    ∷ row (take 11 workedRoll) (refusedWith 16 0 0)
+    ∷ row (noFlags ++ workedRoll) (refusedWith 17 1 12)
     ∷ row (flagsRecord 0xffff ++ kernelRecord ++ commandLineRecord ++ endRecord)
     (acceptedRoll 0xffff 2 (listedRecord 1 22 1 ∷ listedRecord 2 33 1 ∷ replicate 30 blankRecord))
     ∷ row (headOf 2 256 ++ (0x01 ∷ 0x02 ∷ []) ++ kernelRecord ++ commandLineRecord ++ endRecord)
     (acceptedRoll 0x0201 2 (listedRecord 1 22 1 ∷ listedRecord 2 33 1 ∷ replicate 30 blankRecord))
-    ∷ row (full ++ endRecord) (acceptedRoll 0 32 (listedRecord 1 22 1 ∷ listedRecord 2 33 1 ∷ ramdisksFrom 30 44))
-    ∷ row (full ++ ramdiskRecord ++ endRecord) (refusedWith 5 0 334)
+    ∷ row (fullRoll ++ endRecord) (acceptedRoll 0 32 (listedRecord 1 22 1 ∷ listedRecord 2 33 1 ∷ ramdisksFrom 30 44))
+    ∷ row (fullRoll ++ ramdiskRecord ++ endRecord) (refusedWith 5 0 334)
     ∷ []
 
 pub rows-hold : map (λ (r : Row). readRoll (r .roll)) (rollRows ++ flagsRows) ≡ map (λ (r : Row). r .answer) (rollRows ++ flagsRows)
-unfolding headOf flagsRecord flagsFault readRest readRoll endFrom recordAt leField seen orderFault missing headFault bodyFault sizeAsImage rollFault
+unfolding headOf flagsRecord flagsFault readRest readRoll endFrom recordAt leField seen orderFault missing headFault bodyFault packedBy rollFault inTable
 rows-hold = refl
 
 -- the worked roll is that of no flag, a kernel 4b, a command line 61 and an empty ramdisk
-pub worked-is : flagsRecord 0 ++ rollOf (record { kind = 1; bytes = 0x4b ∷ [] } ∷ record { kind = 2; bytes = 0x61 ∷ [] } ∷ record { kind = 3; bytes = [] } ∷ []) ≡ worked
+pub worked-is : flagsRecord 0 ++ rollOf (record { kind = 1; bytes = 0x4b ∷ [] } ∷ record { kind = 2; bytes = 0x61 ∷ [] } ∷ record { kind = 3; bytes = [] } ∷ []) ≡ workedRoll
 unfolding flagsRecord rollOf headOf
 worked-is = refl
 

@@ -1,14 +1,16 @@
 -- The three measured streams, and copying from one. Whole, Boot and App are terms of FORMAT.md, Measured streams.
 -- Assumes nothing.
-use Prim.Native.Nat.{ℕ, _+_, _-_}
+use Prim.Native.Nat.{ℕ, _+_}
 use mathlib.Core.Bool.{Bool, not}
-use mathlib.Core.List.{List, [], _∷_, _++_}
+use mathlib.Core.List.{List, [], _∷_}
 use lib.Dec.{ltb, eqb}
-use lib.ListN.{length, replicate, take, drop}
-use Rattle.eif.specs.Numbers.{placeCount, ramdisk, pastStreamEnd}
+use lib.ListN.{length, take, drop}
+use Rattle.eif.specs.Table.{inTable}
+use Rattle.eif.specs.Numbers.{ramdisk, pastStreamEnd}
+use Rattle.octets.specs.Lists.{joinedBy}
 use Rattle.octets.specs.Logic.{both, choose}
 use Rattle.eif.specs.Answers.{refuse, andThen, beside}
-use Rattle.eif.specs.Reading.{ramdiskIn, blankSection, sectionsOf, dataOf, verdictOf}
+use Rattle.eif.specs.Reading.{ramdiskIn, blankSection, sectionsOf, dataOf, verdictOf, sectionKind}
 use Rattle.eif.specs.Output.{outputFor}
 use Rattle.eif.specs.Rules.{bootType}
 use Rattle.eif.specs.declared.Section.{Section}
@@ -39,23 +41,16 @@ kept stream kindOf before (x ∷ xs) =
     let rest = kept stream kindOf (before + ramdiskIn (kindOf x)) xs in
     choose (keeps stream (kindOf x) before) (x ∷ rest) rest
 
-abbrev pub sectionKind : Section → ℕ
-sectionKind x = x .kind
-
 abbrev pub streamSections : Stream → List Section → List Section
 streamSections stream l = kept stream sectionKind 0 l
 
 -- as an answer: how many there are, and they, unused places blank; for any sections, also where these are of no image
-unfoldable pub inTable : List Section → List Section
-inTable l = l ++ replicate (placeCount - length l) blankSection
-
 unfoldable pub sectionsAnswer : Stream → List Section → StreamSections
-sectionsAnswer stream l = record { count = length (streamSections stream l); sections = inTable (streamSections stream l) }
+sectionsAnswer stream l = record { count = length (streamSections stream l); sections = inTable blankSection (streamSections stream l) }
 
 -- the data of sections, joined
-unfoldable pub sectionsData : List ℕ → List Section → List ℕ
-sectionsData s [] = []
-sectionsData s (x ∷ xs) = dataOf s x ++ sectionsData s xs
+abbrev pub sectionsData : List ℕ → List Section → List ℕ
+sectionsData s l = joinedBy (dataOf s) l
 
 -- the bytes of a stream of an image
 unfoldable pub streamOf : List ℕ → Stream → List ℕ

@@ -6,18 +6,21 @@ use Prim.Native.Nat.{ℕ}
 use mathlib.Core.Path.{_≡_, refl, ap}
 use mathlib.Core.List.{List, [], _∷_, _++_, map}
 use lib.ListN.{length, replicate, take}
+use Rattle.eif.specs.Table.{inTable}
+use Rattle.eif.specs.Output.{roomVerdict}
+use Rattle.octets.specs.Lists.{joinedBy}
 use Rattle.octets.specs.Bytes.{beValue, field}
 use Rattle.octets.specs.Over.{over}
 use Rattle.crc32.specs.Crc.{crc32, crcFrom, shiftBits, shiftBit}
 use Rattle.eif.specs.Numbers.{kernel, commandLine, ramdisk, signature}
 use Rattle.eif.specs.Rules.{allowedIn, seen, orderFault, typeFault, missing, firstFault, fieldFault}
-use Rattle.eif.specs.Answers.{refuse, refuseAt}
-use Rattle.eif.specs.Layout.{viewOf, offsetAt}
-use Rattle.eif.specs.Reading.{headerFault, entryFault, sectionFault, missingFault, tailFault, checksumFault, positionIn, judged, early, verdictIn, checksumOf, verdictOf, blankSection, sectionsOf}
-use Rattle.eif.specs.Plan.{blankPlace, planFault, planVerdict, packedAt, dataBefore, fixedFields, offsetTable, sizeTable, headerBytes, sectionHeader, sectionBytes, plainImage}
-use Rattle.eif.specs.Roll.{headOf, flagsRecord, rollOf, recordsIn, rollBytes}
-use Rattle.eif.specs.Stream.{keeps, kept, streamSections}
-use Rattle.eif.specs.Rows.{worked}
+use Rattle.eif.specs.Answers.{refuse, refuseAt, andThen}
+use Rattle.eif.specs.Layout.{viewOf, offsetAt, packedBy}
+use Rattle.eif.specs.Reading.{headerFault, entryFault, sectionFault, missingFault, tailFault, checksumFault, positionIn, judged, early, verdictIn, checksumOf, verdictOf, blankSection, sectionsOf, readingOf, markOf}
+use Rattle.eif.specs.Plan.{blankPlace, planFault, planVerdict, dataBefore, fixedFields, offsetTable, sizeTable, headerBytes, sectionHeader, sectionBytes, plainImage, writeVerdict, sizeFault, placeAt}
+use Rattle.eif.specs.Roll.{headOf, flagsRecord, rollOf, recordsBy, rollBytes, rollVerdict}
+use Rattle.eif.specs.Stream.{keeps, kept, streamSections, copyVerdict, streamOf, pastEnd}
+use Rattle.eif.specs.Rows.{workedRoll}
 use Rattle.eif.specs.declared.Place.{Place}
 use Rattle.eif.specs.declared.Plan.{Plan}
 use Rattle.eif.specs.declared.Section.{Section}
@@ -25,19 +28,23 @@ use Rattle.eif.specs.declared.Stream.the-variants.{Whole, Boot, App}
 use Rattle.eif.specs.declared.Verdict.{Verdict}
 use Rattle.eif.specs.declared.Verdict.the-variants.{Accepted}
 
-abbrev place : ℕ → ℕ → Place
-place kind size = record { kind = kind; flags = 0; length = record { 0 = size } }
+abbrev workedPlace : ℕ → ℕ → Place
+workedPlace kind size = record { kind = kind; flags = 0; length = record { 0 = size } }
 
-abbrev pub workedPlan : Plan
-workedPlan =
+-- with these places alone, and 0 in the fields that no rule judges
+abbrev planOver : ℕ → List Place → Plan
+planOver version places =
     record {
-      version = 2;
+      version = version;
       flags = 0;
       «default_mem» = 0;
       «default_cpus» = 0;
-      count = 3;
-      places = place kernel 1 ∷ place commandLine 1 ∷ place ramdisk 0 ∷ replicate 29 blankPlace;
+      count = length places;
+      places = inTable blankPlace places;
     }
+
+abbrev pub workedPlan : Plan
+workedPlan = planOver 2 (workedPlace kernel 1 ∷ workedPlace commandLine 1 ∷ workedPlace ramdisk 0 ∷ [])
 
 -- the image's bytes
 abbrev pub workedImage : List ℕ
@@ -56,7 +63,7 @@ workedImage =
     ++ 0 ∷ 3 ∷ replicate 10 0
 
 pub worked-plain : plainImage workedPlan (0x4b ∷ 0x61 ∷ []) ≡ workedImage
-unfolding crc32 crcFrom shiftBits shiftBit plainImage headerBytes fixedFields offsetTable sizeTable packedAt sectionBytes sectionHeader dataBefore
+unfolding inTable crc32 crcFrom shiftBits shiftBit plainImage headerBytes fixedFields offsetTable sizeTable packedBy sectionBytes sectionHeader dataBefore
 worked-plain = refl
 
 pub worked-length : length workedImage ≡ 586
@@ -81,24 +88,16 @@ unfolding verdictIn early judged headerFault fieldFault firstFault sectionFault 
 tail-before-checksum = refl
 
 -- version 3 with a kernel and a signature, and no command line
-abbrev incomplete : Plan
-incomplete =
-    record {
-      version = 3;
-      flags = 0;
-      «default_mem» = 0;
-      «default_cpus» = 0;
-      count = 2;
-      places = place kernel 1 ∷ place signature 1 ∷ replicate 30 blankPlace;
-    }
+abbrev incompletePlan : Plan
+incompletePlan = planOver 3 (workedPlace kernel 1 ∷ workedPlace signature 1 ∷ [])
 
-pub missing-before-tail : verdictOf (plainImage incomplete (0x4b ∷ 0x61 ∷ []) ++ 0 ∷ []) ≡ refuseAt 12 0 26
-unfolding verdictIn early judged positionIn headerFault fieldFault firstFault sectionFault entryFault allowedIn orderFault seen missingFault tailFault missing checksumFault field beValue plainImage headerBytes fixedFields offsetTable sizeTable packedAt sectionBytes sectionHeader dataBefore
+pub missing-before-tail : verdictOf (plainImage incompletePlan (0x4b ∷ 0x61 ∷ []) ++ 0 ∷ []) ≡ refuseAt 12 0 26
+unfolding verdictIn early judged positionIn headerFault fieldFault firstFault sectionFault entryFault allowedIn orderFault seen missingFault tailFault missing checksumFault field beValue plainImage headerBytes fixedFields offsetTable sizeTable packedBy sectionBytes sectionHeader dataBefore inTable
 missing-before-tail = refl
 
 -- the plan alone is at fault, and a plan has no position
-pub incomplete-plan : planVerdict incomplete 2 ≡ refuse 12 0
-unfolding planVerdict fieldFault firstFault typeFault allowedIn orderFault seen planFault missing
+pub incomplete-plan : planVerdict incompletePlan 2 ≡ refuse 12 0
+unfolding planVerdict fieldFault firstFault typeFault allowedIn orderFault seen planFault missing inTable
 incomplete-plan = refl
 
 -- ---- what is refused, and where: some bytes of the image are others, from a position on
@@ -110,8 +109,8 @@ pub record RefusedImage : Type 0 where
 abbrev refusedImage : List ℕ → Verdict → RefusedImage
 refusedImage image verdict = record { image = image; verdict = verdict }
 
-abbrev changed : ℕ → List ℕ → Verdict → RefusedImage
-changed at bytes verdict = refusedImage (over workedImage at bytes) verdict
+abbrev changedImage : ℕ → List ℕ → Verdict → RefusedImage
+changedImage at bytes verdict = refusedImage (over workedImage at bytes) verdict
 
 -- the checksum's last byte is another: only the field differs, and not what it is taken over
 abbrev otherChecksum : List ℕ
@@ -121,48 +120,111 @@ otherChecksum = over workedImage 547 (0 ∷ [])
 abbrev judgedBefore13 : List RefusedImage
 judgedBefore13 =
     refusedImage (take 547 workedImage) (refuseAt 2 0 0)
-    ∷ changed 3 (0x67 ∷ []) (refuseAt 3 0 0)
-    ∷ changed 5 (5 ∷ []) (refuseAt 4 0 4)
-    ∷ changed 27 (33 ∷ []) (refuseAt 5 0 26)
-    ∷ changed 42 (2 ∷ 0x30 ∷ []) (refuseAt 6 1 36)
-    ∷ changed 42 (2 ∷ 0x32 ∷ []) (refuseAt 20 1 36)
-    ∷ changed 307 (1 ∷ []) (refuseAt 7 2 44)
-    ∷ changed 572 (2 ∷ []) (refuseAt 8 1 561)
-    ∷ changed 562 (6 ∷ []) (refuseAt 9 1 561)
-    ∷ changed 549 (3 ∷ []) (refuseAt 10 0 548)
-    ∷ changed 575 (1 ∷ []) (refuseAt 11 2 574)
-    ∷ changed 562 (3 ∷ []) (refuseAt 12 0 26)
+    ∷ changedImage 3 (0x67 ∷ []) (refuseAt 3 0 0)
+    ∷ changedImage 5 (5 ∷ []) (refuseAt 4 0 4)
+    ∷ changedImage 27 (33 ∷ []) (refuseAt 5 0 26)
+    ∷ changedImage 42 (2 ∷ 0x30 ∷ []) (refuseAt 6 1 36)
+    ∷ changedImage 42 (2 ∷ 0x32 ∷ []) (refuseAt 20 1 36)
+    ∷ changedImage 307 (1 ∷ []) (refuseAt 7 2 44)
+    ∷ changedImage 572 (2 ∷ []) (refuseAt 8 1 561)
+    ∷ changedImage 562 (6 ∷ []) (refuseAt 9 1 561)
+    ∷ changedImage 549 (3 ∷ []) (refuseAt 10 0 548)
+    ∷ changedImage 575 (1 ∷ []) (refuseAt 11 2 574)
+    ∷ changedImage 562 (3 ∷ []) (refuseAt 12 0 26)
     ∷ refusedImage (workedImage ++ 0 ∷ []) (refuseAt 20 0 586)
     ∷ []
 
 -- these and 13
-abbrev pub refusals : List RefusedImage
-refusals = judgedBefore13 ++ refusedImage otherChecksum (refuseAt 13 0 544) ∷ []
+abbrev pub refusedImages : List RefusedImage
+refusedImages = judgedBefore13 ++ refusedImage otherChecksum (refuseAt 13 0 544) ∷ []
 
-pub refusals-hold : map (λ (r : RefusedImage). verdictOf (r .image)) refusals ≡ map (λ (r : RefusedImage). r .verdict) refusals
+pub refusals-hold : map (λ (r : RefusedImage). verdictOf (r .image)) refusedImages ≡ map (λ (r : RefusedImage). r .verdict) refusedImages
 unfolding over verdictIn early judged positionIn headerFault fieldFault firstFault sectionFault entryFault allowedIn orderFault seen missingFault tailFault missing checksumFault field beValue checksumOf
 refusals-hold = ap (λ (sum : ℕ). map (λ (r : RefusedImage). verdictOf (r .image)) judgedBefore13 ++ verdictIn (viewOf otherChecksum) sum ∷ []) worked-checksum
 
-abbrev read : ℕ → ℕ → ℕ → Section
-read kind position size = record { kind = kind; flags = 0; position = record { 0 = position }; length = record { 0 = size } }
+abbrev pub workedSection : ℕ → ℕ → ℕ → Section
+workedSection kind position size = record { kind = kind; flags = 0; position = record { 0 = position }; length = record { 0 = size } }
 
-pub worked-sections : sectionsOf workedImage ≡ read kernel 560 1 ∷ read commandLine 573 1 ∷ read ramdisk 586 0 ∷ replicate 29 blankSection
+pub worked-sections : sectionsOf workedImage ≡ workedSection kernel 560 1 ∷ workedSection commandLine 573 1 ∷ workedSection ramdisk 586 0 ∷ replicate 29 blankSection
 unfolding field beValue
 worked-sections = refl
 
-pub worked-roll : rollBytes workedImage ≡ worked
-unfolding rollBytes flagsRecord rollOf headOf recordsIn field beValue
+pub worked-roll : rollBytes workedImage ≡ workedRoll
+unfolding rollBytes flagsRecord rollOf headOf recordsBy field beValue
 worked-roll = refl
 
 -- ---- streams in file order: of kernel, two ramdisks and then the command line
 
-abbrev late : List Section
-late = read kernel 560 1 ∷ read ramdisk 573 2 ∷ read ramdisk 587 3 ∷ read commandLine 602 4 ∷ replicate 28 blankSection
+abbrev lateSections : List Section
+lateSections = workedSection kernel 560 1 ∷ workedSection ramdisk 573 2 ∷ workedSection ramdisk 587 3 ∷ workedSection commandLine 602 4 ∷ replicate 28 blankSection
 
 pub late-streams :
-    map (λ stream. streamSections stream late) (Whole ∷ Boot ∷ App ∷ [])
-    ≡ (read kernel 560 1 ∷ read ramdisk 573 2 ∷ read ramdisk 587 3 ∷ read commandLine 602 4 ∷ [])
-    ∷ (read kernel 560 1 ∷ read ramdisk 573 2 ∷ read commandLine 602 4 ∷ [])
-    ∷ (read ramdisk 587 3 ∷ []) ∷ []
+    map (λ stream. streamSections stream lateSections) (Whole ∷ Boot ∷ App ∷ [])
+    ≡ (workedSection kernel 560 1 ∷ workedSection ramdisk 573 2 ∷ workedSection ramdisk 587 3 ∷ workedSection commandLine 602 4 ∷ [])
+    ∷ (workedSection kernel 560 1 ∷ workedSection ramdisk 573 2 ∷ workedSection commandLine 602 4 ∷ [])
+    ∷ (workedSection ramdisk 587 3 ∷ []) ∷ []
 unfolding kept keeps
 late-streams = refl
+
+-- ---- what writer, roll writer and copier refuse
+
+-- a kernel of so many bytes that the image is one byte longer than the longest
+abbrev longPlan : Plan
+longPlan = planOver 2 (workedPlace kernel 1073741253 ∷ workedPlace commandLine 0 ∷ [])
+
+pub writes-refused :
+    writeVerdict workedPlan 2 585 ∷ writeVerdict workedPlan 3 586 ∷ writeVerdict workedPlan 3 0 ∷ writeVerdict longPlan 0 0 ∷ []
+    ≡ refuse 14 0 ∷ refuse 15 0 ∷ refuse 15 0 ∷ refuse 1 0 ∷ []
+unfolding inTable writeVerdict planVerdict fieldFault firstFault typeFault allowedIn orderFault seen planFault sizeFault missing packedBy dataBefore
+writes-refused = refl
+
+pub roll-refused : rollVerdict workedImage 53 ≡ refuse 14 0
+unfolding rollVerdict rollBytes flagsRecord rollOf headOf recordsBy field beValue
+roll-refused = ap (λ (v : Verdict). andThen v (roomVerdict 53 (length (rollBytes workedImage)))) worked-accepted
+
+pub copy-refused : copyVerdict workedImage Whole 3 ≡ refuse 19 0
+unfolding copyVerdict streamOf kept keeps joinedBy field beValue
+copy-refused = ap (λ (v : Verdict). andThen v (pastEnd (streamOf workedImage Whole) 3)) worked-accepted
+
+-- ---- the fields that no rule judges: each has another value, so that none is taken for another, and every flag but the architecture's is set
+
+abbrev markedPlan : Plan
+markedPlan =
+    record {
+      version = 2;
+      flags = 0xfffe;
+      «default_mem» = 0x1112131415161718;
+      «default_cpus» = 0x2122232425262728;
+      count = 3;
+      places =
+          record { kind = kernel; flags = 0x0304; length = record { 0 = 1 } } ∷ workedPlace commandLine 1 ∷ workedPlace ramdisk 0
+          ∷ replicate 29 blankPlace;
+    }
+
+-- the start of its image, and of its first section's header
+pub fields-written : fixedFields markedPlan ++ sectionHeader (placeAt (markedPlan .places) 0)
+    ≡ 0x2e ∷ 0x65 ∷ 0x69 ∷ 0x66 ∷ 0 ∷ 2 ∷ 0xff ∷ 0xfe ∷ 0x11 ∷ 0x12 ∷ 0x13 ∷ 0x14 ∷ 0x15 ∷ 0x16 ∷ 0x17 ∷ 0x18
+    ∷ 0x21 ∷ 0x22 ∷ 0x23 ∷ 0x24 ∷ 0x25 ∷ 0x26 ∷ 0x27 ∷ 0x28 ∷ 0 ∷ 0 ∷ 0 ∷ 3 ∷ 0 ∷ 1 ∷ 3 ∷ 4 ∷ 0 ∷ 0 ∷ 0 ∷ 0 ∷ 0 ∷ 0 ∷ 0 ∷ 1 ∷ []
+unfolding fixedFields sectionHeader
+fields-written = refl
+
+-- the worked image with these bytes
+abbrev markedImage : List ℕ
+markedImage = over (over workedImage 0 (fixedFields markedPlan)) 548 (sectionHeader (placeAt (markedPlan .places) 0))
+
+pub fields-read : readingOf (viewOf markedImage) Accepted
+    ≡ record {
+      verdict = Accepted;
+      version = 2;
+      flags = 0xfffe;
+      architecture = 0;
+      «default_mem» = 0x1112131415161718;
+      «default_cpus» = 0x2122232425262728;
+      count = 3;
+      sections =
+          record { kind = 1; flags = 0x0304; position = record { 0 = 560 }; length = record { 0 = 1 } }
+          ∷ workedSection 2 573 1 ∷ workedSection 3 586 0 ∷ replicate 29 blankSection;
+      «ramdisk_mark» = 4;
+    }
+unfolding over fixedFields sectionHeader field beValue markOf
+fields-read = refl

@@ -1,5 +1,5 @@
 // The Enclave Image File: its vocabulary. The definitions that all contracts cite stand in specs/; docs/FORMAT.md has the same
-// rules in words. Nothing here computes but the section type's own tests.
+// rules in words. The code here is a section type's own tests, and how a refusal is made.
 ghost use mathlib.Core.Path.{_≡_};
 ghost use Rattle.eif.specs.Answers.{refuse, refuseAt};
 ghost use Rattle.eif.specs.Rules.{bootType, allowedIn};

@@ -7,8 +7,7 @@
 ghost use mathlib.Core.Path.{_≡_};
 ghost use Prim.Native.Nat.{_+_, _≤_};
 ghost use lib.ListN.{length};
-ghost use Rattle.eif.specs.Roll.{recordHeadSize};
-ghost use Rattle.assembler.specs.Records.{pieceSize, numberSize};
+ghost use Rattle.assembler.specs.Records.{pieceSize, dataAt};
 use assembler::PIECE_SIZE;
 use assembler::PieceRecord;
 use assembler::State;
@@ -68,8 +67,8 @@ struct Came {
 }
 
 fn read_record(sent: &mut [u8]) -> Came
-    requires { ⌜ length (now sent) ≡ recordHeadSize + numberSize + pieceSize + 1 ⌝ }
-    ensures { λ r. ⌜ r .count ≤ recordHeadSize + numberSize + pieceSize + 1 ⌝ }
+    requires { ⌜ length (now sent) ≡ dataAt + pieceSize + 1 ⌝ }
+    ensures { λ r. ⌜ r .count ≤ dataAt + pieceSize + 1 ⌝ }
 {
     let head = read_to(sent, 0, RecordHead::SIZE);
     if head < RecordHead::SIZE {

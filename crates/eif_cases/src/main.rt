@@ -1,5 +1,9 @@
 // Runs cases of reading an image, one line each: what was done to an image, and the reader's answer. Section types are FORMAT.md's numbers.
 use case_images::Shape;
+use case_images::WORKED_SIZE;
+use case_lines::labelled;
+use case_lines::say;
+use case_lines::text;
 use eif::Header;
 use eif::Reading;
 use eif::Section;
@@ -61,34 +65,14 @@ fn put_pair(image: &mut [u8], version: u16, first: u16, second: u16) {
 
 // ---- answers
 
-fn text(bytes: &[u8]) {
-    io::write_all(libc::STDOUT_FILENO, bytes);
-}
-
-fn number(n: u64) {
-    io::print_decimal(libc::STDOUT_FILENO, n);
-}
-
-fn refusal(verdict: Verdict) {
-    let said = case_lines::answer(verdict);
-    let bytes = said.bytes;
-    let length = said.length;
-    text(&bytes[..length]);
-}
-
-fn field(name: &[u8], n: u64) {
-    text(name);
-    number(n);
-}
-
 fn fields(reading: Reading) {
-    field(b"version ", reading.version as u64);
-    field(b" flags ", reading.flags as u64);
-    field(b" architecture ", reading.architecture as u64);
-    field(b" memory ", reading.default_mem);
-    field(b" cpus ", reading.default_cpus);
-    field(b" count ", reading.count as u64);
-    field(b" ramdisks ", reading.ramdisk_mark as u64);
+    labelled(b"version ", reading.version as u64);
+    labelled(b" flags ", reading.flags as u64);
+    labelled(b" architecture ", reading.architecture as u64);
+    labelled(b" memory ", reading.default_mem);
+    labelled(b" cpus ", reading.default_cpus);
+    labelled(b" count ", reading.count as u64);
+    labelled(b" ramdisks ", reading.ramdisk_mark as u64);
 }
 
 // Every place of the table, used or not, but for those that are all zero.
@@ -117,11 +101,11 @@ fn is_blank(section: Section) -> bool {
 }
 
 fn row(i: u64, section: Section) {
-    field(b"\n  ", i);
-    field(b" type ", section.kind as u64);
-    field(b" flags ", section.flags as u64);
-    field(b" position ", section.position.0);
-    field(b" length ", section.length.0);
+    labelled(b"\n  ", i);
+    labelled(b" type ", section.kind as u64);
+    labelled(b" flags ", section.flags as u64);
+    labelled(b" position ", section.position.0);
+    labelled(b" length ", section.length.0);
 }
 
 fn answer(label: &[u8], image: &[u8]) {
@@ -131,7 +115,7 @@ fn answer(label: &[u8], image: &[u8]) {
     text(b": ");
     match verdict {
         Verdict::Accepted => fields(reading),
-        Verdict::Refused(_) => refusal(verdict),
+        Verdict::Refused(_) => say(verdict),
     }
     let sections = reading.sections;
     rows(sections);
@@ -140,7 +124,7 @@ fn answer(label: &[u8], image: &[u8]) {
 
 // The worked example with two changes, its checksum mended.
 fn small_twice(label: &[u8], a: Change, b: Change) {
-    let mut image = [0u8; 586];
+    let mut image = [0u8; WORKED_SIZE];
     put_worked(&mut image);
     changed(label, &mut image, a, b);
 }
@@ -176,7 +160,7 @@ fn paired(label: &[u8], version: u16, first: u16, second: u16) {
 
 // The worked example with a change after its checksum was put.
 fn after_checksum(label: &[u8], a: Change) {
-    let mut image = [0u8; 586];
+    let mut image = [0u8; WORKED_SIZE];
     put_worked(&mut image);
     make(&mut image, a);
     answer(label, &image);
@@ -186,7 +170,7 @@ fn after_checksum(label: &[u8], a: Change) {
 
 // The checksum with its lowest bit turned, and run over its own field as four zeros.
 fn wrong_sums() {
-    let mut image = [0u8; 586];
+    let mut image = [0u8; WORKED_SIZE];
     put_worked(&mut image);
     let sum = octets::be32(&image, Header::CHECKSUM_AT);
     octets::put_be32(&mut image, Header::CHECKSUM_AT, sum ^ 1);
@@ -203,16 +187,16 @@ fn zeros_counted(image: &mut [u8]) {
 
 // Only the beginning of the worked example.
 fn cut(label: &[u8], size: usize) {
-    let mut image = [0u8; 586];
+    let mut image = [0u8; WORKED_SIZE];
     put_worked(&mut image);
-    if size <= 586 {
+    if size <= WORKED_SIZE {
         answer(label, &image[0..size]);
     }
 }
 
 // One byte after the last section of the worked example, counted by the checksum.
 fn tail(label: &[u8]) {
-    let mut image = [0u8; 587];
+    let mut image = [0u8; WORKED_SIZE + 1];
     put_worked(&mut image);
     case_images::put_checksum(&mut image);
     answer(label, &image);
@@ -237,7 +221,7 @@ fn missing_or_checksum() {
 }
 
 fn tail_wrong_checksum() {
-    let mut image = [0u8; 587];
+    let mut image = [0u8; WORKED_SIZE + 1];
     put_worked(&mut image);
     octets::put_be32(&mut image, Header::CHECKSUM_AT, 0);
     answer(b"a byte after the last section, and 13", &image);
@@ -255,8 +239,8 @@ fn gap(label: &[u8]) {
 // ---- the cases
 
 fn of_the_rules() {
-    cut(b"the worked example", 586);
-    cut(b"547 bytes", 547);
+    cut(b"the worked example", WORKED_SIZE);
+    cut(b"547 bytes", Header::SIZE - 1);
     cut(b"no bytes", 0);
     small(b"count 1", 26, 2, 1);
     small(b"count 33", 26, 2, 33);

@@ -245,10 +245,10 @@ then-room (Refused r) c w = refl
 
 module _ (p : Plan) where
   -- the data has another length than the plan says
-  abbrev differs : ℕ → Bool
-  differs given = not (eqb given (dataBefore (p .places) (p .count)))
+  abbrev dataDiffers : ℕ → Bool
+  dataDiffers given = not (eqb given (dataBefore (p .places) (p .count)))
 
-  plan-then : (given : ℕ) → planVerdict p given ≡ andThen (firstThatApplies (planRules p)) (choose (differs given) (refuse dataLengthDiffers 0) Accepted)
+  plan-then : (given : ℕ) → planVerdict p given ≡ andThen (firstThatApplies (planRules p)) (choose (dataDiffers given) (refuse dataLengthDiffers 0) Accepted)
   unfolding planVerdict fieldFault planFault sizeFault planRules firstThatApplies
   plan-then given =
       let kinds : ℕ → ℕ = plannedKind (p .places) in
@@ -261,9 +261,9 @@ module _ (p : Plan) where
       let v : Bool = not (versionKnown (p .version)) in
       let n : Bool = not (countKnown (p .count)) in
       let fields : Verdict = wholeVerdict (choose v wrongVersion (choose n wrongCount 0)) in
-      ap (λ (x : Verdict). andThen fields (andThen walk x)) (plan-by m l (differs given))
-      ∙ then-then fields walk (firstThatApplies last) (choose (differs given) (refuse dataLengthDiffers 0) Accepted)
-      ∙ ap (λ (x : Verdict). andThen x (choose (differs given) (refuse dataLengthDiffers 0) Accepted))
+      ap (λ (x : Verdict). andThen fields (andThen walk x)) (plan-by m l (dataDiffers given))
+      ∙ then-then fields walk (firstThatApplies last) (choose (dataDiffers given) (refuse dataLengthDiffers 0) Accepted)
+      ∙ ap (λ (x : Verdict). andThen x (choose (dataDiffers given) (refuse dataLengthDiffers 0) Accepted))
       (sym
       (ap (λ (x : Verdict). choose v (refuse wrongVersion 0) (choose n (refuse wrongCount 0) x))
       (first-append sections last ∙ ap (λ (x : Verdict). andThen x (firstThatApplies last)) (walk-first (λ v. v) refl (λ v w. refl) types (typeFault (p .version) kinds) (λ i. type-first (p .version) kinds i 0) (p .count) 0))
@@ -274,8 +274,8 @@ module _ (p : Plan) where
   write-first given room =
       let o : Bool = ltb room (plainSize p) in
       ap (λ (x : Verdict). andThen x (choose o (refuse outputTooShort 0) Accepted)) (plan-then given)
-      ∙ then-room (firstThatApplies (planRules p)) (differs given) (choose o (refuse outputTooShort 0) Accepted)
-      ∙ sym (first-append (planRules p) (rule (differs given) dataLengthDiffers 0 0 ∷ rule o outputTooShort 0 0 ∷ []))
+      ∙ then-room (firstThatApplies (planRules p)) (dataDiffers given) (choose o (refuse outputTooShort 0) Accepted)
+      ∙ sym (first-append (planRules p) (rule (dataDiffers given) dataLengthDiffers 0 0 ∷ rule o outputTooShort 0 0 ∷ []))
 
   -- the length of a plan's image
   pub plan-length-first : planLength p .verdict ≡ firstThatApplies (planRules p)

@@ -1,13 +1,18 @@
--- The section list of an accepted image's reading: what the table and each section's own header say, and blank places after.
+-- The section list of an accepted image's reading: what the table and each section's own header say, and blank places after. And no
+-- byte of an accepted image is outside its header and its sections.
 -- Assumes nothing.
-use Prim.Native.Nat.{ℕ, _<_, _≤_}
+use Prim.Native.Nat.{ℕ, _<_, _≤_, zero, suc}
 use mathlib.Core.Path.{_≡_, ap, _∙_}
 use mathlib.Core.List.{List}
-use lib.ListN.{getD}
+use lib.ListN.{getD, length}
+use mathlib.Core.Logic.{_⊎_, inl, inr, ⊎-elim}
+use native.Mathlib.Omega.{arith}
+use Rattle.eif_lemmas.proofs.Accept.{sound-at, file-ends}
+use Rattle.octets.proofs.Over.{le-or-lt}
 use Rattle.eif.specs.Numbers.{placeCount}
-use Rattle.eif.specs.Layout.{countOf}
+use Rattle.eif.specs.Layout.{countOf, headerSize, startAt}
 use Rattle.eif.specs.Reading.{verdictOf, sectionAt, sectionsOf, blankSection, readImage}
-use Rattle.eif.specs.Acceptance.{MeetsRules}
+use Rattle.eif.specs.Acceptance.{MeetsRules, InSection}
 use Rattle.eif.specs.declared.Reading.{Reading}
 use Rattle.eif.specs.declared.Section.{Section}
 use Rattle.eif.specs.declared.Verdict.the-variants.{Accepted}
@@ -30,3 +35,20 @@ module _ (s : List ℕ) (meets : MeetsRules s) where
   -- and an unused one nothing
   pub unused-place : (i : ℕ) → countOf s ≤ i → getD (readImage s .sections) i blankSection ≡ blankSection
   unused-place i h = listed-as i blankSection (filled-past (sectionAt s) blankSection placeCount (countOf s) i h)
+
+-- ---- no hidden room
+
+module _ (s : List ℕ) (ok : verdictOf s ≡ Accepted) (p : ℕ) where
+  up-to : (n : ℕ) → n ≤ countOf s → p < startAt s n → (p < headerSize) ⊎ InSection s p
+  up-to zero h b = inl b
+  up-to (suc n) h b =
+      ⊎-elim
+      (λ (a : startAt s n ≤ p).
+      let e = sound-at s ok n h .starts in
+      inr (record { place = n; used = h; not-before = omega arith; not-after = b }))
+      (λ (a : p < startAt s n). up-to n (omega arith) a)
+      (le-or-lt (startAt s n) p)
+
+  -- every byte of an accepted image is in its header or in a section
+  pub every-byte : p < length s → (p < headerSize) ⊎ InSection s p
+  every-byte h = up-to (countOf s) (omega arith) (omega (arith, file-ends s ok))

@@ -10,3 +10,4 @@ pub mod Agree
 pub mod Mark
 pub mod Flags
 pub mod RollEnd
+pub mod Room

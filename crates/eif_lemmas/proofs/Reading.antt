@@ -1,4 +1,5 @@
--- The steps of reading: all rules but 13 from what each step before answered, then 13; and what a reading's verdict is.
+-- The steps of reading: all rules but 13 from what each step before answered, then 13; what a reading's verdict is; and what one
+-- has that accepts.
 -- Assumes nothing.
 use Prim.Native.Nat.{ℕ, _<_}
 use mathlib.Core.Path.{_≡_, refl, sym, ap, _∙_}
@@ -7,8 +8,8 @@ use borrow.Author.Tests.{lt-ltb, eq-eqb, ne-eqb}
 use Rattle.eif.specs.Numbers.{sizeLimit, imageTooLong, checksumDiffers}
 use Rattle.eif.specs.Answers.{refuse, refuseAt}
 use Rattle.eif.specs.Rules.{firstFault}
-use Rattle.eif.specs.Layout.{checksumAt, View, viewOf, count, checksum}
-use Rattle.eif.specs.Reading.{headerFault, sectionFault, checksumFault, positionIn, located, judged, early, verdictIn, verdictOf, blankReading, readingOf, readView, readImage}
+use Rattle.eif.specs.Layout.{checksumAt, View, viewOf, count, checksum, countOf, headerFlagsOf}
+use Rattle.eif.specs.Reading.{headerFault, sectionFault, checksumFault, positionIn, located, judged, early, verdictIn, verdictOf, blankReading, readingOf, readView, readImage, sectionsOf}
 use Rattle.eif.specs.declared.Reading.{Reading}
 use Rattle.eif.specs.declared.Refusal.{Refusal}
 use Rattle.eif.specs.declared.Verdict.{Verdict}
@@ -69,3 +70,12 @@ module _ (s : List ℕ) (r : Reading) (is : r ≡ readImage s) where
 
     pub reading-is : r ≡ readingOf (viewOf s) Accepted
     reading-is = is ∙ reading-accepted s told-accepted
+
+    pub flags-are : r .flags ≡ headerFlagsOf s
+    flags-are = ap (λ (x : Reading). x .flags) reading-is
+
+    pub count-is : r .count ≡ countOf s
+    count-is = ap (λ (x : Reading). x .count) reading-is
+
+    pub sections-are : r .sections ≡ sectionsOf s
+    sections-are = ap (λ (x : Reading). x .sections) reading-is

@@ -1,14 +1,16 @@
 -- Laws of a table whose first places are used, over any element.
 -- Assumes nothing.
-use Prim.Native.Nat.{ℕ, zero, suc, _+_, _<_, _≤_}
+use Prim.Native.Nat.{ℕ, zero, suc, _+_, _<_, _≤_, _-_}
 use mathlib.Core.Path.{_≡_, refl, sym, ap, ap₂, _∙_}
 use mathlib.Core.List.{List, [], _∷_}
 use native.Mathlib.Omega.{arith}
 use native.Mathlib.Numerals.{add-one}
 use native.Mathlib.Nat.{not-suc-le-zero, le-of-suc-le-suc, le-trans}
-use lib.ListN.{length, getD, set, replicate, length-replicate}
+use lib.ListN.{length, getD, set, replicate, length-replicate, take}
+use lib.Seq.{take-at}
+use Rattle.eif.specs.Numbers.{placeCount}
 use Rattle.octets.specs.Lists.{All}
-use Rattle.eif.specs.Table.{filled}
+use Rattle.eif.specs.Table.{filled, inTable}
 
 pub filled-none {ℓ} : {A : Type ℓ} (f : ℕ → A) (d : A) (m : ℕ) → filled f d m 0 ≡ replicate m d
 filled-none f d zero = refl
@@ -65,3 +67,9 @@ unfolding All
 all-at P [] i d h a = absurd (omega arith)
 all-at P (x ∷ xs) zero d h a = a .0
 all-at P (x ∷ xs) (suc i) d h a = all-at P xs i d (omega arith) (a .1)
+
+-- ---- a list in a table of 32 places
+
+pub take-table : {A : Type 0} (d : A) (l : List A) → take (length l) (inTable d l) ≡ l
+unfolding inTable
+take-table d l = take-at l (replicate (placeCount - length l) d) (length l) refl

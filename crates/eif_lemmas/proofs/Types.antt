@@ -1,14 +1,43 @@
--- The rules on section types, 10, 11 and 12, one earlier section after the other; and that the types alone decide.
+-- What no roll holds and no stream keeps. The rules on section types, 10, 11 and 12, one earlier section after the other; and that the types
+-- alone decide.
 -- Assumes nothing.
 use Prim.Native.Nat.{ℕ, zero, suc, _<_}
-use mathlib.Core.Path.{_≡_, refl, ap₂}
-use mathlib.Core.Bool.{Bool, true}
+use mathlib.Core.Path.{_≡_, refl, sym, ap, ap₂, _∙_}
+use mathlib.Core.Bool.{Bool, true, false}
 use native.Mathlib.Omega.{arith}
 use borrow.Author.Tests.{eq-eqb, ne-eqb}
 use lib.Dec.{eqb}
+use mathlib.Core.List.{List, []}
+use lib.ListN.{replicate}
+use Rattle.eif.specs.declared.Section.{Section}
+use Rattle.eif.specs.Reading.{blankSection}
+use Rattle.eif.specs.Roll.{recordsBy}
 use Rattle.eif.specs.Numbers.{kernel, commandLine, ramdisk, metadata, ramdiskBeforeKernel, typeRepeated}
 use Rattle.octets.specs.Logic.{either}
-use Rattle.eif.specs.Rules.{seen, orderFault, bootMissing, missing}
+use Rattle.octets.proofs.Logic.{not-both}
+use Rattle.eif.specs.Rules.{bootType, seen, orderFault, bootMissing, missing}
+use Rattle.eif.specs.Stream.{keeps}
+use Rattle.eif.specs.declared.Stream.{Stream}
+use Rattle.eif.specs.declared.Stream.the-variants.{Whole, Boot, App}
+
+-- ---- a type that no roll holds
+
+-- is no ramdisk's
+pub not-ramdisk : (kind : ℕ) → bootType kind ≡ false → eqb kind ramdisk ≡ false
+not-ramdisk kind e = ne-eqb kind ramdisk (λ z. not-both (sym e ∙ ap bootType z))
+
+-- and no stream keeps it
+pub not-kept : (stream : Stream) (kind before : ℕ) → bootType kind ≡ false → keeps stream kind before ≡ false
+unfolding keeps
+not-kept Whole kind before e = e
+not-kept Boot kind before e = simp e
+not-kept App kind before e = simp (not-ramdisk kind e)
+
+-- so an unused place has no record
+pub no-records : (held : Section → List ℕ) (m : ℕ) → recordsBy held (replicate m blankSection) ≡ []
+unfolding recordsBy
+no-records held zero = refl
+no-records held (suc m) = no-records held m
 
 -- ---- the rules 10 and 11
 

@@ -33,6 +33,11 @@ pub then-same : (a b x y : Verdict) → a ≡ b → (b ≡ Accepted → x ≡ y)
 then-same a Accepted x y e h = ap (λ (v : Verdict). andThen v x) e ∙ h refl
 then-same a (Refused r) x y e h = ap (λ (v : Verdict). andThen v x) e
 
+-- a test that refuses, and what comes then
+pub then-choose : (b : Bool) (r : Refusal) (w : Verdict) → andThen (choose b (Refused r) Accepted) w ≡ choose b (Refused r) w
+then-choose true r w = refl
+then-choose false r w = refl
+
 -- where a test would refuse, what is accepted fails it
 pub refused-not : (b : Bool) (r : Refusal) (v : Verdict) → choose b (Refused r) v ≡ Accepted → (b ≡ false) × (v ≡ Accepted)
 refused-not true r v e = never r e

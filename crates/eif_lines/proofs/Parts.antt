@@ -24,34 +24,34 @@ abbrev pub rowAt : List Section → ℕ → List ℕ
 rowAt sections i = rowLine i (getD sections i blankSection)
 
 -- the rows from an index on, of the first so many sections
-abbrev pub rest : List Section → ℕ → ℕ → List ℕ
-rest sections count i = rowLines i (drop i (take count sections))
+abbrev pub rowsFrom : List Section → ℕ → ℕ → List ℕ
+rowsFrom sections count i = rowLines i (drop i (take count sections))
 
 module _ (sections : List Section) (count i : ℕ) (fits : count ≤ length sections) where
-  pub rest-next : i < count → rest sections count i ≡ rowAt sections i ++ rest sections count (suc i)
+  pub rows-next : i < count → rowsFrom sections count i ≡ rowAt sections i ++ rowsFrom sections count (suc i)
   unfolding rowLines
-  rest-next h =
+  rows-next h =
       let n = length-take-le count sections fits in
       ap (rowLines i) (drop-cons (take count sections) i blankSection (omega arith))
       ∙ ap (λ (s : Section). rowLine i s ++ rowLines (suc i) (drop (suc i) (take count sections))) (getD-take count sections i blankSection h)
 
-  pub rest-none : count ≤ i → rest sections count i ≡ []
+  pub rows-none : count ≤ i → rowsFrom sections count i ≡ []
   unfolding rowLines
-  rest-none h =
+  rows-none h =
       let n = length-take-le count sections fits in
       let past : length (take count sections) ≤ i = omega arith in
       ap (rowLines i) (drop-of-length-le (take count sections) past)
 
-  pub rest-size : i < count → length (rest sections count i) ≡ length (rowAt sections i) + length (rest sections count (suc i))
-  rest-size h = ap length (rest-next h) ∙ length-append (rowAt sections i) (rest sections count (suc i))
+  pub rows-size : i < count → length (rowsFrom sections count i) ≡ length (rowAt sections i) + length (rowsFrom sections count (suc i))
+  rows-size h = ap length (rows-next h) ∙ length-append (rowAt sections i) (rowsFrom sections count (suc i))
 
-  pub rest-over : i < count → (d : List ℕ) (at : ℕ)
-      → over (over d at (rowAt sections i)) (at + length (rowAt sections i)) (rest sections count (suc i)) ≡ over d at (rest sections count i)
-  rest-over h d at = sym (over-append d at (rowAt sections i) (rest sections count (suc i))) ∙ ap (over d at) (sym (rest-next h))
+  pub rows-over : i < count → (d : List ℕ) (at : ℕ)
+      → over (over d at (rowAt sections i)) (at + length (rowAt sections i)) (rowsFrom sections count (suc i)) ≡ over d at (rowsFrom sections count i)
+  rows-over h d at = sym (over-append d at (rowAt sections i) (rowsFrom sections count (suc i))) ∙ ap (over d at) (sym (rows-next h))
 
-  pub rest-done : count ≤ i → (d : List ℕ) (at : ℕ) → over d at (rest sections count i) ≡ d
+  pub rows-done : count ≤ i → (d : List ℕ) (at : ℕ) → over d at (rowsFrom sections count i) ≡ d
   unfolding over
-  rest-done h d at = ap (over d at) (rest-none h)
+  rows-done h d at = ap (over d at) (rows-none h)
 
 -- ---- a text in the buffer
 
@@ -77,12 +77,12 @@ abbrev pub text : List ℕ → ℕ → Text
 text b n = record { bytes = b; length = n }
 
 module _ (z t b : List ℕ) (n : ℕ) (empty : z ≡ replicate roomSize 0) (put : b ≡ over z 0 t) (ended : n ≡ length t) (fits : n ≤ roomSize) where
-  pub filled : text b n ≡ inBuffer t
+  pub text-filled : text b n ≡ inBuffer t
   unfolding inBuffer zeros
-  filled = ap₂ text (put ∙ over-zeros roomSize z t empty (omega arith)) ended
+  text-filled = ap₂ text (put ∙ over-zeros roomSize z t empty (omega arith)) ended
 
-  pub filled-counts : Counts n b
+  pub text-counts : Counts n b
   unfolding zeros
-  filled-counts =
+  text-counts =
       let l : length b ≡ roomSize = ap length put ∙ length-over z 0 t ∙ ap length empty ∙ length-zeros roomSize in
       (omega arith, sym (length-take-le n b (omega arith)))

@@ -38,8 +38,8 @@ numberThen n text = decimalText n ++ text
 
 -- ---- the words of the lines
 
-abbrev pub blank : List ℕ
-blank = 32 ∷ []
+abbrev pub space : List ℕ
+space = 32 ∷ []
 
 abbrev pub lineFeed : List ℕ
 lineFeed = 10 ∷ []
@@ -69,9 +69,9 @@ tableOffset s = s .position .0 - sectionHeaderSize
 -- INDEX TYPE OFFSET SIZE
 unfoldable pub rowLine : ℕ → Section → List ℕ
 rowLine i s =
-    numberThen i blank
-    ++ (numberThen (s .kind) blank
-    ++ (numberThen (tableOffset s) blank
+    numberThen i space
+    ++ (numberThen (s .kind) space
+    ++ (numberThen (tableOffset s) space
     ++ numberThen (s .length .0) lineFeed))
 
 -- a row for each section of a list; the first has the given index
@@ -81,7 +81,7 @@ rowLines i (s ∷ rest) = rowLine i s ++ rowLines (suc i) rest
 
 -- eif VERSION COUNT
 unfoldable pub headLine : ℕ → ℕ → List ℕ
-headLine version count = eifWord ++ (numberThen version blank ++ numberThen count lineFeed)
+headLine version count = eifWord ++ (numberThen version space ++ numberThen count lineFeed)
 
 -- refused NUMBER at INDEX byte POSITION, and a text after it
 unfoldable pub refusalThen : Refusal → List ℕ → List ℕ

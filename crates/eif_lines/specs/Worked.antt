@@ -1,12 +1,12 @@
 -- Numbers in decimal, and the lines of small readings, by computation. Assumes nothing.
-use Prim.Native.Nat.{ℕ, _-_}
+use Prim.Native.Nat.{_-_}
 use mathlib.Core.Path.{_≡_, refl}
 use mathlib.Core.List.{[], _∷_, map}
 use lib.ListN.{length, replicate}
+use Rattle.eif.specs.Worked.{workedSection}
 use Rattle.eif.specs.Numbers.{placeCount, kernel, commandLine}
 use Rattle.eif.specs.Reading.{blankSection, blankReading}
 use Rattle.eif.specs.Answers.{refuseAt}
-use Rattle.eif.specs.declared.Section.{Section}
 use Rattle.eif.specs.declared.Reading.{Reading}
 use Rattle.eif.specs.declared.Verdict.the-variants.{Accepted}
 use Rattle.eif_lines.specs.Lines.{digitsBy, digitCount, decimalText, numberThen, rowLine, rowLines, headLine, refusalThen, acceptedLines, linesOf, mostDigits}
@@ -22,12 +22,9 @@ longest-decimal : length (decimalText 18446744073709551615) ≡ mostDigits
 unfolding digitsBy digitCount decimalText
 longest-decimal = refl
 
-abbrev section : ℕ → ℕ → ℕ → Section
-section kind position size = record { kind = kind; flags = 0; position = record { 0 = position }; length = record { 0 = size } }
-
 -- an image of version 2 with a kernel of one byte and an empty command line
-abbrev small : Reading
-small =
+abbrev smallReading : Reading
+smallReading =
     record {
       verdict = Accepted;
       version = 2;
@@ -36,14 +33,14 @@ small =
       «default_mem» = 0;
       «default_cpus» = 0;
       count = 2;
-      sections = section kernel 560 1 ∷ section commandLine 573 0 ∷ replicate (placeCount - 2) blankSection;
+      sections = workedSection kernel 560 1 ∷ workedSection commandLine 573 0 ∷ replicate (placeCount - 2) blankSection;
       «ramdisk_mark» = 0;
     }
 
 -- eif 2 2
 -- 0 1 548 1
 -- 1 2 561 0
-small-lines : linesOf small
+small-lines : linesOf smallReading
     ≡ 101 ∷ 105 ∷ 102 ∷ 32 ∷ 50 ∷ 32 ∷ 50 ∷ 10
     ∷ 48 ∷ 32 ∷ 49 ∷ 32 ∷ 53 ∷ 52 ∷ 56 ∷ 32 ∷ 49 ∷ 10
     ∷ 49 ∷ 32 ∷ 50 ∷ 32 ∷ 53 ∷ 54 ∷ 49 ∷ 32 ∷ 48 ∷ 10 ∷ []

@@ -1,4 +1,5 @@
--- What a reader gathers of an image before it is judged.
+-- What a reader gathers of an image before it is judged. That the reading of it is the image's reading is `read-parts` of
+-- proofs/Headers.antt.
 -- Assumes nothing.
 use Prim.Native.Nat.{ℕ, _+_, _*_, _<_, _≤_}
 use mathlib.Core.Path.{_≡_}

@@ -4,7 +4,7 @@ use Prim.Native.Nat.{ℕ}
 use mathlib.Core.Path.{_≡_, ap, _∙_}
 use mathlib.Core.List.{List, [], _∷_}
 use native.Mathlib.Omega.{arith}
-use lib.ListN.{getD, length}
+use lib.ListN.{getD}
 use Rattle.eif.specs.Numbers.{placeCount}
 use Rattle.eif.specs.Layout.{countOf}
 use Rattle.eif.specs.Reading.{verdictOf, sectionsOf, sectionAt, blankSection, dataOf, readImage}
@@ -19,8 +19,6 @@ use Rattle.eif_laws.proofs.FirstApplies.{read-first}
 use Rattle.eif_lemmas.proofs.Table.{length-filled}
 use Rattle.eif_lemmas.proofs.Accept.{passes}
 use Rattle.eif_lemmas.proofs.Reading.{reading-accepted}
-use Rattle.staged.proofs.Same.{joined-in}
-use Rattle.sha384_block.specs.Fips.{sha384}
 use Rattle.eif_registers.specs.Registers.{registerFrom, registerOf, imageRegisters, noRegisters, registersFor, registersAnswer, stepRegister, stepRegisters}
 use Rattle.eif_registers.specs.declared.Measurement.{Measurement}
 use Rattle.eif_registers.proofs.Hashed.{digest-joined, stream-fits}
@@ -40,10 +38,8 @@ module _ (s : List ℕ) where
     unfolding stepRegister registerOf streamOf
     register-is stream =
         let l = streamSections stream (sectionsOf s) in
-        let e = joined-in s l in
-        let n = ap length e in
         let h = stream-fits s stream (sectionsOf s) (passes s ok .head .small) (length-filled (sectionAt s) blankSection placeCount (countOf s)) in
-        ap registerFrom (digest-joined (dataOf s) l (omega arith) ∙ ap sha384 e)
+        ap registerFrom (digest-joined (dataOf s) l (omega arith))
 
     registers-are : stepRegisters (dataOf s) (sectionsOf s) ≡ imageRegisters s
     unfolding stepRegisters imageRegisters

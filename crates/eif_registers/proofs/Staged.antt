@@ -19,7 +19,7 @@ use Rattle.plain_laws.proofs.ReadBack.{long}
 use Rattle.staged.specs.Staged.{afresh, stagedVerdict}
 use Rattle.staged.specs.View.{heldBy}
 use Rattle.staged.proofs.Accept.{Stages}
-use Rattle.staged.proofs.Afresh.{parts, changedPlan, afresh-is, changed-planned}
+use Rattle.staged.proofs.Afresh.{partsJoined, changedPlan, afresh-is, changed-planned}
 use Rattle.staged.proofs.Held.{held-alone, within, stagedList, stream-is}
 use Rattle.sha384_block.specs.Fips.{sha384}
 use Rattle.sha384.specs.State.{totalLimit}
@@ -35,7 +35,7 @@ module _ (s r : List ℕ) (k : ℕ) (a : Stages s (length r) k k) where
   fresh-small =
       let w = within s r k k a in
       let e = ap length (afresh-is s r k (a .accepted)) in
-      let n = long (changedPlan s r k (a .accepted) (length r)) (parts s r k (a .accepted)) (changed-planned s r k (a .accepted) (a .replaced) w) in
+      let n = long (changedPlan s r k (a .accepted) (length r)) (partsJoined s r k (a .accepted)) (changed-planned s r k (a .accepted) (a .replaced) w) in
       omega arith
 
   fresh-fits : (stream : Stream) → length (streamOf (afresh s r k) stream) ≤ totalLimit

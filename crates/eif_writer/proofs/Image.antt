@@ -1,26 +1,20 @@
--- The header, the sections and the checksum, written one after the other, are the plain image; and the writer's answers.
+-- The header, the sections and the checksum, written one after the other, are the plain image.
 -- Assumes nothing.
-use Prim.Native.Nat.{ℕ, _+_, _<_, _≤_}
+use Prim.Native.Nat.{ℕ, _+_, _≤_}
 use mathlib.Core.Path.{_≡_, refl, sym, ap, ap₂, _∙_}
 use mathlib.Core.List.{List, _++_, append-assoc}
 use native.Mathlib.Omega.{arith}
 use native.Mathlib.Nat.{zero-add}
-use borrow.Author.Tests.{lt-ltb, le-ltb}
 use lib.ListN.{length, take, drop, length-append, length-take, length-drop}
 use lib.Seq.{take-at, drop-at}
 use Rattle.octets.specs.Bytes.{beBytes, beBytesEach}
 use Rattle.octets.specs.Over.{over}
 use Rattle.octets.proofs.Over.{over-parts, over-start, over-own, over-joined, length-over}
 use Rattle.crc32.specs.Crc.{crc32}
-use Rattle.eif.specs.Numbers.{outputTooShort}
 use Rattle.eif.specs.Layout.{headerSize, checksumAt, offsetsAt, reservedAfterAt, sizesAt, entrySize, defaultMemAt}
-use Rattle.eif.specs.Answers.{refuse}
 use Rattle.eif.specs.Reading.{checksumOf}
-use Rattle.eif.specs.Plan.{dataBefore, plainSize, fixedFields, offsetTable, sizeTable, headerBytes, bodyBytes, plainImage, planVerdict, writeVerdict, writeAnswer, writeOutput, offsetsOf, sizesOf}
+use Rattle.eif.specs.Plan.{dataBefore, plainSize, fixedFields, offsetTable, sizeTable, headerBytes, bodyBytes, plainImage, offsetsOf, sizesOf, plannedSize}
 use Rattle.eif.specs.declared.Plan.{Plan}
-use Rattle.eif.specs.declared.Refusal.{Refusal}
-use Rattle.eif.specs.declared.Written.{Written}
-use Rattle.eif.specs.declared.Verdict.the-variants.{Accepted, Refused}
 use Rattle.plain_laws.proofs.Shape.{packed-zero, length-offsets, length-sizes, length-header, length-sections}
 use Rattle.eif_writer.specs.Parts.{firstFields, nextFields, withChecksum}
 
@@ -84,7 +78,7 @@ module _ (p : Plan) (given d a b : List ℕ) (sized : length given ≡ dataBefor
 
   length-body : headerSize + length body ≡ plainSize p
   length-body =
-      ap (λ (n : ℕ). n + length body) (sym (packed-zero (p .places)))
+      ap (λ (n : ℕ). n + length body) (sym (packed-zero (plannedSize (p .places))))
       ∙ length-sections (p .places) given (p .count) sized (p .count) 0 (zero-add (p .count))
 
   module _ (e : a ≡ over d 0 head) (f : b ≡ over a headerSize body) where
@@ -136,23 +130,3 @@ module _ (p : Plan) (given d a b : List ℕ) (sized : length given ≡ dataBefor
         (over-start d (head ++ (sum ++ body)) (omega arith)
         ∙ ap (λ (n : ℕ). (head ++ (sum ++ body)) ++ drop n d) w
         ∙ simp append-assoc)
-
--- ---- the answers
-
-module _ (p : Plan) (given d : List ℕ) where
-  -- the answer is w, and the output is o
-  abbrev pub Answers : Written → List ℕ → Type 0
-  Answers w o = (w ≡ writeAnswer p (length given) (length d)) × (o ≡ writeOutput p given d)
-
-  pub refused : (r : Refusal) → planVerdict p (length given) ≡ Refused r → Answers (record { verdict = Refused r; length = 0 }) d
-  unfolding writeAnswer writeOutput writeVerdict
-  refused r e = (simp e, simp e)
-
-  module _ (ok : planVerdict p (length given) ≡ Accepted) where
-    pub short : length d < plainSize p → Answers (record { verdict = refuse outputTooShort 0; length = 0 }) d
-    unfolding writeAnswer writeOutput writeVerdict
-    short h = (simp (ok, lt-ltb _ _ h), simp (ok, lt-ltb _ _ h))
-
-    pub fine : plainSize p ≤ length d → Answers (record { verdict = Accepted; length = plainSize p }) (over d 0 (plainImage p given))
-    unfolding writeAnswer writeOutput writeVerdict
-    fine h = (simp (ok, le-ltb _ _ h), simp (ok, le-ltb _ _ h))

@@ -18,7 +18,7 @@ use Rattle.plain_laws.proofs.Shape.{packed-le, packed-suc, before-le, before-su
 module _ (l : List Place) (count i : ℕ) (h : i < count) where
   -- a section within the count ends within the limit
   pub ends-inside : packedAt l count ≤ sizeLimit → packedAt l i + sectionHeaderSize + plannedSize l i ≤ sizeLimit
-  ends-inside small = let a = packed-le l (suc i) count h in let b = packed-suc l i in omega arith
+  ends-inside small = let a = packed-le l (suc i) count h in let b = packed-suc (plannedSize l) i in omega arith
 
   -- and takes data that there is
   pub data-inside : (d : List ℕ) → length d ≡ dataBefore l count → dataBefore l i + plannedSize l i ≤ length d

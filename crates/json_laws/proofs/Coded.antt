@@ -14,21 +14,21 @@ use Rattle.octets.specs.Lists.{joined}
 use Rattle.json.specs.Verdict.{depthLimit}
 use Rattle.json_machine.specs.Table.{classes, rows}
 use Rattle.octets.specs.Logic.{both, choose}
-use Rattle.json_machine.specs.Machine.{faultEntry, stackLimit, afterOf, entryOf, Kind, goes, stops, closes, faults, opens, kindOf, bit}
+use Rattle.json_machine.specs.Machine.{firstItemMode, faultEntry, againEntry, classCount, nothingOpen, stackLimit, afterOf, entryOf, Kind, goes, stops, closes, faults, opens, kindOf, bit}
 use Rattle.octets.proofs.Lists.{valuesBelow}
 use Rattle.octets.proofs.Logic.{both-true}
 use Rattle.json_machine.proofs.Modes.{Token, Str, Mode, m-value, m-after, m-firstItem, m-firstMember, m-key, m-colon, m-token, m-string, m-name, tokenNumber, stringNumber, nameNumber}
 use Rattle.json_machine.proofs.Modes as T
 use Rattle.json_machine.proofs.Classes.{class-below}
-use Rattle.json_machine.proofs.Step.{actAt, Next, refused, at, step, modeNumber, frames, afterNumber}
+use Rattle.json_machine.proofs.Step.{actAt, Next, refused, at, nextAt, modeNumber, frames, afterNumber}
 
 -- ---- a stack of bits
 
 unfoldable pub stackOf : List Bool → ℕ
-stackOf [] = 1
+stackOf [] = nothingOpen
 stackOf (f ∷ fs) = stackOf fs * 2 + bit f
 
-bit-small : (f : Bool) → bit f < 2
+pub bit-small : (f : Bool) → bit f < 2
 bit-small false = omega arith
 bit-small true = omega arith
 
@@ -93,19 +93,19 @@ stack-room d fs e =
 
 abbrev sized : List (List ℕ) → Bool
 sized [] = true
-sized (r ∷ rs) = both (eqb (length r) 40) (sized rs)
+sized (r ∷ rs) = both (eqb (length r) classCount) (sized rs)
 
-in-row : (rs : List (List ℕ)) (n c : ℕ) → sized rs ≡ true → n < length rs → c < 40 → getD (joined rs) (n * 40 + c) 0 ≡ getD (getD rs n []) c 0
+in-row : (rs : List (List ℕ)) (n c : ℕ) → sized rs ≡ true → n < length rs → c < classCount → getD (joined rs) (n * classCount + c) 0 ≡ getD (getD rs n []) c 0
 in-row [] n c e h l = absurd (not-suc-le-zero h)
 in-row (r ∷ rs) zero c e h l =
-    let p : length r ≡ 40 = eqb-true _ _ (both-true (eqb (length r) 40) (sized rs) e .0) in
+    let p : length r ≡ classCount = eqb-true _ _ (both-true (eqb (length r) classCount) (sized rs) e .0) in
     let q : c < length r = omega arith in
-    let z : zero * 40 + c ≡ c = omega arith in
+    let z : zero * classCount + c ≡ c = omega arith in
     rw z (List·getD-append r (joined rs) 0 c q)
 in-row (r ∷ rs) (suc n) c e h l =
-    let p : length r ≡ 40 = eqb-true _ _ (both-true (eqb (length r) 40) (sized rs) e .0) in
-    let z : suc n * 40 + c ≡ length r + (n * 40 + c) = omega arith in
-    rw z (getD-append-add r (joined rs) (n * 40 + c) 0 ∙ in-row rs n c (both-true (eqb (length r) 40) (sized rs) e .1) (le-of-suc-le-suc h) l)
+    let p : length r ≡ classCount = eqb-true _ _ (both-true (eqb (length r) classCount) (sized rs) e .0) in
+    let z : suc n * classCount + c ≡ length r + (n * classCount + c) = omega arith in
+    rw z (getD-append-add r (joined rs) (n * classCount + c) 0 ∙ in-row rs n c (both-true (eqb (length r) classCount) (sized rs) e .1) (le-of-suc-le-suc h) l)
 
 unfoldable pub cell : ℕ → ℕ → ℕ
 cell n b = getD (getD rows n []) (getD classes b 0) 0
@@ -197,10 +197,6 @@ abbrev pub spotOf : Next → Spot
 spotOf refused = stopped
 spotOf (at m d fs) = spot (modeNumber m fs) d (frames m fs)
 
-first : Bool → ℕ
-first false = 1
-first true = 2
-
 abbrev pub turnSpot : Kind → ℕ → ℕ → List Bool → Spot
 turnSpot goes a d fs = spot a d fs
 turnSpot stops a d fs = spot (afterNumber fs) d fs
@@ -208,16 +204,16 @@ turnSpot closes a d [] = impossible
 turnSpot closes a d (f ∷ fs) = spot (afterNumber fs) (suc d) fs
 turnSpot faults a d fs = stopped
 turnSpot (opens f) a zero fs = stopped
-turnSpot (opens f) a (suc d) fs = spot (1 + bit f) d (f ∷ fs)
+turnSpot (opens f) a (suc d) fs = spot (firstItemMode + bit f) d (f ∷ fs)
 
 abbrev pub does : ℕ → List Bool → ℕ → ℕ
-does n fs b = choose (eqb (cell n b) 53) (cell (afterNumber fs) b) (cell n b)
+does n fs b = choose (eqb (cell n b) againEntry) (cell (afterNumber fs) b) (cell n b)
 
 abbrev pub turnAt : Mode → ℕ → List Bool → ℕ → Spot
 turnAt m d fs b = turnSpot (kindOf (does (modeNumber m fs) (frames m fs) b)) (does (modeNumber m fs) (frames m fs) b) d (frames m fs)
 
 abbrev pub Same : Mode → ℕ → List Bool → Type 0
-Same m d fs = valuesBelow 256 (λ b. spotOf (step m d fs b)) ≡ valuesBelow 256 (λ b. turnAt m d fs b)
+Same m d fs = valuesBelow 256 (λ b. spotOf (nextAt m d fs b)) ≡ valuesBelow 256 (λ b. turnAt m d fs b)
 
 same-token : (t : Token) (d : ℕ) (fs : List Bool) → Same (m-token t) d fs
 unfolding actAt cell kindOf

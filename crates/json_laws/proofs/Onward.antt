@@ -17,7 +17,7 @@ use Rattle.octets.proofs.Over.{le-or-lt}
 use Rattle.json_machine.proofs.Derive.{canEnd}
 use Rattle.json_machine.proofs.Modes.{Token, Str, Mode, m-value, m-after, m-firstItem, m-firstMember, m-key, m-colon, m-token, m-string, m-name}
 use Rattle.json_machine.proofs.Modes as T
-use Rattle.json_machine.proofs.Step.{Next, refused, at, step, still, modeNumber, frames, afterNumber}
+use Rattle.json_machine.proofs.Step.{Next, refused, at, nextAt, still, modeNumber, frames, afterNumber}
 use Rattle.json_machine.proofs.Within.{class-past, step-past}
 use Rattle.json_laws.proofs.Coded.{stackOf, stack-pos, stack-after, stack-up, stack-full, stack-room, entry-cell, after-below, number-below, Spot, stopped, impossible, spot, spotOf, turnSpot, does, turnAt, coded-same}
 
@@ -35,17 +35,17 @@ never-impossible refused e = let z : _≡_ {A = ℕ} 0 1 = cc in omega arith
 never-impossible (at m d fs) e = let z : _≡_ {A = ℕ} 0 1 = cc in omega arith
 
 module _ (n : Next) (a : ℕ) where
-  abbrev Turned : Kind → ℕ → List Bool → Type 0
-  Turned k d fs = CodedSpot (turnSpot k a d fs) (turnMode k a (stackOf fs)) (turnStack k (stackOf fs))
+  abbrev TurnCoded : Kind → ℕ → List Bool → Type 0
+  TurnCoded k d fs = CodedSpot (turnSpot k a d fs) (turnMode k a (stackOf fs)) (turnStack k (stackOf fs))
 
-  turned : (k : Kind) (d : ℕ) (fs : List Bool) → d + length fs ≡ depthLimit → spotOf n ≡ turnSpot k a d fs → Turned k d fs
-  turned goes d fs h e = (refl, refl, h)
-  turned stops d fs h e = (stack-after fs, refl, h)
-  turned closes d [] h e = absurd (never-impossible n e)
-  turned closes d (f ∷ fs) h e = (ap afterOf (stack-up f fs) ∙ stack-after fs, stack-up f fs, omega arith)
-  turned faults d fs h e = refl
-  turned (opens f) zero fs h e = let l = stack-full fs h in simp (le-ltb _ _ l)
-  turned (opens f) (suc d) fs h e =
+  turn-coded : (k : Kind) (d : ℕ) (fs : List Bool) → d + length fs ≡ depthLimit → spotOf n ≡ turnSpot k a d fs → TurnCoded k d fs
+  turn-coded goes d fs h e = (refl, refl, h)
+  turn-coded stops d fs h e = (stack-after fs, refl, h)
+  turn-coded closes d [] h e = absurd (never-impossible n e)
+  turn-coded closes d (f ∷ fs) h e = (ap afterOf (stack-up f fs) ∙ stack-after fs, stack-up f fs, omega arith)
+  turn-coded faults d fs h e = refl
+  turn-coded (opens f) zero fs h e = let l = stack-full fs h in simp (le-ltb _ _ l)
+  turn-coded (opens f) (suc d) fs h e =
       let l = stack-room d fs h in
       simp (lt-ltb _ _ l) (refl, unfold stackOf in refl, omega arith)
 
@@ -57,28 +57,28 @@ act-does m fs b =
 abbrev pub Onward : Next → ℕ → ℕ → Type 0
 Onward n a st = Coded n (turnMode (kindOf a) a st) (turnStack (kindOf a) st)
 
-onward-below : (m : Mode) (d : ℕ) (fs : List Bool) (b : ℕ) → b < 256 → (mo st : ℕ) → Coded (at m d fs) mo st → Onward (step m d fs b) (actOf mo st b) st
+onward-below : (m : Mode) (d : ℕ) (fs : List Bool) (b : ℕ) → b < 256 → (mo st : ℕ) → Coded (at m d fs) mo st → Onward (nextAt m d fs b) (actOf mo st b) st
 onward-below m d fs b l mo st (p, q, h) =
-    let e = each-below impossible (λ b. spotOf (step m d fs b)) (λ b. turnAt m d fs b) 256 (coded-same m d fs) b l in
+    let e = each-below impossible (λ b. spotOf (nextAt m d fs b)) (λ b. turnAt m d fs b) 256 (coded-same m d fs) b l in
     let a = does (modeNumber m fs) (frames m fs) b in
-    let t = turned (step m d fs b) a (kindOf a) d (frames m fs) h e in
+    let t = turn-coded (nextAt m d fs b) a (kindOf a) d (frames m fs) h e in
     let S = stackOf (frames m fs) in
     let u = subst (λ (x : Spot). CodedSpot x (turnMode (kindOf a) a S) (turnStack (kindOf a) S)) (sym e) t in
     let i : actOf mo st b ≡ a = ap₂ (λ (x y : ℕ). actOf x y b) p q ∙ act-does m fs b in
-    let v = subst (λ (x : ℕ). Onward (step m d fs b) x S) (sym i) u in
-    subst (λ (x : ℕ). Onward (step m d fs b) (actOf mo st b) x) (sym q) v
+    let v = subst (λ (x : ℕ). Onward (nextAt m d fs b) x S) (sym i) u in
+    subst (λ (x : ℕ). Onward (nextAt m d fs b) (actOf mo st b) x) (sym q) v
 
 act-past : (mo st b : ℕ) → 256 ≤ b → actOf mo st b ≡ actOf mo st 0
 unfolding actOf entryOf
 act-past mo st b h = rw (class-past b h) refl
 
-pub onward : (m : Mode) (d : ℕ) (fs : List Bool) (b mo st : ℕ) → Coded (at m d fs) mo st → Onward (step m d fs b) (actOf mo st b) st
+pub onward : (m : Mode) (d : ℕ) (fs : List Bool) (b mo st : ℕ) → Coded (at m d fs) mo st → Onward (nextAt m d fs b) (actOf mo st b) st
 onward m d fs b mo st c = ⊎-elim past (λ (l : b < 256). onward-below m d fs b l mo st c) (le-or-lt 256 b)
   where
-    past : 256 ≤ b → Onward (step m d fs b) (actOf mo st b) st
+    past : 256 ≤ b → Onward (nextAt m d fs b) (actOf mo st b) st
     past h =
         let z = onward-below m d fs 0 (omega arith) mo st c in
-        let y = subst (λ (x : ℕ). Onward (step m d fs 0) x st) (sym (act-past mo st b h)) z in
+        let y = subst (λ (x : ℕ). Onward (nextAt m d fs 0) x st) (sym (act-past mo st b h)) z in
         subst (λ (n : Next). Onward n (actOf mo st b) st) (sym (step-past m d fs b h)) y
 
 -- ---- the end

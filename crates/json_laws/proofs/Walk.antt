@@ -14,8 +14,8 @@ use Rattle.json.specs.declared.JsonVerdict.{JsonVerdict}
 use Rattle.json.specs.declared.JsonVerdict.the-variants.{Text, Fault}
 use Rattle.octets.specs.Logic.{choose}
 use Rattle.json_machine.specs.Machine.{faultEntry, actOf, kindOf, turnMode, turnStack, endsOf, walkFrom}
-use Rattle.json_machine.proofs.Step.{Next, refused, at, step}
-use Rattle.json_machine.proofs.Law.{runOver, begin, accepts, accepted, accepting, can-begin, cannot-begin}
+use Rattle.json_machine.proofs.Step.{Next, refused, at, nextAt}
+use Rattle.json_machine.proofs.Law.{runOver, begin, mayEnd, accepted, accepting, can-begin, cannot-begin}
 use Rattle.json_laws.proofs.Coded.{number-below}
 use Rattle.json_laws.proofs.Onward.{Coded, Onward, onward, coded-end}
 
@@ -25,7 +25,7 @@ run-append : (p : List ℕ) (n : Next) (t : List ℕ) → runOver n (p ++ t) ≡
 run-append [] n t = refl
 run-append (b ∷ p) refused [] = refl
 run-append (b ∷ p) refused (c ∷ t) = refl
-run-append (b ∷ p) (at m d fs) t = run-append p (step m d fs b) t
+run-append (b ∷ p) (at m d fs) t = run-append p (nextAt m d fs b) t
 
 -- a text begins with each of its beginnings
 pub text-begins : (n : ℕ) (s : List ℕ) → IsText s → CanBegin (take n s)
@@ -50,7 +50,7 @@ coded-begins : (p : List ℕ) (n : Next) → runOver begin p ≡ n → (mo st : 
 coded-begins p refused e mo st l c = absurd (omega arith)
 coded-begins p (at m d fs) e mo st l c = can-begin p m d fs e
 
-coded-ends : (n : Next) (mo st : ℕ) → mo < faultEntry → Coded n mo st → endsOf mo st ≡ accepts n
+coded-ends : (n : Next) (mo st : ℕ) → mo < faultEntry → Coded n mo st → endsOf mo st ≡ mayEnd n
 coded-ends refused mo st l c = absurd (omega arith)
 coded-ends (at m d fs) mo st l c = ap₂ endsOf (c .0) (c .1) ∙ coded-end m d fs
 
@@ -79,8 +79,8 @@ module _ (p : List ℕ) (mo st : ℕ) (small : mo < faultEntry) (coded : Coded (
     abbrev more : List ℕ
     more = p ++ (b ∷ [])
 
-    joined : more ++ t ≡ p ++ (b ∷ t)
-    joined = append-assoc p (b ∷ []) t
+    joined-is : more ++ t ≡ p ++ (b ∷ t)
+    joined-is = append-assoc p (b ∷ []) t
 
     one-more : length more ≡ suc (length p)
     one-more = simp length-append (omega arith)
@@ -93,7 +93,7 @@ module _ (p : List ℕ) (mo st : ℕ) (small : mo < faultEntry) (coded : Coded (
     right-fault e =
         let no : CanBegin more → ⊥ = cannot-begin more (coded-refused (runOver begin more) _ _ coded-more e) in
         let cut : take (suc (length p)) (p ++ (b ∷ t)) ≡ more =
-        ap (take (suc (length p))) (sym joined) ∙ take-at more t (suc (length p)) one-more in
+        ap (take (suc (length p))) (sym joined-is) ∙ take-at more t (suc (length p)) one-more in
         let not-begin : CanBegin (take (suc (length p)) (p ++ (b ∷ t))) → ⊥ = λ v. no (subst (λ (l : List ℕ). CanBegin l) cut v) in
         record {
           no-text = λ i. not-begin (text-begins (suc (length p)) (p ++ (b ∷ t)) i);

@@ -9,6 +9,7 @@ use lib.Dec.{ltb}
 use lib.ListN.{getD}
 use Rattle.octets.proofs.Logic.{both-true}
 use Rattle.json_machine.specs.Table.{classes}
+use Rattle.json_machine.specs.Machine.{classCount}
 use Rattle.octets.specs.Logic.{both}
 
 abbrev below : List ℕ → ℕ → Bool
@@ -20,6 +21,6 @@ getD-below [] n i e z = z
 getD-below (x ∷ l) n zero e z = ltb-true _ _ (both-true (ltb x n) (below l n) e .0)
 getD-below (x ∷ l) n (suc i) e z = getD-below l n i (both-true (ltb x n) (below l n) e .1) z
 
-pub class-below : (b : ℕ) → getD classes b 0 < 40
+pub class-below : (b : ℕ) → getD classes b 0 < classCount
 unfolding classes
-class-below b = getD-below classes 40 b refl (omega arith)
+class-below b = getD-below classes classCount b refl (omega arith)

@@ -8,10 +8,10 @@ use Rattle.octets.proofs.Lists.{valuesBelow}
 use Rattle.json_machine.proofs.Derive.{rests}
 use Rattle.json_machine.proofs.Modes.{Token, Str, Mode, m-value, m-after, m-firstItem, m-firstMember, m-key, m-colon, m-token, m-string, m-name}
 use Rattle.json_machine.proofs.Modes as T
-use Rattle.json_machine.proofs.Step.{actAt, still, step, stills}
+use Rattle.json_machine.proofs.Step.{actAt, still, nextAt, stills}
 
 abbrev pub Right : Mode → ℕ → List Bool → Type 0
-Right m d fs = valuesBelow 256 (λ b. rests b (still m d fs)) ≡ valuesBelow 256 (λ b. stills (step m d fs b))
+Right m d fs = valuesBelow 256 (λ b. rests b (still m d fs)) ≡ valuesBelow 256 (λ b. stills (nextAt m d fs b))
 
 right-token : (t : Token) (d : ℕ) (fs : List Bool) → Right (m-token t) d fs
 unfolding actAt

@@ -8,6 +8,7 @@ use Rattle.json.specs.Abnf.{Abnf, range, _or_, many, byte, opt, some}
 use Rattle.json.specs.Utf8.{utf8-tail}
 use Rattle.json.specs.Grammar.{ws, digit, minus, plus, int, frac, exp, hexdig, escaped, char}
 use Rattle.json_machine.specs.Table.{classes, rows}
+use Rattle.json_machine.specs.Machine.{valueMode, firstItemMode, afterTextMode, afterItemMode, afterMemberMode, firstMemberMode, keyMode, colonMode}
 use Rattle.json_machine.proofs.Plain.{items, arrayRest, plainMember, members, objectRest, plainValue}
 use Rattle.json_machine.proofs.Modes.{Token, Str, Mode, m-value, m-after, m-firstItem, m-firstMember, m-key, m-colon, m-token, m-string, m-name, Act, acts, tokenNumber, stringNumber, nameNumber}
 use Rattle.json_machine.proofs.Modes as T
@@ -83,17 +84,17 @@ frames (m-string s) fs = fs
 frames (m-name s) fs = true ∷ fs
 
 abbrev pub afterNumber : List Bool → ℕ
-afterNumber [] = 5
-afterNumber (false ∷ fs) = 6
-afterNumber (true ∷ fs) = 7
+afterNumber [] = afterTextMode
+afterNumber (false ∷ fs) = afterItemMode
+afterNumber (true ∷ fs) = afterMemberMode
 
 abbrev pub modeNumber : Mode → List Bool → ℕ
-modeNumber m-value fs = 0
+modeNumber m-value fs = valueMode
 modeNumber m-after fs = afterNumber fs
-modeNumber m-firstItem fs = 1
-modeNumber m-firstMember fs = 2
-modeNumber m-key fs = 3
-modeNumber m-colon fs = 4
+modeNumber m-firstItem fs = firstItemMode
+modeNumber m-firstMember fs = firstMemberMode
+modeNumber m-key fs = keyMode
+modeNumber m-colon fs = colonMode
 modeNumber (m-token t) fs = tokenNumber t
 modeNumber (m-string s) fs = stringNumber s
 modeNumber (m-name s) fs = nameNumber s
@@ -107,26 +108,26 @@ unfolding classes rows
 actAt n b = getD acts (getD (getD rows n []) (getD classes b 0) 0) T.fault
 
 -- in the mode m, with d more to open and these open
-abbrev pub place : Mode → ℕ → List Bool → Next
-place m-value d fs = at m-value d fs
-place m-after d fs = at m-after d fs
-place (m-token t) d fs = at (m-token t) d fs
-place (m-string s) d fs = at (m-string s) d fs
-place m-firstItem d [] = refused
-place m-firstItem d (true ∷ fs) = refused
-place m-firstItem d (false ∷ fs) = at m-firstItem d fs
-place m-firstMember d [] = refused
-place m-firstMember d (false ∷ fs) = refused
-place m-firstMember d (true ∷ fs) = at m-firstMember d fs
-place m-key d [] = refused
-place m-key d (false ∷ fs) = refused
-place m-key d (true ∷ fs) = at m-key d fs
-place m-colon d [] = refused
-place m-colon d (false ∷ fs) = refused
-place m-colon d (true ∷ fs) = at m-colon d fs
-place (m-name s) d [] = refused
-place (m-name s) d (false ∷ fs) = refused
-place (m-name s) d (true ∷ fs) = at (m-name s) d fs
+abbrev pub atMode : Mode → ℕ → List Bool → Next
+atMode m-value d fs = at m-value d fs
+atMode m-after d fs = at m-after d fs
+atMode (m-token t) d fs = at (m-token t) d fs
+atMode (m-string s) d fs = at (m-string s) d fs
+atMode m-firstItem d [] = refused
+atMode m-firstItem d (true ∷ fs) = refused
+atMode m-firstItem d (false ∷ fs) = at m-firstItem d fs
+atMode m-firstMember d [] = refused
+atMode m-firstMember d (false ∷ fs) = refused
+atMode m-firstMember d (true ∷ fs) = at m-firstMember d fs
+atMode m-key d [] = refused
+atMode m-key d (false ∷ fs) = refused
+atMode m-key d (true ∷ fs) = at m-key d fs
+atMode m-colon d [] = refused
+atMode m-colon d (false ∷ fs) = refused
+atMode m-colon d (true ∷ fs) = at m-colon d fs
+atMode (m-name s) d [] = refused
+atMode (m-name s) d (false ∷ fs) = refused
+atMode (m-name s) d (true ∷ fs) = at (m-name s) d fs
 
 abbrev pub opened : Mode → ℕ → List Bool → Next
 opened m zero fs = refused
@@ -138,7 +139,7 @@ closed d (f ∷ fs) = at m-after (suc d) fs
 
 -- these are open; n is where it goes if a value has ended
 abbrev pub act : Act → ℕ → List Bool → Next → Next
-act (T.to m) d fs n = place m d fs
+act (T.to m) d fs n = atMode m d fs
 act T.fault d fs n = refused
 act T.stop d fs n = at m-after d fs
 act T.again d fs n = n
@@ -146,8 +147,8 @@ act T.openArray d fs n = opened m-firstItem d fs
 act T.openObject d fs n = opened m-firstMember d fs
 act T.close d fs n = closed d fs
 
-abbrev pub step : Mode → ℕ → List Bool → ℕ → Next
-step m d fs b = act (actAt (modeNumber m fs) b) d (frames m fs) (act (actAt (afterNumber (frames m fs)) b) d (frames m fs) refused)
+abbrev pub nextAt : Mode → ℕ → List Bool → ℕ → Next
+nextAt m d fs b = act (actAt (modeNumber m fs) b) d (frames m fs) (act (actAt (afterNumber (frames m fs)) b) d (frames m fs) refused)
 
 abbrev pub stills : Next → List (List Abnf)
 stills refused = []

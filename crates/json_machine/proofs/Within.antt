@@ -1,5 +1,5 @@
 -- No range of the grammar holds 0 or a number from 256 on, so no text does, and the machine refuses it everywhere. So no law has to ask
--- that a list is one of bytes.
+-- that a list is one of bytes. And no range is empty, so every state can be ended.
 -- Assumes nothing.
 use Prim.Native.Nat.{ℕ, zero, suc, _<_, _≤_}
 use mathlib.Core.Path.{_≡_, refl, sym, ap, ap₂, _∙_}
@@ -16,11 +16,11 @@ use Rattle.octets.proofs.Over.{le-or-lt}
 use Rattle.json.specs.Abnf.{Abnf, range, _·_, _or_, empty, many}
 use Rattle.json_machine.specs.Table.{classes}
 use Rattle.octets.specs.Logic.{both}
-use Rattle.json_machine.proofs.Derive.{rest, rests}
+use Rattle.json_machine.proofs.Derive.{derive, rests, isProductive, productive}
 use Rattle.json_machine.proofs.Plain.{plainValue}
 use Rattle.json_machine.proofs.Modes.{Token, Str, Mode, m-value, m-after, m-firstItem, m-firstMember, m-key, m-colon, m-token, m-string, m-name, Act}
 use Rattle.json_machine.proofs.Modes as T
-use Rattle.json_machine.proofs.Step.{still, step, stills, act, actAt, modeNumber, frames, afterNumber, afterValue, colon, token, str, refused}
+use Rattle.json_machine.proofs.Step.{still, nextAt, stills, act, actAt, modeNumber, frames, afterNumber, afterValue, colon, token, str, refused}
 use Rattle.json_machine.proofs.Right.{right}
 
 -- each range is one of 1 to 255
@@ -45,77 +45,95 @@ module _ (b : ℕ) (outside : (b ≡ 0) ⊎ (256 ≤ b)) where
       (λ (e : 256 ≤ b). let z : hi < b = omega arith in rw (lt-leb b hi z) (both-none (leb lo b)))
       outside
 
-  none : (x : Abnf) (k : List Abnf) → within x ≡ true → rest b x k [] ≡ []
+  none : (x : Abnf) (k : List Abnf) → within x ≡ true → derive b x k [] ≡ []
   none (range lo hi) k e =
       let w = both-true (ltb 0 lo) (ltb hi 256) e in
       rw (not-in lo hi (ltb-true 0 lo (w .0)) (ltb-true hi 256 (w .1))) refl
-  none (x · y) k e = let w = both-true (within x) (within y) e in ap (rest b x (y ∷ k)) (none y k (w .1)) ∙ none x (y ∷ k) (w .0)
+  none (x · y) k e = let w = both-true (within x) (within y) e in ap (derive b x (y ∷ k)) (none y k (w .1)) ∙ none x (y ∷ k) (w .0)
   none (x or y) k e = let w = both-true (within x) (within y) e in ap₂ (λ (l m : List (List Abnf)). l ++ m) (none x k (w .0)) (none y k (w .1))
   none empty k e = refl
   none (many x) k e = ap (λ (l : List (List Abnf)). l ++ []) (none x (many x ∷ k) e)
 
   rests-none : (k : List Abnf) → allWithin k ≡ true → rests b k ≡ []
   rests-none [] e = refl
-  rests-none (x ∷ k) e = let w = both-true (within x) (allWithin k) e in ap (rest b x k) (rests-none k (w .1)) ∙ none x k (w .0)
+  rests-none (x ∷ k) e = let w = both-true (within x) (allWithin k) e in ap (derive b x k) (rests-none k (w .1)) ∙ none x k (w .0)
 
--- ---- of whatever may still come
+-- ---- of whatever may still come: its ranges, and that some text is left
 
 within-value : (d : ℕ) → within (plainValue d) ≡ true
 within-value zero = refl
 within-value (suc d) = rw (within-value d) refl
 
-within-after : (d : ℕ) (fs : List Bool) → allWithin (afterValue d fs) ≡ true
-within-after d [] = refl
-within-after d (false ∷ fs) = rw (within-value d) (within-after (suc d) fs)
-within-after d (true ∷ fs) = rw (within-value d) (within-after (suc d) fs)
+productive-value : (d : ℕ) → isProductive (plainValue d) ≡ true
+productive-value zero = refl
+productive-value (suc d) = refl
 
-within-colon : (d : ℕ) (fs : List Bool) → allWithin (colon d fs) ≡ true
-within-colon d fs = rw (within-value d) (within-after (suc d) fs)
+-- some text is left, and each range is one of 1 to 255
+abbrev usable : List Abnf → Bool
+usable k = both (productive k) (allWithin k)
 
-within-token : (t : Token) (k : List Abnf) → allWithin k ≡ true → allWithin (token t k) ≡ true
-within-token T.t-minus k e = e
-within-token T.t-zero k e = e
-within-token T.t-whole k e = e
-within-token T.t-point k e = e
-within-token T.t-frac k e = e
-within-token T.t-exp k e = e
-within-token T.t-sign k e = e
-within-token T.t-power k e = e
-within-token T.t-alse k e = e
-within-token T.t-lse k e = e
-within-token T.t-se k e = e
-within-token T.t-e k e = e
-within-token T.t-ull k e = e
-within-token T.t-ll k e = e
-within-token T.t-l k e = e
-within-token T.t-rue k e = e
-within-token T.t-ue k e = e
+usable-after : (d : ℕ) (fs : List Bool) → usable (afterValue d fs) ≡ true
+usable-after d [] = refl
+usable-after d (false ∷ fs) = rw (within-value d) (usable-after (suc d) fs)
+usable-after d (true ∷ fs) = rw (within-value d) (usable-after (suc d) fs)
 
-within-string : (s : Str) (k : List Abnf) → allWithin k ≡ true → allWithin (str s k) ≡ true
-within-string T.s-char k e = e
-within-string T.s-escape k e = e
-within-string T.s-hex4 k e = e
-within-string T.s-hex3 k e = e
-within-string T.s-hex2 k e = e
-within-string T.s-hex1 k e = e
-within-string T.s-tail1 k e = e
-within-string T.s-tail2 k e = e
-within-string T.s-tail3 k e = e
-within-string T.s-afterE0 k e = e
-within-string T.s-afterED k e = e
-within-string T.s-afterF0 k e = e
-within-string T.s-afterF4 k e = e
+usable-colon : (d : ℕ) (fs : List Bool) → usable (colon d fs) ≡ true
+usable-colon d fs = rw (productive-value d, within-value d) (usable-after (suc d) fs)
 
-within-still : (m : Mode) (d : ℕ) (fs : List Bool) → allWithin (still m d fs) ≡ true
-within-still m-value d fs = rw (within-value d) (within-after d fs)
-within-still m-after d fs = within-after d fs
-within-still m-firstItem d fs = rw (within-value d) (within-after (suc d) fs)
-within-still m-firstMember d fs = rw (within-value d) (within-after (suc d) fs)
-within-still m-key d fs = rw (within-value d) (within-after (suc d) fs)
-within-still m-colon d fs = within-colon d fs
-within-still (m-token t) d fs = within-token t (afterValue d fs) (within-after d fs)
-within-still (m-string s) d fs = within-string s (afterValue d fs) (within-after d fs)
-within-still (m-name s) d fs = within-string s (colon d fs) (within-colon d fs)
+usable-token : (t : Token) (k : List Abnf) → usable k ≡ true → usable (token t k) ≡ true
+usable-token T.t-minus k e = e
+usable-token T.t-zero k e = e
+usable-token T.t-whole k e = e
+usable-token T.t-point k e = e
+usable-token T.t-frac k e = e
+usable-token T.t-exp k e = e
+usable-token T.t-sign k e = e
+usable-token T.t-power k e = e
+usable-token T.t-alse k e = e
+usable-token T.t-lse k e = e
+usable-token T.t-se k e = e
+usable-token T.t-e k e = e
+usable-token T.t-ull k e = e
+usable-token T.t-ll k e = e
+usable-token T.t-l k e = e
+usable-token T.t-rue k e = e
+usable-token T.t-ue k e = e
+
+usable-string : (s : Str) (k : List Abnf) → usable k ≡ true → usable (str s k) ≡ true
+usable-string T.s-char k e = e
+usable-string T.s-escape k e = e
+usable-string T.s-hex4 k e = e
+usable-string T.s-hex3 k e = e
+usable-string T.s-hex2 k e = e
+usable-string T.s-hex1 k e = e
+usable-string T.s-tail1 k e = e
+usable-string T.s-tail2 k e = e
+usable-string T.s-tail3 k e = e
+usable-string T.s-afterE0 k e = e
+usable-string T.s-afterED k e = e
+usable-string T.s-afterF0 k e = e
+usable-string T.s-afterF4 k e = e
+
+usable-still : (m : Mode) (d : ℕ) (fs : List Bool) → usable (still m d fs) ≡ true
+usable-still m-value d fs = rw (productive-value d, within-value d) (usable-after d fs)
+usable-still m-after d fs = usable-after d fs
+usable-still m-firstItem d fs = rw (within-value d) (usable-after (suc d) fs)
+usable-still m-firstMember d fs = rw (within-value d) (usable-after (suc d) fs)
+usable-still m-key d fs = rw (productive-value d, within-value d) (usable-after (suc d) fs)
+usable-still m-colon d fs = usable-colon d fs
+usable-still (m-token t) d fs = usable-token t (afterValue d fs) (usable-after d fs)
+usable-still (m-string s) d fs = usable-string s (afterValue d fs) (usable-after d fs)
+usable-still (m-name s) d fs = usable-string s (colon d fs) (usable-colon d fs)
+
+module _ (m : Mode) (d : ℕ) (fs : List Bool) where
+  productive-and-within : (productive (still m d fs) ≡ true) × (allWithin (still m d fs) ≡ true)
+  productive-and-within = both-true (productive (still m d fs)) (allWithin (still m d fs)) (usable-still m d fs)
+
+  pub productive-still : productive (still m d fs) ≡ true
+  productive-still = productive-and-within .0
+
+  within-still : allWithin (still m d fs) ≡ true
+  within-still = productive-and-within .1
 
 -- ---- the machine takes a number from 256 on for 0
 
@@ -128,14 +146,14 @@ unfolding actAt
 row-past n b h = rw (class-past b h) refl
 
 module _ (m : Mode) (d : ℕ) (fs : List Bool) where
-  pub step-past : (b : ℕ) → 256 ≤ b → step m d fs b ≡ step m d fs 0
+  pub step-past : (b : ℕ) → 256 ≤ b → nextAt m d fs b ≡ nextAt m d fs 0
   step-past b h =
       ap₂ (λ (x y : Act). act x d (frames m fs) (act y d (frames m fs) refused)) (row-past (modeNumber m fs) b h) (row-past (afterNumber (frames m fs)) b h)
 
-  below : (b : ℕ) → b < 256 → rests b (still m d fs) ≡ stills (step m d fs b)
-  below b l = each-below [] (λ b. rests b (still m d fs)) (λ b. stills (step m d fs b)) 256 (right m d fs) b l
+  below : (b : ℕ) → b < 256 → rests b (still m d fs) ≡ stills (nextAt m d fs b)
+  below b l = each-below [] (λ b. rests b (still m d fs)) (λ b. stills (nextAt m d fs b)) 256 (right m d fs) b l
 
-  past : (b : ℕ) → 256 ≤ b → rests b (still m d fs) ≡ stills (step m d fs b)
+  past : (b : ℕ) → 256 ≤ b → rests b (still m d fs) ≡ stills (nextAt m d fs b)
   past b h =
       rests-none b (inr h) (still m d fs) (within-still m d fs)
       ∙ sym (rests-none 0 (inl refl) (still m d fs) (within-still m d fs))
@@ -143,5 +161,5 @@ module _ (m : Mode) (d : ℕ) (fs : List Bool) where
       ∙ sym (ap stills (step-past b h))
 
   -- what may still come after any number is what the tables say
-  pub turned : (b : ℕ) → rests b (still m d fs) ≡ stills (step m d fs b)
-  turned b = ⊎-elim (λ (h : 256 ≤ b). past b h) (λ (l : b < 256). below b l) (le-or-lt 256 b)
+  pub rests-are : (b : ℕ) → rests b (still m d fs) ≡ stills (nextAt m d fs b)
+  rests-are b = ⊎-elim (λ (h : 256 ≤ b). past b h) (λ (l : b < 256). below b l) (le-or-lt 256 b)

@@ -13,13 +13,22 @@ use Rattle.json.specs.declared.JsonVerdict.the-variants.{Text, Fault}
 use Rattle.octets.specs.Lists.{joined}
 use Rattle.json_machine.specs.Table.{classes, rows}
 
--- the modes of the tables that are named here: before a value, where an array begins (and an object: one more), after a value with nothing open, in an array and in an
--- object, and in a number that may end
+-- the modes of the tables that are named here: before a value, where an array and where an object begins, before a member's name and after it,
+-- after a value with nothing open, in an array and in an object, and in a number that may end
 abbrev pub valueMode : ℕ
 valueMode = 0
 
 abbrev pub firstItemMode : ℕ
 firstItemMode = 1
+
+abbrev pub firstMemberMode : ℕ
+firstMemberMode = 2
+
+abbrev pub keyMode : ℕ
+keyMode = 3
+
+abbrev pub colonMode : ℕ
+colonMode = 4
 
 abbrev pub afterTextMode : ℕ
 afterTextMode = 5

@@ -1,17 +1,18 @@
--- Numbers read in either byte order, byte by byte from the one that counts most; and the bytes of a number by their place. Each law is stated once, over the order and the width. Assumes nothing.
-use Prim.Native.Nat.{ℕ, zero, suc, _+_, _-_, _*_, _/_, _%_, _^_, _<_}
-use mathlib.Core.Path.{_≡_, refl, sym, ap, _∙_}
+-- Numbers read in either byte order, byte by byte from the one that counts most; the bytes of a number by their place; and a byte string taken
+-- apart at a field. Each law is stated once, over the order and the width. Assumes nothing.
+use Prim.Native.Nat.{ℕ, zero, suc, _+_, _-_, _*_, _/_, _%_, _^_, _<_, _≤_}
+use mathlib.Core.Path.{_≡_, refl, sym, ap, _∙_, ap₂}
 use mathlib.Core.List.{List, [], _∷_, _++_}
 use native.Mathlib.Omega.{arith}
 use native.Mathlib.Nat.{pow-succ', div-one, div-div-eq-div-mul}
 use native.Mathlib.Numerals.{add-one}
-use lib.ListN.{length, getD, take, drop, drop-of-length-le}
-use lib.Seq.{drop-cons, take-suc, take-all, getD-take, getD-drop}
-use Rattle.octets.specs.Bytes.{beFrom, beValue, leValue, beBytes, leBytes, field, leField}
+use lib.ListN.{length, getD, take, drop, drop-of-length-le, take-append-drop}
+use lib.Seq.{drop-cons, take-suc, take-all, getD-take, getD-drop, drop-drop}
+use Rattle.octets.specs.Bytes.{beFrom, beValue, leValue, beBytes, leBytes, field, leField, AreBytes}
 use Rattle.octets.specs.ByteOrder.{valueOf, bytesOf, fieldOf, bytePlace, soFar}
 use Rattle.octets.specs.declared.ByteOrder.{ByteOrder}
 use Rattle.octets.specs.declared.ByteOrder.the-variants.{Big, Little}
-use Rattle.octets.proofs.Value.{length-beBytes, length-leBytes}
+use Rattle.octets.proofs.Value.{length-beBytes, length-leBytes, beBytes-beValue, leBytes-leValue, field-length, bytes-take, bytes-drop}
 
 pub field-is : (order : ByteOrder) (w at : ℕ) (s : List ℕ) → fieldOf order w at s ≡ valueOf order (take w (drop at s))
 unfolding field leField
@@ -70,3 +71,26 @@ le-byte (suc w) n (suc k) h =
 pub byte-at : (order : ByteOrder) (w n k : ℕ) → k < w → getD (bytesOf order w n) k 0 ≡ n / 256 ^ (w - 1 - bytePlace order w k) % 256
 byte-at Big w n k h = be-byte w n k h
 byte-at Little w n k h = let e : k ≡ w - 1 - (w - 1 - k) = omega arith in le-byte w n k h ∙ ap (λ (i : ℕ). n / 256 ^ i % 256) e
+
+-- ---- a byte string taken apart at a field
+
+bytes-of-value : (order : ByteOrder) (x : List ℕ) → AreBytes x → bytesOf order (length x) (valueOf order x) ≡ x
+bytes-of-value Big x w = beBytes-beValue x w
+bytes-of-value Little x w = leBytes-leValue x w
+
+module _ (s : List ℕ) (w : AreBytes s) where
+  -- the field, and what stands after it
+  split-at : (order : ByteOrder) (k at : ℕ) → at + k ≤ length s → drop at s ≡ bytesOf order k (fieldOf order k at s) ++ drop (at + k) s
+  split-at order k at h =
+      let b : List ℕ = take k (drop at s) in
+      sym (take-append-drop k (drop at s))
+      ∙ ap₂ (λ (x y : List ℕ). x ++ y)
+      (sym (bytes-of-value order b (bytes-take k (drop at s) (bytes-drop at s w)))
+      ∙ ap₂ (λ (n m : ℕ). bytesOf order n m) (field-length k at s h) (sym (field-is order k at s)))
+      (drop-drop k at s)
+
+  pub be-split : (k at : ℕ) → at + k ≤ length s → drop at s ≡ beBytes k (field k at s) ++ drop (at + k) s
+  be-split = split-at Big
+
+  pub le-split : (k at : ℕ) → at + k ≤ length s → drop at s ≡ leBytes k (leField k at s) ++ drop (at + k) s
+  le-split = split-at Little

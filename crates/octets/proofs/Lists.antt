@@ -1,13 +1,15 @@
--- Lists of two parts, an empty one, and the values of a function below a number.
+-- Lists of two parts, an empty one, what is joined of two, and the values of a function below a number.
 -- Assumes nothing.
-use Prim.Native.Nat.{ℕ, zero, suc, _-_, _<_}
+use Prim.Native.Nat.{ℕ, zero, suc, _-_, _<_, min, _≤_}
 use mathlib.Core.Path.{_≡_, refl, sym, ap, subst, _∙_}
-use mathlib.Core.List.{List, [], _∷_, _++_, headD, tail}
+use mathlib.Core.List.{List, [], _∷_, _++_, append-assoc, headD, tail}
 use mathlib.Core.Logic.{⊎-elim}
 use native.Mathlib.Omega.{arith}
 use native.Mathlib.Nat.{sub-zero, zero-sub, suc-sub-suc, not-suc-le-zero, le-of-suc-le-suc, eq-or-lt-of-le}
-use lib.ListN.{length, take, drop}
-use lib.Seq.{take-nil, drop-nil}
+use lib.ListN.{length, take, drop, drop-of-length-le}
+use lib.Seq.{take-nil, drop-nil, take-all, take-length, drop-length}
+use Rattle.octets.proofs.Over.{le-or-lt}
+use Rattle.octets.specs.Lists.{joinedBy}
 
 pub take-both : (n : ℕ) (x y : List ℕ) → take n (x ++ y) ≡ take n x ++ take (n - length x) y
 take-both n [] y = simp (take-nil, sub-zero)
@@ -22,6 +24,29 @@ drop-both (suc n) (b ∷ x) y = drop-both n x y ∙ simp suc-sub-suc
 pub none-of : (l : List ℕ) → length l ≡ 0 → l ≡ []
 none-of [] e = refl
 none-of (x ∷ xs) e = absurd (omega arith)
+
+-- ---- a part, cut to what there is
+
+by-min : {A : Type 0} (f : ℕ → List A) (m n : ℕ) → (n < m → f n ≡ f m) → f (min m n) ≡ f m
+by-min f m n past =
+    ⊎-elim
+    (λ (h : m ≤ n). let e : min m n ≡ m = omega arith in ap f e)
+    (λ (h : n < m). let e : min m n ≡ n = omega arith in ap f e ∙ past h)
+    (le-or-lt m n)
+
+pub take-min : {A : Type 0} (m : ℕ) (l : List A) → take (min m (length l)) l ≡ take m l
+take-min m l = by-min (λ (n : ℕ). take n l) m (length l) (λ h. take-length l ∙ sym (take-all m l (omega arith)))
+
+pub drop-min : {A : Type 0} (m : ℕ) (l : List A) → drop (min m (length l)) l ≡ drop m l
+drop-min m l = by-min (λ (n : ℕ). drop n l) m (length l) (λ h. drop-length l ∙ sym (drop-of-length-le l {i = m} (omega arith)))
+
+-- ---- joined
+
+-- what a function gives of each element, of two lists joined
+pub joined-append : {A : Type 0} (f : A → List ℕ) (k l : List A) → joinedBy f (k ++ l) ≡ joinedBy f k ++ joinedBy f l
+unfolding joinedBy
+joined-append f [] l = refl
+joined-append f (x ∷ xs) l = ap (λ (b : List ℕ). f x ++ b) (joined-append f xs l) ∙ sym (append-assoc (f x) (joinedBy f xs) (joinedBy f l))
 
 -- a function's values below n, the last one first: two functions that agree there are compared by computation
 abbrev pub valuesBelow : {A : Type 0} → ℕ → (ℕ → A) → List A

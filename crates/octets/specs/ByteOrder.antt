@@ -1,4 +1,4 @@
--- Both byte orders in one: what the two of `Bytes` are by an order.
+-- Both byte orders in one, so that code and laws on numbers stand once: what the two of `Bytes` are by an order.
 -- Assumes nothing.
 use Prim.Native.Nat.{ℕ, _-_}
 use mathlib.Core.List.{List}

@@ -214,12 +214,6 @@ pub fn put_le16(out: &mut [u8], at: usize, n: u16)
     put(out, at, 2, n as u64, ByteOrder::Little);
 }
 
-pub fn put_le32(out: &mut [u8], at: usize, n: u32)
-    ensures { λ _. ⌜ now (out .exit) ≡ over (now (out .entry)) at (leBytes 4 n) ⌝ }
-{
-    put(out, at, 4, n as u64, ByteOrder::Little);
-}
-
 pub fn put_le64(out: &mut [u8], at: usize, n: u64)
     ensures { λ _. ⌜ now (out .exit) ≡ over (now (out .entry)) at (leBytes 8 n) ⌝ }
 {

@@ -31,19 +31,19 @@ join-same f g (suc n) i h = ap₂ (λ (x y : List ℕ). x ++ y) (h i (omega arit
 -- ---- lists of the planned lengths, joined: the pieces are the lists
 
 module _ (l : List Place) (count : ℕ) (f : ℕ → List ℕ) (sized : (i : ℕ) → i < count → length (f i) ≡ plannedSize l i) where
-  abbrev joined : List ℕ
-  joined = joinFrom f count 0
+  abbrev all-pieces : List ℕ
+  all-pieces = joinFrom f count 0
 
-  from-piece : (i : ℕ) → i ≤ count → drop (dataBefore l i) joined ≡ joinFrom f (count - i) i
-  from-piece zero h = ap (λ (n : ℕ). drop n joined) (before-zero l) ∙ ap (λ (n : ℕ). joinFrom f n 0) (sym (sub-zero count))
+  from-piece : (i : ℕ) → i ≤ count → drop (dataBefore l i) all-pieces ≡ joinFrom f (count - i) i
+  from-piece zero h = ap (λ (n : ℕ). drop n all-pieces) (before-zero l) ∙ ap (λ (n : ℕ). joinFrom f n 0) (sym (sub-zero count))
   from-piece (suc i) h =
       let n : count - i ≡ suc (count - suc i) = omega arith in
-      ap (λ (m : ℕ). drop m joined) (before-suc l i)
-      ∙ sym (drop-drop (plannedSize l i) (dataBefore l i) joined)
+      ap (λ (m : ℕ). drop m all-pieces) (before-suc l i)
+      ∙ sym (drop-drop (plannedSize l i) (dataBefore l i) all-pieces)
       ∙ ap (drop (plannedSize l i)) (from-piece i (omega arith) ∙ ap (λ (m : ℕ). joinFrom f m i) n ∙ join-suc f (count - suc i) i)
       ∙ drop-at (f i) (joinFrom f (count - suc i) (suc i)) (plannedSize l i) (sized i h)
 
-  pub piece-is : (i : ℕ) → i < count → pieceAt l joined i ≡ f i
+  pub piece-is : (i : ℕ) → i < count → pieceAt l all-pieces i ≡ f i
   piece-is i h =
       let n : count - i ≡ suc (count - suc i) = omega arith in
       ap (take (plannedSize l i)) (from-piece i (omega arith) ∙ ap (λ (m : ℕ). joinFrom f m i) n ∙ join-suc f (count - suc i) i)
@@ -59,7 +59,7 @@ module _ (l : List Place) (count : ℕ) (f : ℕ → List ℕ) (sized : (i : ℕ
       let q = before-suc l i in
       ap (λ (m : ℕ). dataBefore l i + m) h ∙ (omega arith)
 
-  pub length-joined : length joined ≡ dataBefore l count
+  pub length-joined : length all-pieces ≡ dataBefore l count
   length-joined = let e = length-from count 0 (omega arith) in let z = before-zero l in omega arith
 
 -- ---- data of the plan's sum of lengths: its pieces joined are the data

@@ -1,7 +1,7 @@
 -- What is written is plain; and the plan of an accepted image is never refused, and its numbers fit.
 -- Assumes nothing.
-use Prim.Native.Nat.{ℕ, zero, suc, _+_, _≤_}
-use mathlib.Core.Path.{_≡_, refl, ap, _∙_}
+use Prim.Native.Nat.{ℕ, _+_}
+use mathlib.Core.Path.{_≡_, ap, _∙_}
 use mathlib.Core.List.{List}
 use native.Mathlib.Omega.{arith}
 use lib.ListN.{length, drop}
@@ -9,7 +9,7 @@ use Rattle.octets.specs.Bytes.{AreBytes}
 use Rattle.octets.proofs.Value.{field-lt, bytes-take, bytes-drop}
 use Rattle.eif.specs.Numbers.{placeCount}
 use Rattle.eif.specs.Rules.{allowedIn, orderFault}
-use Rattle.eif.specs.Layout.{sectionHeaderSize, versionOf, countOf, offsetAt, sizeAt, startAt, kindAt}
+use Rattle.eif.specs.Layout.{headerFlagsAt, defaultMemAt, defaultCpusAt, sectionFlagsAt, sectionHeaderSize, versionOf, countOf, offsetAt, sizeAt, kindAt}
 use Rattle.eif.specs.Reading.{verdictOf}
 use Rattle.eif.specs.Plan.{plannedKind, plannedSize, packedAt, planVerdict, plainImage, Plain}
 use Rattle.eif.specs.declared.Place.{Place}
@@ -17,14 +17,13 @@ use Rattle.eif.specs.declared.Plan.{Plan}
 use Rattle.eif.specs.declared.Verdict.the-variants.{Accepted}
 use Rattle.eif_lemmas.proofs.Types.{order-same, missing-same}
 use Rattle.eif_lemmas.proofs.Table.{filled-past}
-use Rattle.eif_lemmas.proofs.Accept.{none-missing-of, order-at, sound-at}
-use Rattle.plain_laws.proofs.Shape.{packed-suc, packed-zero}
+use Rattle.eif_lemmas.proofs.Accept.{none-missing-of, order-at, sound-at, file-ends}
 use Rattle.plain_laws.proofs.PlanRules.{Planned, →planned}
 use Rattle.plain_laws.specs.RoundTrip.{Fits}
 use Rattle.plain_laws.proofs.Written.{read-count, offset-entry, size-entry, read-reserved, read-reserved-after}
 use Rattle.plain_laws.proofs.ReadBack.{plain-accepted}
 use Rattle.plain_laws.proofs.Joined.{bytes-joined, length-joined}
-use Rattle.plain_laws.proofs.WriteBack.{plan, piece, given, head, place-is, kind-is, size-is, length-piece-is}
+use Rattle.plain_laws.proofs.WriteBack.{plan, piece, given, sound-head, place-is, kind-is, packed-is, length-piece-is}
 
 -- ---- what is written is plain
 
@@ -52,25 +51,11 @@ module _ (s : List ℕ) (ok : verdictOf s ≡ Accepted) where
   abbrev places : List Place
   places = plan s .places
 
-  -- packed, a section starts no later than in the image
-  start-le : (i : ℕ) → i ≤ countOf s → packedAt places i ≤ startAt s i
-  start-le zero h = let z = packed-zero places in omega arith
-  start-le (suc i) h =
-      let r = start-le i (omega arith) in
-      let b = sound-at s ok i h .starts in
-      let z = size-is s ok i h in
-      let q = packed-suc places i in
-      omega arith
-
-  pub start-inside : (n : ℕ) → countOf s ≡ n → startAt s n ≤ length s
-  start-inside zero e = head s ok .whole
-  start-inside (suc n) e = sound-at s ok n (omega arith) .ends
-
   pub plan-planned : Planned (plan s) (length (given s))
   plan-planned =
-      let h = head s ok in
-      let b = start-le (countOf s) (omega arith) in
-      let e = start-inside (countOf s) refl in
+      let h = sound-head s ok in
+      let b = packed-is s ok (countOf s) (omega arith) in
+      let e = file-ends s ok in
       record {
         low = h .low;
         high = h .high;
@@ -92,10 +77,10 @@ module _ (s : List ℕ) (ok : verdictOf s ≡ Accepted) where
     pub plan-fits : Fits (plan s)
     plan-fits =
         record {
-          flags = field-lt 2 6 s w;
-          «default_mem» = field-lt 8 8 s w;
-          «default_cpus» = field-lt 8 16 s w;
-          section-flags = λ i h. rw (place-is s ok i h) (field-lt 2 (offsetAt s i + 2) s w);
+          flags = field-lt 2 headerFlagsAt s w;
+          «default_mem» = field-lt 8 defaultMemAt s w;
+          «default_cpus» = field-lt 8 defaultCpusAt s w;
+          section-flags = λ i h. rw (place-is s ok i h) (field-lt 2 (offsetAt s i + sectionFlagsAt) s w);
         }
 
     pub bytes-given : AreBytes (given s)

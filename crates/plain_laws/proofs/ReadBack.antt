@@ -13,7 +13,7 @@ use Rattle.eif.specs.Rules.{allowedIn, orderFault, missing}
 use Rattle.eif.specs.Table.{filled}
 use Rattle.eif.specs.Layout.{viewOf, architecture, versionOf, countOf, startAt, kindAt, sectionHeaderSize}
 use Rattle.eif.specs.Reading.{entryFault, hasTail, checksumOf, verdictOf, sectionAt, blankSection, sectionsOf, markOf, readImage}
-use Rattle.eif.specs.Plan.{plannedKind, packedAt, plainSize, plainImage}
+use Rattle.eif.specs.Plan.{plannedKind, packedAt, plainSize, plainImage, plannedSize}
 use Rattle.eif.specs.declared.Place.{Place}
 use Rattle.eif.specs.declared.Plan.{Plan}
 use Rattle.eif.specs.declared.Verdict.the-variants.{Accepted}
@@ -78,7 +78,7 @@ module _ (p : Plan) (d : List ℕ) (a : Planned p (length d)) where
         let g = long in
         let v = read-version p d a in
         let n = read-count p d a in
-        let z = packed-zero l in
+        let z = packed-zero (plannedSize l) in
         let m = packed-le l 0 (p .count) (omega arith) in
         let lo = a .low in let hi = a .high in let so = a .some in let fe = a .few in let sm = a .small in
         →accepted (viewOf s) (checksumOf s)

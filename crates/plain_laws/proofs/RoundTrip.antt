@@ -4,25 +4,20 @@
 -- their fields, as they do in every slice and plan of the code. Assumes nothing.
 use Prim.Native.Nat.{ℕ, _<_, _≤_}
 use mathlib.Core.Path.{_≡_, refl, sym, ap, ap₂, subst, _∙_}
-use mathlib.Core.Bool.{Bool}
 use mathlib.Core.List.{List}
 use native.Mathlib.Omega.{arith}
-use borrow.Author.Tests.{le-ltb}
-use lib.Dec.{ltb}
 use lib.ListN.{length, getD, List·getD-map}
 use Rattle.octets.specs.Bytes.{AreBytes}
 use Rattle.octets.specs.Over.{over}
-use Rattle.eif.specs.Numbers.{placeCount, outputTooShort}
-use Rattle.octets.specs.Logic.{choose}
-use Rattle.eif.specs.Answers.{refuse, andThen}
-use Rattle.eif.specs.Output.{outputFor}
+use Rattle.eif.specs.Numbers.{placeCount}
+use Rattle.eif.specs.Output.{writtenFor, outputFor}
 use Rattle.eif.specs.Reading.{verdictOf, blankSection, readImage, dataOf}
-use Rattle.eif.specs.Plan.{placeAt, dataBefore, plainSize, pieceAt, planVerdict, writeVerdict, plainImage, writtenFor, writeAnswer, planLength, writeOutput, UnusedZero, Plain, placeOf, planOf, dataJoined}
+use Rattle.eif.specs.Plan.{placeAt, dataBefore, plainSize, pieceAt, planVerdict, writeVerdict, plainImage, writeAnswer, planLength, writeOutput, UnusedZero, Plain, placeOf, planOf, dataJoined}
 use Rattle.eif.specs.declared.Plan.{Plan}
 use Rattle.eif.specs.declared.Verdict.{Verdict}
 use Rattle.eif.specs.declared.Verdict.the-variants.{Accepted}
 use Rattle.eif_lemmas.proofs.Table.{filled-at}
-use Rattle.eif_lemmas.proofs.Verdicts.{then-none}
+use Rattle.eif_lemmas.proofs.Room.{room-enough, room-fine}
 use Rattle.eif_lemmas.proofs.Reading.{reading-accepted}
 use Rattle.plain_laws.specs.Packed.{packedSection, packedReading, SamePlan}
 use Rattle.plain_laws.proofs.PlanRules.{Planned, planned→}
@@ -45,8 +40,8 @@ module _ (p : Plan) (d : List ℕ) (a : Planned p (length d)) where
       ap (dataOf image) (filled-at (packedSection (p .places)) blankSection blankSection placeCount (p .count) i h (a .few))
       ∙ read-data p d a i h
 
-  joined : dataJoined image (packedReading p) ≡ d
-  joined =
+  data-joined : dataJoined image (packedReading p) ≡ d
+  data-joined =
       join-same (λ i. dataOf image (getD (packedReading p .sections) i blankSection)) (pieceAt (p .places) d) (p .count) 0 (λ i h. data-at i (omega arith))
       ∙ pieces-joined (p .places) (p .count) d (a .sized)
 
@@ -69,7 +64,7 @@ read-plain p d e c w =
       plan-back = rw r (same-back p d a);
       pieces = read-data p d a;
       pieces-whole = pieces-joined (p .places) (p .count) d (a .sized);
-      data-back = ap (dataJoined (plainImage p d)) r ∙ joined p d a;
+      data-back = ap (dataJoined (plainImage p d)) r ∙ data-joined p d a;
       size = long p d a;
     }
 
@@ -83,17 +78,13 @@ module _ (p : Plan) (given room : ℕ) (ok : planVerdict p given ≡ Accepted) (
   -- a plan that is not refused is written wherever there is room
   pub write-accepted : writeVerdict p given room ≡ Accepted
   unfolding writeVerdict
-  write-accepted =
-      ap (λ (v : Verdict). andThen v (choose (ltb room (plainSize p)) (refuse outputTooShort 0) Accepted)) ok
-      ∙ simp (le-ltb _ _ fits)
+  write-accepted = room-fine (planVerdict p given) room (plainSize p) ok fits
 
 -- The length of a plan's image is the writer's answer, were there data and room as planned.
 pub length-is-written : (p : Plan) (given room : ℕ) → given ≡ dataBefore (p .places) (p .count) → plainSize p ≤ room → writeAnswer p given room ≡ planLength p
 unfolding writeAnswer planLength writeVerdict
 length-is-written p given room e h =
-    ap (λ (v : Verdict). writtenFor v (plainSize p))
-    (ap₂ (λ (n : ℕ) (b : Bool). andThen (planVerdict p n) (choose b (refuse outputTooShort 0) Accepted)) e (le-ltb room (plainSize p) h)
-    ∙ then-none (planVerdict p (dataBefore (p .places) (p .count))))
+    ap (λ (v : Verdict). writtenFor v (plainSize p)) (room-enough (planVerdict p given) room (plainSize p) h ∙ ap (planVerdict p) e)
 
 module _ (s : List ℕ) (w : AreBytes s) (pl : Plain s) where
   abbrev ok : verdictOf s ≡ Accepted

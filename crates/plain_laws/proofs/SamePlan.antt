@@ -13,7 +13,7 @@ use Rattle.eif.specs.Numbers.{sizeLimit, placeCount, imageTooLong, typeNotAllow
 use Rattle.octets.specs.Logic.{choose}
 use Rattle.eif.specs.Answers.{wholeVerdict}
 use Rattle.eif.specs.Rules.{typeFault, allowedIn, orderFault, missing, firstFault, fieldFault}
-use Rattle.eif.specs.Layout.{magicNumber, sectionHeaderSize, entrySize}
+use Rattle.eif.specs.Layout.{magicNumber, sectionHeaderSize, entrySize, packedBy}
 use Rattle.eif.specs.Plan.{placeAt, plannedKind, plannedSize, packedAt, dataBefore, plainSize, sizeFault, planFault, planVerdict, fixedFields, offsetTable, sizeTable, headerBytes, pieceAt, sectionHeader, sectionBytes, bodyBytes, plainImage}
 use Rattle.eif.specs.declared.Place.{Place}
 use Rattle.eif.specs.declared.Plan.{Plan}
@@ -32,7 +32,7 @@ module _ (l m : List Place) (count : ℕ) (same : (i : ℕ) → i < count → pl
   size-same i h = ap (λ (x : Place). x .length .0) (same i h)
 
   packed-same : (i : ℕ) → i ≤ count → packedAt l i ≡ packedAt m i
-  unfolding packedAt
+  unfolding packedBy
   packed-same zero h = refl
   packed-same (suc i) h = ap₂ (λ (x y : ℕ). x + sectionHeaderSize + y) (packed-same i (omega arith)) (size-same i h)
 

@@ -14,7 +14,7 @@ use Rattle.octets.proofs.Value.{bytes-append, bytes-take, bytes-drop}
 use Rattle.crc32.specs.Crc.{crc32}
 use Rattle.eif.specs.Numbers.{placeCount}
 use Rattle.eif.specs.Table.{filled}
-use Rattle.eif.specs.Layout.{magicNumber, headerSize, sectionHeaderSize, checksumAt, offsetsAt, entrySize}
+use Rattle.eif.specs.Layout.{magicNumber, headerSize, sectionHeaderSize, checksumAt, offsetsAt, entrySize, packedBy}
 use Rattle.eif.specs.Plan.{placeAt, plannedSize, packedAt, dataBefore, plainSize, pieceAt, fixedFields, offsetTable, sizeTable, headerBytes, sectionHeader, sectionBytes, bodyBytes, plainImage}
 use Rattle.eif.specs.declared.Plan.{Plan}
 use Rattle.eif.specs.declared.Place.{Place}
@@ -23,15 +23,24 @@ use Rattle.plain_laws.proofs.Fields.{Bytes, be, join}
 
 -- ---- positions grow with the place
 
-module _ (l : List Place) where
-  pub packed-zero : packedAt l 0 ≡ headerSize
-  unfolding packedAt
+grows : (f : ℕ → ℕ) → ((j : ℕ) → f j ≤ f (suc j)) → (i j : ℕ) → i ≤ j → f i ≤ f j
+grows f up i zero h = let z : i ≡ 0 = omega arith in rw z (omega arith)
+grows f up i (suc j) h =
+    ⊎-elim
+    (λ (e : i ≡ suc j). rw e (omega arith))
+    (λ (g : i < suc j). let r = grows f up i j (omega arith) in let q = up j in omega arith)
+    (eq-or-lt-of-le h)
+
+module _ (sizes : ℕ → ℕ) where
+  pub packed-zero : packedBy sizes 0 ≡ headerSize
+  unfolding packedBy
   packed-zero = refl
 
-  pub packed-suc : (i : ℕ) → packedAt l (suc i) ≡ packedAt l i + sectionHeaderSize + plannedSize l i
-  unfolding packedAt
+  pub packed-suc : (i : ℕ) → packedBy sizes (suc i) ≡ packedBy sizes i + sectionHeaderSize + sizes i
+  unfolding packedBy
   packed-suc i = refl
 
+module _ (l : List Place) where
   pub before-zero : dataBefore l 0 ≡ 0
   unfolding dataBefore
   before-zero = refl
@@ -41,20 +50,10 @@ module _ (l : List Place) where
   before-suc i = refl
 
   pub packed-le : (i j : ℕ) → i ≤ j → packedAt l i ≤ packedAt l j
-  packed-le i zero h = let z : i ≡ 0 = omega arith in rw z (omega arith)
-  packed-le i (suc j) h =
-      ⊎-elim
-      (λ (e : i ≡ suc j). rw e (omega arith))
-      (λ (g : i < suc j). let r = packed-le i j (omega arith) in let q = packed-suc j in omega arith)
-      (eq-or-lt-of-le h)
+  packed-le = grows (packedAt l) (λ j. let q = packed-suc (plannedSize l) j in omega arith)
 
   pub before-le : (i j : ℕ) → i ≤ j → dataBefore l i ≤ dataBefore l j
-  before-le i zero h = let z : i ≡ 0 = omega arith in rw z (omega arith)
-  before-le i (suc j) h =
-      ⊎-elim
-      (λ (e : i ≡ suc j). rw e (omega arith))
-      (λ (g : i < suc j). let r = before-le i j (omega arith) in let q = before-suc j in omega arith)
-      (eq-or-lt-of-le h)
+  before-le = grows (dataBefore l) (λ j. let q = before-suc j in omega arith)
 
 -- ---- the header's parts
 
@@ -124,12 +123,12 @@ module _ (l : List Place) (d : List ℕ) where
     unfolding sectionBytes
     length-sections zero i e = let z : i ≡ count = omega arith in add-zero (packedAt l i) ∙ ap (packedAt l) z
     length-sections (suc n) i e =
-        let h : length (sectionHeader (placeAt l i) ++ (pieceAt l d i ++ sectionBytes l d n (suc i))) ≡ 12 + (plannedSize l i + length (sectionBytes l d n (suc i))) =
+        let h : length (sectionHeader (placeAt l i) ++ (pieceAt l d i ++ sectionBytes l d n (suc i))) ≡ sectionHeaderSize + (plannedSize l i + length (sectionBytes l d n (suc i))) =
         length-append (sectionHeader (placeAt l i)) _
         ∙ ap₂ (λ (a b : ℕ). a + b) (length-sectionHeader (placeAt l i))
         (length-append (pieceAt l d i) _ ∙ ap (λ (m : ℕ). m + length (sectionBytes l d n (suc i))) (length-piece i (omega arith))) in
         let r = length-sections n (suc i) (omega arith) in
-        let q = packed-suc l i in
+        let q = packed-suc (plannedSize l) i in
         ap (λ (m : ℕ). packedAt l i + m) h ∙ (omega arith)
 
 -- ---- the whole image
@@ -151,7 +150,7 @@ module _ (p : Plan) (d : List ℕ) where
       length-append (headerBytes p) _ ∙ ap (λ (n : ℕ). length (headerBytes p) + n) (length-append sum (bodyBytes p d)) in
       let b = length-header p in
       let c = length-sections l d (p .count) sized (p .count) 0 (omega arith) in
-      let e = packed-zero l in
+      let e = packed-zero (plannedSize l) in
       a ∙ (omega arith)
 
   pub bytes-plain : AreBytes d → AreBytes s
@@ -173,15 +172,15 @@ module _ (p : Plan) (d : List ℕ) where
   module _ (sized : length d ≡ dataBefore l (p .count)) where
     -- what stands from section i on
     pub from-section : (i : ℕ) → i ≤ p .count → drop (packedAt l i) s ≡ sectionBytes l d (p .count - i) i
-    from-section zero h = ap (λ (n : ℕ). drop n s) (packed-zero l) ∙ past-header ∙ ap (λ (n : ℕ). sectionBytes l d n 0) (sym (sub-zero (p .count)))
+    from-section zero h = ap (λ (n : ℕ). drop n s) (packed-zero (plannedSize l)) ∙ past-header ∙ ap (λ (n : ℕ). sectionBytes l d n 0) (sym (sub-zero (p .count)))
     from-section (suc i) h =
         let e = from-section i (omega arith) in
         let n : p .count - i ≡ suc (p .count - suc i) = omega arith in
         let x : List ℕ = pieceAt l d i ++ sectionBytes l d (p .count - suc i) (suc i) in
         let f : drop (packedAt l i) s ≡ sectionHeader (placeAt l i) ++ x = e ∙ ap (λ (m : ℕ). sectionBytes l d m i) n ∙ section-suc l d (p .count - suc i) i in
-        ap (λ (m : ℕ). drop m s) (packed-suc l i)
+        ap (λ (m : ℕ). drop m s) (packed-suc (plannedSize l) i)
         ∙ sym (drop-drop (plannedSize l i) (packedAt l i + sectionHeaderSize) s)
-        ∙ ap (drop (plannedSize l i)) (sym (drop-drop 12 (packedAt l i) s) ∙ ap (drop 12) f ∙ drop-at (sectionHeader (placeAt l i)) x 12 (length-sectionHeader (placeAt l i)))
+        ∙ ap (drop (plannedSize l i)) (sym (drop-drop sectionHeaderSize (packedAt l i) s) ∙ ap (drop sectionHeaderSize) f ∙ drop-at (sectionHeader (placeAt l i)) x sectionHeaderSize (length-sectionHeader (placeAt l i)))
         ∙ drop-at (pieceAt l d i) (sectionBytes l d (p .count - suc i) (suc i)) (plannedSize l i) (length-piece l d (p .count) sized i h)
 
     -- section i, and what stands after it

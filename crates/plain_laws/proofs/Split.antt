@@ -4,38 +4,17 @@ use Prim.Native.Nat.{ℕ, zero, suc, _+_, _*_, _<_, _≤_}
 use mathlib.Core.Path.{_≡_, refl, sym, ap, ap₂, _∙_}
 use mathlib.Core.List.{List, _∷_, _++_, append-assoc}
 use native.Mathlib.Omega.{arith}
-use lib.ListN.{length, take, drop, take-append-drop}
-use lib.Seq.{drop-drop}
+use lib.ListN.{length, drop}
+use Rattle.octets.proofs.Fields.{be-split}
 use Rattle.eif.specs.Layout.{entrySize}
-use Rattle.octets.specs.Bytes.{AreBytes, beValue, beBytes, field, leValue, leBytes, leField, beBytesEach}
+use Rattle.octets.specs.Bytes.{AreBytes, beBytes, field, beBytesEach}
 use Rattle.eif.specs.Table.{filled}
-use Rattle.octets.proofs.Value.{beBytes-beValue, leBytes-leValue, field-length, bytes-take, bytes-drop}
 use Rattle.eif_lemmas.proofs.Table.{filled-none}
 
 module _ (s : List ℕ) (w : AreBytes s) where
-  -- a field, and what stands after it
-  pub field-split : (k at : ℕ) → at + k ≤ length s → drop at s ≡ beBytes k (field k at s) ++ drop (at + k) s
-  unfolding field
-  field-split k at h =
-      let b : List ℕ = take k (drop at s) in
-      sym (take-append-drop k (drop at s))
-      ∙ ap₂ (λ (x y : List ℕ). x ++ y)
-      (sym (beBytes-beValue b (bytes-take k (drop at s) (bytes-drop at s w))) ∙ ap (λ (n : ℕ). beBytes n (beValue b)) (field-length k at s h))
-      (drop-drop k at s)
-
-  -- the same where its value is known
+  -- a field whose value is known, and what stands after it
   pub split : (k n at : ℕ) → field k at s ≡ n → at + k ≤ length s → drop at s ≡ beBytes k n ++ drop (at + k) s
-  split k n at e h = field-split k at h ∙ ap (λ (x : ℕ). beBytes k x ++ drop (at + k) s) e
-
-  -- a little-endian field, and what stands after it
-  pub le-split : (k at : ℕ) → at + k ≤ length s → drop at s ≡ leBytes k (leField k at s) ++ drop (at + k) s
-  unfolding leField
-  le-split k at h =
-      let b : List ℕ = take k (drop at s) in
-      sym (take-append-drop k (drop at s))
-      ∙ ap₂ (λ (x y : List ℕ). x ++ y)
-      (sym (leBytes-leValue b (bytes-take k (drop at s) (bytes-drop at s w))) ∙ ap (λ (n : ℕ). leBytes n (leValue b)) (field-length k at s h))
-      (drop-drop k at s)
+  split k n at e h = be-split s w k at h ∙ ap (λ (x : ℕ). beBytes k x ++ drop (at + k) s) e
 
   pub table-split : (n at : ℕ) (g : ℕ → ℕ) → ((i : ℕ) → i < n → field entrySize (at + entrySize * i) s ≡ g i) → at + entrySize * n ≤ length s
       → drop at s ≡ beBytesEach entrySize (filled g 0 n n) ++ drop (at + entrySize * n) s

@@ -10,7 +10,7 @@ use Rattle.eif.specs.Table.{joinFrom}
 use Rattle.octets.specs.Bytes.{AreBytes, beBytes, field, beBytesEach}
 use Rattle.crc32.specs.Crc.{crc32}
 use Rattle.eif.specs.Numbers.{placeCount}
-use Rattle.eif.specs.Layout.{magicNumber, headerSize, sectionHeaderSize, checksumAt, viewOf, headerFlags, defaultMem, defaultCpus, checksum, versionOf, countOf, offsetAt, sizeAt, startAt, kindAt, flagsAt, offsetsAt, reservedAfterAt, sizesAt, entrySize}
+use Rattle.eif.specs.Layout.{magicNumber, headerSize, sectionHeaderSize, checksumAt, viewOf, headerFlags, defaultMem, defaultCpus, checksum, versionOf, countOf, offsetAt, sizeAt, startAt, kindAt, flagsAt, offsetsAt, reservedAfterAt, sizesAt, entrySize, magicAt, versionAt, headerFlagsAt, defaultMemAt, defaultCpusAt, reservedAt, countAt}
 use Rattle.eif.specs.Reading.{checksumOf, verdictOf, sectionAt, blankSection, sectionsOf, readingOf, dataOf}
 use Rattle.eif.specs.Plan.{placeAt, plannedKind, plannedSize, packedAt, pieceAt, fixedFields, offsetTable, sizeTable, headerBytes, sectionHeader, sectionBytes, bodyBytes, plainImage, Plain, placeOf, planOf, dataJoined}
 use Rattle.eif.specs.declared.Place.{Place}
@@ -46,18 +46,25 @@ module _ (s : List ℕ) where
   given = joinFrom piece (countOf s) 0
 
   module _ (ok : verdictOf s ≡ Accepted) where
-    abbrev pub head : SoundHeader (viewOf s)
-    head = passes s ok .head
+    abbrev pub sound-head : SoundHeader (viewOf s)
+    sound-head = passes s ok .head
 
     pub place-is : (i : ℕ) → i < countOf s → placeAt (plan .places) i ≡ placeOf (sectionAt s i)
     place-is i h =
-        List·getD-map placeOf (sectionsOf s) i blankSection ∙ ap placeOf (filled-at (sectionAt s) blankSection blankSection placeCount (countOf s) i h (head .few))
+        List·getD-map placeOf (sectionsOf s) i blankSection ∙ ap placeOf (filled-at (sectionAt s) blankSection blankSection placeCount (countOf s) i h (sound-head .few))
 
     pub kind-is : (i : ℕ) → i < countOf s → plannedKind (plan .places) i ≡ kindAt s i
     kind-is i h = ap (λ (x : Place). x .kind) (place-is i h)
 
     pub size-is : (i : ℕ) → i < countOf s → plannedSize (plan .places) i ≡ sizeAt s i
     size-is i h = ap (λ (x : Place). x .length .0) (place-is i h)
+
+    -- packed, a section starts where it does in the image
+    pub packed-is : (i : ℕ) → i ≤ countOf s → packedAt (plan .places) i ≡ startAt s i
+    packed-is zero h = packed-zero (plannedSize (plan .places))
+    packed-is (suc i) h =
+        packed-suc (plannedSize (plan .places)) i
+        ∙ ap₂ (λ (x y : ℕ). x + sectionHeaderSize + y) (packed-is i (omega arith) ∙ sym (sound-at s ok i h .starts)) (size-is i h)
 
     pub length-piece-is : (i : ℕ) → i < countOf s → length (piece i) ≡ plannedSize (plan .places) i
     length-piece-is i h = let e = sound-at s ok i h .ends in simp (length-take, length-drop) (omega arith) ∙ sym (size-is i h)
@@ -69,7 +76,7 @@ module _ (s : List ℕ) where
     pub joined-is : dataJoined s (readingOf (viewOf s) Accepted) ≡ given
     joined-is =
         join-same (λ i. dataOf s (getD (sectionsOf s) i blankSection)) piece (countOf s) 0
-        (λ i h. ap (dataOf s) (filled-at (sectionAt s) blankSection blankSection placeCount (countOf s) i (omega arith) (head .few)))
+        (λ i h. ap (dataOf s) (filled-at (sectionAt s) blankSection blankSection placeCount (countOf s) i (omega arith) (sound-head .few)))
 
 -- ---- a plain image, taken apart from its start
 
@@ -87,15 +94,10 @@ module _ (s : List ℕ) (w : AreBytes s) (pl : Plain s) where
   d = given s
 
   whole : headerSize ≤ length s
-  whole = head s ok .whole
+  whole = sound-head s ok .whole
 
   few : countOf s ≤ placeCount
-  few = head s ok .few
-
-  packed-is : (i : ℕ) → i ≤ countOf s → packedAt l i ≡ startAt s i
-  packed-is zero h = packed-zero l
-  packed-is (suc i) h =
-      packed-suc l i ∙ ap₂ (λ (x y : ℕ). x + sectionHeaderSize + y) (packed-is i (omega arith) ∙ sym (sound-at s ok i h .starts)) (size-is s ok i h)
+  few = sound-head s ok .few
 
   abbrev b1 : List ℕ
   b1 = beBytes 4 magicNumber
@@ -122,13 +124,13 @@ module _ (s : List ℕ) (w : AreBytes s) (pl : Plain s) where
   unfolding fixedFields
   fixed-split =
       let q = whole in
-      split s w 4 magicNumber 0 (head s ok .magic) (omega arith)
-      ∙ ap (λ (r : List ℕ). b1 ++ r) (split s w 2 (versionOf s) 4 refl (omega arith)
-      ∙ ap (λ (r : List ℕ). b2 ++ r) (split s w 2 (headerFlags (viewOf s)) 6 refl (omega arith)
-      ∙ ap (λ (r : List ℕ). b3 ++ r) (split s w 8 (defaultMem (viewOf s)) 8 refl (omega arith)
-      ∙ ap (λ (r : List ℕ). b4 ++ r) (split s w 8 (defaultCpus (viewOf s)) 16 refl (omega arith)
-      ∙ ap (λ (r : List ℕ). b5 ++ r) (split s w 2 0 24 (pl .unused .reserved-zero) (omega arith)
-      ∙ ap (λ (r : List ℕ). b6 ++ r) (split s w 2 (countOf s) 26 refl (omega arith)))))))
+      split s w 4 magicNumber magicAt (sound-head s ok .magic) (omega arith)
+      ∙ ap (λ (r : List ℕ). b1 ++ r) (split s w 2 (versionOf s) versionAt refl (omega arith)
+      ∙ ap (λ (r : List ℕ). b2 ++ r) (split s w 2 (headerFlags (viewOf s)) headerFlagsAt refl (omega arith)
+      ∙ ap (λ (r : List ℕ). b3 ++ r) (split s w 8 (defaultMem (viewOf s)) defaultMemAt refl (omega arith)
+      ∙ ap (λ (r : List ℕ). b4 ++ r) (split s w 8 (defaultCpus (viewOf s)) defaultCpusAt refl (omega arith)
+      ∙ ap (λ (r : List ℕ). b5 ++ r) (split s w 2 0 reservedAt (pl .unused .reserved-zero) (omega arith)
+      ∙ ap (λ (r : List ℕ). b6 ++ r) (split s w 2 (countOf s) countAt refl (omega arith)))))))
       ∙ regroup7 b1 b2 b3 b4 b5 b6 b7 (drop offsetsAt s)
 
   offsets-split : drop offsetsAt s ≡ offsetTable l (countOf s) ++ drop sizesAt s
@@ -137,7 +139,7 @@ module _ (s : List ℕ) (w : AreBytes s) (pl : Plain s) where
       let q = whole in
       table-split s w placeCount offsetsAt (offsetAt s) (λ i h. refl) (omega arith)
       ∙ ap (λ (t : List ℕ). beBytesEach entrySize t ++ drop sizesAt s)
-      (filled-full (packedAt l) (offsetAt s) placeCount (countOf s) few (λ i h. sound-at s ok i h .starts ∙ sym (packed-is i (omega arith))) (pl .unused .unused-offset))
+      (filled-full (packedAt l) (offsetAt s) placeCount (countOf s) few (λ i h. sound-at s ok i h .starts ∙ sym (packed-is s ok i (omega arith))) (pl .unused .unused-offset))
 
   sizes-split : drop sizesAt s ≡ sizeTable l (countOf s) ++ drop reservedAfterAt s
   unfolding sizeTable
@@ -198,4 +200,4 @@ module _ (s : List ℕ) (w : AreBytes s) (pl : Plain s) where
       (split s w 4 (crc32 (headerBytes p ++ bodyBytes p d)) checksumAt c (omega arith) ∙ ap (λ (r : List ℕ). beBytes 4 (crc32 (headerBytes p ++ bodyBytes p d)) ++ r) b))
 
   pub length-plan : length s ≡ packedAt l (countOf s)
-  length-plan = file-ends s ok ∙ sym (packed-is (countOf s) (omega arith))
+  length-plan = file-ends s ok ∙ sym (packed-is s ok (countOf s) (omega arith))

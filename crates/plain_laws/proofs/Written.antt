@@ -155,7 +155,7 @@ module _ (p : Plan) (d : List ℕ) (a : Planned p (length d)) where
   packed-small i h = let q = packed-le l i (p .count) h in let m = a .small in omega arith
 
   pub size-small : (i : ℕ) → i < p .count → plannedSize l i ≤ sizeLimit
-  size-small i h = let q = packed-small (suc i) h in let e = packed-suc l i in omega arith
+  size-small i h = let q = packed-small (suc i) h in let e = packed-suc (plannedSize l) i in omega arith
 
   pub read-magic : magic (viewOf image) ≡ magicNumber
   read-magic = ap (field 4 magicAt) (parts p d) ∙ fixed-magic p rest
@@ -237,10 +237,10 @@ module _ (p : Plan) (d : List ℕ) (a : Planned p (length d)) where
   read-own-size i h = let m = size-small i h in section-field 8 sectionSizeAt i h ∙ header-size (placeAt l i) _ (omega arith)
 
   pub read-end : (i : ℕ) → i < p .count → endAt image i ≡ packedAt l (suc i)
-  read-end i h = ap₂ (λ (x y : ℕ). x + sectionHeaderSize + y) (read-offset i h) (read-size i h) ∙ sym (packed-suc l i)
+  read-end i h = ap₂ (λ (x y : ℕ). x + sectionHeaderSize + y) (read-offset i h) (read-size i h) ∙ sym (packed-suc (plannedSize l) i)
 
   pub read-start : (i : ℕ) → i < p .count → startAt image i ≡ packedAt l i
-  read-start zero h = sym (packed-zero l)
+  read-start zero h = sym (packed-zero (plannedSize l))
   read-start (suc i) h = read-end i (omega arith)
 
   pub read-data : (i : ℕ) → i < p .count → take (plannedSize l i) (drop (packedAt l i + sectionHeaderSize) image) ≡ pieceAt l d i

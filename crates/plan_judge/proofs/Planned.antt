@@ -6,7 +6,8 @@ use mathlib.Core.Logic.{⊎-elim}
 use native.Mathlib.Omega.{arith}
 use Rattle.eif.specs.Numbers.{placeCount}
 use Rattle.eif.specs.Rules.{fieldFault}
-use Rattle.eif.specs.Plan.{plainSize, dataBefore, planVerdict, writtenFor, planLength}
+use Rattle.eif.specs.Output.{writtenFor}
+use Rattle.eif.specs.Plan.{plainSize, dataBefore, planVerdict, planLength}
 use Rattle.eif.specs.declared.Plan.{Plan}
 use Rattle.eif.specs.declared.Refusal.{Refusal}
 use Rattle.eif.specs.declared.Verdict.the-variants.{Accepted, Refused}

@@ -7,7 +7,7 @@ use mathlib.Core.Logic.{⊎-elim}
 use native.Mathlib.Omega.{arith}
 use borrow.Author.Tests.{eq-eqb, ne-eqb, lt-ltb, le-ltb}
 use Rattle.eif.specs.Numbers.{sizeLimit, placeCount, imageTooLong, dataLengthDiffers}
-use Rattle.eif.specs.Layout.{headerSize, sectionHeaderSize}
+use Rattle.eif.specs.Layout.{headerSize, sectionHeaderSize, packedBy}
 use Rattle.eif.specs.Plan.{sizeFault, packedAt, dataBefore, plainSize}
 use Rattle.eif.specs.declared.Place.{Place}
 use Rattle.eif.specs.declared.Plan.{Plan}
@@ -24,7 +24,7 @@ limited-in n h = simp (le-ltb _ _ h)
 
 -- an image's size is its header, the sections' headers and the data
 pub packed-before : (l : List Place) (i : ℕ) → packedAt l i ≡ dataBefore l i + sectionHeaderSize * i + headerSize
-unfolding packedAt dataBefore
+unfolding packedBy dataBefore
 packed-before l zero = refl
 packed-before l (suc i) = let r = packed-before l i in omega arith
 
@@ -55,8 +55,8 @@ module _ (p : Plan) (given r : ℕ) (few : p .count ≤ placeCount) (e : r ≡ i
   size-is = e ∙ sym (image-limited p few)
 
   -- no size is 0, so 0 says that it is over the limit
-  pub over : r ≡ 0 → sizeLimit < plainSize p
-  over z =
+  pub over-limit : r ≡ 0 → sizeLimit < plainSize p
+  over-limit z =
       let b = packed-before (p .places) (p .count) in
       ⊎-elim
       (λ h.
@@ -65,8 +65,8 @@ module _ (p : Plan) (given r : ℕ) (few : p .count ≤ placeCount) (e : r ≡ i
       (λ h. h)
       (le-or-lt (plainSize p) sizeLimit)
 
-  pub within : (r ≡ 0 → ⊥) → (plainSize p ≤ sizeLimit) × (r ≡ plainSize p)
-  within z =
+  pub within-limit : (r ≡ 0 → ⊥) → (plainSize p ≤ sizeLimit) × (r ≡ plainSize p)
+  within-limit z =
       ⊎-elim
       (λ h. (h, size-is ∙ sym (limited-in (plainSize p) h)))
       (λ h. absurd (z (size-is ∙ sym (limited-over (plainSize p) h))))
@@ -74,17 +74,17 @@ module _ (p : Plan) (given r : ℕ) (few : p .count ≤ placeCount) (e : r ≡ i
 
   pub size-over : r ≡ 0 → imageTooLong ≡ sizeFault p given
   unfolding sizeFault
-  size-over z = simp (lt-ltb _ _ (over z))
+  size-over z = simp (lt-ltb _ _ (over-limit z))
 
   module _ (some : r ≡ 0 → ⊥) where
     -- the data is what the headers leave of the image
     pub size-parts : r ≡ dataBefore (p .places) (p .count) + sectionHeaderSize * p .count + headerSize
-    size-parts = within some .1 ∙ packed-before (p .places) (p .count)
+    size-parts = within-limit some .1 ∙ packed-before (p .places) (p .count)
 
     pub size-differs : (given ≡ dataBefore (p .places) (p .count) → ⊥) → dataLengthDiffers ≡ sizeFault p given
     unfolding sizeFault
-    size-differs h = simp (le-ltb _ _ (within some .0), ne-eqb _ _ h)
+    size-differs h = simp (le-ltb _ _ (within-limit some .0), ne-eqb _ _ h)
 
     pub size-fine : given ≡ dataBefore (p .places) (p .count) → 0 ≡ sizeFault p given
     unfolding sizeFault
-    size-fine h = simp (le-ltb _ _ (within some .0), eq-eqb _ _ h)
+    size-fine h = simp (le-ltb _ _ (within-limit some .0), eq-eqb _ _ h)

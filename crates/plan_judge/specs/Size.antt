@@ -1,4 +1,5 @@
--- The size of a plan's image, as the code gives it: 0 where there is none within the limit.
+-- The size of a plan's image, as the code gives it: 0 where there is none within the limit, since `Plan.plainSize` of any lengths need not
+-- fit a number of the code. Within the limit the two are one: `image-limited` and `limited-in` of proofs/Size.antt.
 -- Assumes nothing.
 use Prim.Native.Nat.{ℕ}
 use lib.Dec.{ltb, eqb}

@@ -1,4 +1,5 @@
--- The rules on a plan's section types, over a function from place to type.
+-- The rules on a plan's section types, over a function from place to type: the part of `Plan.planVerdict` that one function judges. The laws
+-- of proofs/Verdict.antt put it back there.
 -- Assumes nothing.
 use Prim.Native.Nat.{ℕ}
 use mathlib.Core.List.{List}

@@ -1,30 +1,19 @@
 // Runs the cases of the registers: a line for each image with its answer, and a line for each register in hexadecimal. First images
 // of every shape of streams, then refused ones, then the step over a reading and less than its image. Section types are FORMAT.md's numbers.
 use case_images::Shape;
+use case_lines::hex;
+use case_lines::say;
+use case_lines::text;
 use eif::Header;
 use eif::SectionType;
-use eif::Verdict;
 use eif_registers::Digest;
 use sha384_block::DIGEST_SIZE;
 
 // ---- lines
 
-fn text(bytes: &[u8]) {
-    io::write_all(libc::STDOUT_FILENO, bytes);
-}
-
-fn answer(verdict: Verdict) {
-    let said = case_lines::answer(verdict);
-    let bytes = said.bytes;
-    let length = said.length;
-    text(&bytes[..length]);
-}
-
 fn register(name: &[u8], bytes: [u8; DIGEST_SIZE]) {
     text(name);
-    for i in 0..DIGEST_SIZE {
-        io::print_hex(libc::STDOUT_FILENO, bytes[i] as u64, 2);
-    }
+    hex(&bytes);
     text(b"\n");
 }
 
@@ -39,7 +28,7 @@ fn registers(label: &[u8], image: &[u8]) {
     let three = measured.registers;
     text(label);
     text(b": ");
-    answer(verdict);
+    say(verdict);
     text(b"\n");
     digest(b"  PCR0 ", three[0]);
     digest(b"  PCR1 ", three[1]);

@@ -1,6 +1,11 @@
 // Runs the cases of the boot roll, one line each: the roll's reader over the worked roll and its neighbours, and the roll's writer
 // over small images. Section types are FORMAT.md's numbers, and R3 is the roll that it prints, byte for byte.
 use case_images::Shape;
+use case_images::WORKED_SIZE;
+use case_lines::hex;
+use case_lines::labelled;
+use case_lines::say;
+use case_lines::text;
 use eif::FlagsRecord;
 use eif::Header;
 use eif::PLACES;
@@ -8,37 +13,9 @@ use eif::RecordHead;
 use eif::RollReading;
 use eif::RollRecord;
 use eif::SectionType;
-use eif::Verdict;
 use eif::Written;
 
 // ---- lines
-
-fn text(bytes: &[u8]) {
-    io::write_all(libc::STDOUT_FILENO, bytes);
-}
-
-fn number(n: u64) {
-    io::print_decimal(libc::STDOUT_FILENO, n);
-}
-
-fn byte(b: u8) {
-    io::print_hex(libc::STDOUT_FILENO, b as u64, 2);
-}
-
-fn hex(bytes: &[u8]) {
-    let mut i: usize = 0;
-    while i < bytes.len() {
-        byte(bytes[i]);
-        i += 1;
-    }
-}
-
-fn answer(verdict: Verdict) {
-    let said = case_lines::answer(verdict);
-    let bytes = said.bytes;
-    let length = said.length;
-    text(&bytes[..length]);
-}
 
 fn is_blank(r: RollRecord) -> bool {
     if r.kind != 0 {
@@ -55,12 +32,9 @@ fn listed(r: RollRecord) {
     if is_blank(r) {
         return;
     }
-    text(b" (");
-    number(r.kind as u64);
-    text(b" ");
-    number(r.position.0);
-    text(b" ");
-    number(r.length.0);
+    labelled(b" (", r.kind as u64);
+    labelled(b" ", r.position.0);
+    labelled(b" ", r.length.0);
     text(b")");
 }
 
@@ -80,11 +54,9 @@ fn head_line(label: &[u8], reading: RollReading) {
     let verdict = reading.verdict;
     text(label);
     text(b": ");
-    answer(verdict);
-    text(b", flags ");
-    number(reading.flags as u64);
-    text(b", ");
-    number(reading.count);
+    say(verdict);
+    labelled(b", flags ", reading.flags as u64);
+    labelled(b", ", reading.count);
     text(b" records");
 }
 
@@ -304,7 +276,14 @@ fn before_order() {
 
 // ---- as many records as an image has places, and one more
 
-fn kind_at(i: u8) -> u16 {
+// Where the last of them ends, all empty and behind a flags record; with an end record after it; and with one record more.
+const RECORDS_END: usize = FlagsRecord::SIZE + RecordHead::SIZE * PLACES;
+
+const ENDED: usize = RECORDS_END + RecordHead::SIZE;
+
+const ONE_MORE: usize = ENDED + RecordHead::SIZE;
+
+fn kind_at(i: usize) -> u16 {
     if i == 0 {
         SectionType::KERNEL
     } else if i == 1 {
@@ -314,11 +293,11 @@ fn kind_at(i: u8) -> u16 {
     }
 }
 
-// The heads of 32 empty records, behind a flags record.
+// Their heads.
 fn put_heads(roll: &mut [u8]) {
-    let mut i: u8 = 0;
-    while i < 32 {
-        let at = FlagsRecord::SIZE + RecordHead::SIZE * (i as usize);
+    let mut i: usize = 0;
+    while i < PLACES {
+        let at = FlagsRecord::SIZE + RecordHead::SIZE * i;
         octets::put_le16(roll, at + RecordHead::TYPE_AT, kind_at(i));
         i += 1;
     }
@@ -326,35 +305,34 @@ fn put_heads(roll: &mut [u8]) {
 
 // These, a head after them, and of all that the first bytes.
 fn many(label: &[u8], kind: u16, length: u64, size: usize) {
-    let mut roll = [0u8; 352];
+    let mut roll = [0u8; ONE_MORE];
     put_record(&mut roll, 0, FlagsRecord::TYPE, FlagsRecord::LENGTH, b"");
     put_heads(&mut roll);
-    put_record(&mut roll, 332, kind, length, b"");
-    if size <= 352 {
+    put_record(&mut roll, RECORDS_END as u16, kind, length, b"");
+    if size <= ONE_MORE {
         shown(label, &roll[0..size], true);
     }
 }
 
 fn many_records() {
-    many(b"32 records", 0, 0, 342);
-    many(b"a 33rd record", 3, 0, 352);
+    many(b"32 records", 0, 0, ENDED);
+    many(b"a 33rd record", 3, 0, ONE_MORE);
     many(
         b"a 33rd record with its data past the end",
         3,
         18446744073709551615,
-        352,
+        ONE_MORE,
     );
-    many(b"a 33rd record with a cut head", 0, 0, 341);
-    many(b"a 33rd record with a bad head", 4, 0, 352);
+    many(b"a 33rd record with a cut head", 0, 0, ENDED - 1);
+    many(b"a 33rd record with a bad head", 4, 0, ONE_MORE);
 }
 
 // ---- writing a roll
 
 fn rolled(written: Written) {
     let verdict = written.verdict;
-    answer(verdict);
-    text(b", length ");
-    number(written.length);
+    say(verdict);
+    labelled(b", length ", written.length);
 }
 
 // The answer, the length and every byte of the output.
@@ -389,7 +367,7 @@ fn refused(image: &mut [u8]) {
 
 // The worked image again, by its plan and the image writer.
 fn planned() {
-    let mut image = [0u8; 586];
+    let mut image = [0u8; WORKED_SIZE];
     let written = eif_writer::write(case_images::worked_plan(), b"Ka", &mut image);
     text(b"the worked plan: ");
     rolled(written);
@@ -501,7 +479,7 @@ fn reading() {
 
 fn main() {
     reading();
-    let mut image = [0u8; 586];
+    let mut image = [0u8; WORKED_SIZE];
     case_images::put_image(&mut image, Shape::WORKED, b"Ka");
     rooms(&image);
     planned();

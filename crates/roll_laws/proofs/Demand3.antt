@@ -2,30 +2,25 @@
 -- image is one whose reading is accepted. Assumes nothing.
 use Prim.Native.Nat.{ℕ, _+_, _<_, _≤_}
 use mathlib.Core.Path.{_≡_, sym, ap, subst, ap₂, _∙_}
-use mathlib.Core.Bool.{Bool}
 use mathlib.Core.Logic.{_⊎_, ⊎-elim}
 use mathlib.Core.List.{List, _++_, append-assoc, map}
 use native.Mathlib.Omega.{arith}
-use borrow.Author.Tests.{lt-ltb, le-ltb}
-use lib.Dec.{ltb}
 use lib.ListN.{length, take, drop, take-append-drop}
 use lib.Seq.{length-take-le, take-all}
 use Rattle.octets.specs.Bytes.{AreBytes}
 use Rattle.octets.specs.Over.{over}
 use Rattle.octets.proofs.Value.{bytes-take, field-lt}
 use Rattle.eif.specs.Numbers.{outputTooShort}
-use Rattle.octets.specs.Logic.{choose}
-use Rattle.eif.specs.Answers.{refuse, andThen}
-use Rattle.eif.specs.Output.{outputFor}
-use Rattle.eif.specs.Layout.{headerFlagsOf}
+use Rattle.eif.specs.Answers.{refuse}
+use Rattle.eif.specs.Layout.{headerFlagsOf, headerFlagsAt}
 use Rattle.eif.specs.Reading.{verdictOf}
-use Rattle.eif.specs.Plan.{writtenFor}
+use Rattle.eif.specs.Output.{writtenFor, outputFor}
 use Rattle.eif.specs.Roll.{Record, flagsRecordSize, flagsRecord, rollOf, recordsOf, rollBytes, SameBoot, Begins, rollVerdict, rollAnswer, rollLength, rollOutput, rollFlags, recordKind, recordSize, readRoll}
 use Rattle.eif.specs.declared.Refusal.{Refusal}
 use Rattle.eif.specs.declared.RollReading.{RollReading}
 use Rattle.eif.specs.declared.Verdict.{Verdict}
 use Rattle.eif.specs.declared.Verdict.the-variants.{Accepted, Refused}
-use Rattle.eif_lemmas.proofs.Verdicts.{then-none}
+use Rattle.eif_lemmas.proofs.Room.{room-enough, room-handed-on, room-fine, room-short}
 use Rattle.roll_laws.specs.Listing.{listFrom, listingOf, foundIn}
 use Rattle.roll_laws.proofs.Prefix.{prefix-same}
 use Rattle.roll_laws.proofs.Positions.{sizes, kinds}
@@ -58,7 +53,7 @@ module _ (s t : List ℕ) where
         let x : List ℕ = flagsRecord f ++ rollOf (recordsOf s) in
         let y : List ℕ = rollBytes t in
         let more : List ℕ = drop (length x) y in
-        let e = flags-same f (headerFlagsOf t) (rollOf (recordsOf s) ++ more) (rollOf (recordsOf t)) (field-lt 2 6 s s-bytes) (field-lt 2 6 t t-bytes)
+        let e = flags-same f (headerFlagsOf t) (rollOf (recordsOf s) ++ more) (rollOf (recordsOf t)) (field-lt 2 headerFlagsAt s s-bytes) (field-lt 2 headerFlagsAt t t-bytes)
         (sym (append-assoc (flagsRecord f) (rollOf (recordsOf s)) more)
         ∙ ap (λ (l : List ℕ). l ++ more) (sym (b .same)) ∙ take-append-drop (length x) y) in
         record { flags = e .0; sections = prefix-same (recordsOf s) (recordsOf t) more (image-fit s s-accepted) (image-fit t t-accepted) (e .1) }
@@ -98,7 +93,7 @@ found-in-roll s =
 -- its flags are the image's
 flags-of-roll : (s : List ℕ) → AreBytes s → rollFlags (rollBytes s) ≡ headerFlagsOf s
 unfolding rollBytes
-flags-of-roll s w = flags-back (headerFlagsOf s) (rollOf (recordsOf s)) (field-lt 2 6 s w)
+flags-of-roll s w = flags-back (headerFlagsOf s) (rollOf (recordsOf s)) (field-lt 2 headerFlagsAt s w)
 
 -- The roll's reader gives the list of the image, said from the image's sections alone.
 pub list-of-image : (s : List ℕ) → AreBytes s → verdictOf s ≡ Accepted → ReadsList (rollBytes s) s
@@ -144,11 +139,11 @@ roll-shorter = shorter
 module _ (s : List ℕ) (ok : verdictOf s ≡ Accepted) where
   fitting : (room : ℕ) → length (rollBytes s) ≤ room → rollVerdict s room ≡ Accepted
   unfolding rollVerdict
-  fitting room h = ap (λ (v : Verdict). andThen v (choose (ltb room (length (rollBytes s))) (refuse outputTooShort 0) Accepted)) ok ∙ simp (le-ltb _ _ h)
+  fitting room h = room-fine (verdictOf s) room (length (rollBytes s)) ok h
 
   too-long : (room : ℕ) → room < length (rollBytes s) → rollVerdict s room ≡ refuse outputTooShort 0
   unfolding rollVerdict
-  too-long room h = ap (λ (v : Verdict). andThen v (choose (ltb room (length (rollBytes s))) (refuse outputTooShort 0) Accepted)) ok ∙ simp (lt-ltb _ _ h)
+  too-long room h = room-short (verdictOf s) room (length (rollBytes s)) ok h
 
   pub roll-fits : (room : ℕ) → length (rollBytes s) ≤ room → rollAnswer s room ≡ record { verdict = Accepted; length = length (rollBytes s) }
   unfolding rollAnswer
@@ -170,14 +165,13 @@ module _ (s : List ℕ) (ok : verdictOf s ≡ Accepted) where
 pub roll-length-is-written : (s : List ℕ) (room : ℕ) → length (rollBytes s) ≤ room → rollAnswer s room ≡ rollLength s
 unfolding rollAnswer rollLength rollVerdict
 roll-length-is-written s room h =
-    ap (λ (v : Verdict). writtenFor v (length (rollBytes s)))
-    (ap (λ (b : Bool). andThen (verdictOf s) (choose b (refuse outputTooShort 0) Accepted)) (le-ltb room (length (rollBytes s)) h) ∙ then-none (verdictOf s))
+    ap (λ (v : Verdict). writtenFor v (length (rollBytes s))) (room-enough (verdictOf s) room (length (rollBytes s)) h)
 
 -- Writing a roll reads the image first and hands any refusal on unchanged.
 module _ (s : List ℕ) (r : Refusal) (refused : verdictOf s ≡ Refused r) where
   handed-on : (room : ℕ) → rollVerdict s room ≡ Refused r
   unfolding rollVerdict
-  handed-on room = ap (λ (v : Verdict). andThen v (choose (ltb room (length (rollBytes s))) (refuse outputTooShort 0) Accepted)) refused
+  handed-on room = room-handed-on (verdictOf s) room (length (rollBytes s)) r refused
 
   pub refusal-handed-on : (room : ℕ) → rollAnswer s room ≡ record { verdict = Refused r; length = 0 }
   unfolding rollAnswer

@@ -17,7 +17,7 @@ use Rattle.eif.specs.Roll.{headOf, flagsType, flagsLength, flagsRecordSize, fla
 use Rattle.eif.specs.declared.Verdict.the-variants.{Accepted}
 use Rattle.eif_lemmas.proofs.Verdicts.{never}
 use Rattle.eif_lemmas.proofs.Flags.{length-flags, flags-zero, zero-flags}
-use Rattle.plain_laws.proofs.Split.{le-split}
+use Rattle.octets.proofs.Fields.{le-split}
 use Rattle.roll_laws.proofs.Positions.{head-size, head-kind}
 
 -- ---- a flags record and what follows it
@@ -65,17 +65,17 @@ module _ (s : List ℕ) (w : AreBytes s) where
       → drop at s ≡ headOf (leField 8 at s) (leField 2 (at + recordTypeAt) s) ++ drop (at + recordHeadSize) s
   unfolding headOf
   head-split at h =
-      let e : at + 8 + 2 ≡ at + 10 = omega arith in
+      let e : at + recordTypeAt + 2 ≡ at + recordHeadSize = omega arith in
       le-split s w 8 at (omega arith)
-      ∙ ap (λ (r : List ℕ). leBytes 8 (leField 8 at s) ++ r) (le-split s w 2 (at + 8) (omega arith) ∙ ap (λ (m : ℕ). leBytes 2 (leField 2 (at + 8) s) ++ drop m s) e)
-      ∙ sym (append-assoc (leBytes 8 (leField 8 at s)) (leBytes 2 (leField 2 (at + 8) s)) (drop (at + 10) s))
+      ∙ ap (λ (r : List ℕ). leBytes 8 (leField 8 at s) ++ r) (le-split s w 2 (at + recordTypeAt) (omega arith) ∙ ap (λ (m : ℕ). leBytes 2 (leField 2 (at + recordTypeAt) s) ++ drop m s) e)
+      ∙ sym (append-assoc (leBytes 8 (leField 8 at s)) (leBytes 2 (leField 2 (at + recordTypeAt) s)) (drop (at + recordHeadSize) s))
 
   pub flags-split : flagsFault s ≡ 0 → s ≡ flagsRecord (rollFlags s) ++ restOf s
   flags-split e =
       let a = flags-zero s e in
       let n = a .whole in
       head-split 0 (omega arith)
-      ∙ ap₂ (λ (x : List ℕ) (y : List ℕ). x ++ y) (ap₂ headOf (a .size) (a .kind)) (le-split s w 2 10 (omega arith))
+      ∙ ap₂ (λ (x : List ℕ) (y : List ℕ). x ++ y) (ap₂ headOf (a .size) (a .kind)) (le-split s w flagsLength recordHeadSize (omega arith))
       ∙ sym (head-first (rollFlags s) (restOf s))
 
 pub read-accepted : (s : List ℕ) → readRoll s .verdict ≡ Accepted → (flagsFault s ≡ 0) × (readRest (rollFlags s) (restOf s) .verdict ≡ Accepted)

@@ -4,11 +4,11 @@
 use Prim.Native.Nat.{ℕ, zero, suc, _+_, _^_, _<_, _≤_}
 use mathlib.Core.Path.{_≡_, refl, sym, ap, ap₂, subst, _∙_}
 use mathlib.Core.Bool.{Bool, true, false}
-use mathlib.Core.List.{List, [], _∷_, _++_, append-nil}
+use mathlib.Core.List.{List, _∷_, _++_, append-nil}
 use native.Mathlib.Omega.{arith}
 use borrow.Author.Tests.{ne-eqb, le-leb, eqb-true, not-false}
 use lib.Dec.{eqb}
-use lib.ListN.{length, take, drop, replicate, take-append-drop, length-take, length-drop}
+use lib.ListN.{length, take, drop, take-append-drop, length-take, length-drop}
 use lib.Seq.{drop-drop, drop-length}
 use Rattle.eif.specs.Layout.{sectionHeaderSize}
 use Rattle.octets.specs.Bytes.{AreBytes}
@@ -19,13 +19,13 @@ use Rattle.eif.specs.Rules.{allowedIn, seen, bootType, orderFault, bootMissing,
 use Rattle.eif.specs.Table.{filled, joinFrom}
 use Rattle.eif.specs.Reading.{verdictOf, blankSection, dataOf}
 use Rattle.eif.specs.Plan.{blankPlace, placeAt, plannedKind, plannedSize, packedAt, plainImage}
-use Rattle.eif.specs.Roll.{Record, recordHeadSize, headOf, flagsRecordSize, flagsRecord, rollOf, recordFor, recordsIn, recordsOf, rollBytes, rollFlags, restOf, recordAt, recordSize, recordKind, sizeAsImage, readRest, readRoll}
+use Rattle.eif.specs.Roll.{Record, recordHeadSize, headOf, flagsRecordSize, flagsRecord, rollOf, recordFor, recordsBy, recordsOf, rollBytes, rollFlags, restOf, recordAt, recordSize, recordKind, sizeAsImage, readRest, readRoll}
 use Rattle.eif.specs.declared.Plan.{Plan}
 use Rattle.eif.specs.declared.Place.{Place}
 use Rattle.eif.specs.declared.Section.{Section}
 use Rattle.eif.specs.declared.Verdict.the-variants.{Accepted}
 use Rattle.octets.proofs.Logic.{not-both, either-false}
-use Rattle.eif_lemmas.proofs.Types.{order-same, missing-same}
+use Rattle.eif_lemmas.proofs.Types.{order-same, missing-same, no-records}
 use Rattle.eif_lemmas.proofs.Table.{filled-at, filled-none}
 use Rattle.plain_laws.proofs.Shape.{packed-suc, packed-zero, bytes-plain}
 use Rattle.plain_laws.proofs.PlanRules.{Planned}
@@ -36,7 +36,7 @@ use Rattle.plain_laws.specs.Packed.{packedSection}
 use Rattle.plain_laws.proofs.ReadBack.{plain-accepted, sections-back}
 use Rattle.roll_laws.specs.Told.{ImageOf}
 use Rattle.roll_laws.proofs.RollRules.{WholeRoll, roll→}
-use Rattle.roll_laws.proofs.Positions.{first-record, next-record, first-size, next-size}
+use Rattle.roll_laws.proofs.Positions.{first-record, next-record}
 use Rattle.roll_laws.proofs.Flags.{head-split, flags-split, read-accepted}
 
 -- ---- the types of a roll
@@ -73,12 +73,6 @@ two kinds (suc zero) a b =
     last true e = refl
     last false e = e
 two kinds (suc (suc n)) a b = omega arith
-
--- no record for an unused place
-pub none-in : (s : List ℕ) (m : ℕ) → recordsIn s (replicate m blankSection) ≡ []
-unfolding recordsIn
-none-in s zero = refl
-none-in s (suc m) = none-in s m
 
 -- ---- the image of a roll
 
@@ -124,8 +118,8 @@ module _ (f : ℕ) (f-fits : f < 2 ^ 16) (s : List ℕ) (w : AreBytes s) (n : �
   size-is i h = ap (λ (x : Place). x .length .0) (place-is i h)
 
   pub packed-is : (i : ℕ) → i ≤ n → packedAt l i ≡ sizeAsImage s i
-  packed-is zero h = packed-zero l ∙ sym (first-size s)
-  packed-is (suc i) h = packed-suc l i ∙ ap₂ (λ (x y : ℕ). x + sectionHeaderSize + y) (packed-is i (omega arith)) (size-is i h) ∙ sym (next-size s i)
+  packed-is zero h = packed-zero (plannedSize l) ∙ sym (packed-zero (recordSize s))
+  packed-is (suc i) h = packed-suc (plannedSize l) i ∙ ap₂ (λ (x y : ℕ). x + sectionHeaderSize + y) (packed-is i (omega arith)) (size-is i h) ∙ sym (packed-suc (recordSize s) i)
 
   length-piece-is : (i : ℕ) → i < n → length (rollPiece s i) ≡ plannedSize l i
   length-piece-is i h =
@@ -190,33 +184,33 @@ module _ (f : ℕ) (f-fits : f < 2 ^ 16) (s : List ℕ) (w : AreBytes s) (n : �
     bytes : dataOf image x ≡ rollPiece s i
 
   step : (x : Section) (rest : List Record) (i : ℕ) → i < n → Matches x i → rollOf rest ≡ drop (recordAt s (suc i)) s
-      → rollOf (choose (bootType (x .kind)) (recordFor image x ∷ rest) rest) ≡ drop (recordAt s i) s
+      → rollOf (choose (bootType (x .kind)) (recordFor (dataOf image) x ∷ rest) rest) ≡ drop (recordAt s i) s
   unfolding rollOf
   step x rest i h m e =
       let k = a .known i h in
       let t : bootType (x .kind) ≡ true = ap bootType (m .kind) ∙ known-in-roll (recordKind s i) (k .0) (k .1) in
-      ap (λ (b : Bool). rollOf (choose b (recordFor image x ∷ rest) rest)) t
+      ap (λ (b : Bool). rollOf (choose b (recordFor (dataOf image) x ∷ rest) rest)) t
       ∙ ap₂ (λ (b : List ℕ) (r : List ℕ). headOf (length b) (x .kind) ++ (b ++ r)) (m .bytes) e
       ∙ ap₂ (λ (z q : ℕ). headOf z q ++ (rollPiece s i ++ drop (recordAt s (suc i)) s)) (length-piece-is i h ∙ size-is i h) (m .kind)
       ∙ sym (record-split i h)
 
   rolled : (m k i : ℕ) (f : ℕ → Section) → k ≤ m → i + k ≡ n → ((j : ℕ) → j < k → Matches (f j) (i + j))
-      → rollOf (recordsIn image (filled f blankSection m k)) ≡ drop (recordAt s i) s
-  unfolding recordsIn rollOf
+      → rollOf (recordsBy (dataOf image) (filled f blankSection m k)) ≡ drop (recordAt s i) s
+  unfolding recordsBy rollOf
   rolled m zero i f h e g =
       let z : i ≡ n = omega arith in
-      ap (λ (x : List Section). rollOf (recordsIn image x)) (filled-none f blankSection m) ∙ ap rollOf (none-in image m)
+      ap (λ (x : List Section). rollOf (recordsBy (dataOf image) x)) (filled-none f blankSection m) ∙ ap rollOf (no-records (dataOf image) m)
       ∙ sym (ap (λ (q : ℕ). drop (recordAt s q) s) z ∙ end-split)
   rolled zero (suc k) i f h e g = absurd (omega arith)
   rolled (suc m) (suc k) i f h e g =
       let z : i + 0 ≡ i = omega arith in
-      step (f 0) (recordsIn image (filled (λ j. f (suc j)) blankSection m k)) i (omega arith) (subst (Matches (f 0)) z (g 0 (omega arith)))
+      step (f 0) (recordsBy (dataOf image) (filled (λ j. f (suc j)) blankSection m k)) i (omega arith) (subst (Matches (f 0)) z (g 0 (omega arith)))
       (rolled m k (suc i) (λ j. f (suc j)) (omega arith) (omega arith)
       (λ j q. let y : i + suc j ≡ suc i + j = omega arith in subst (Matches (f (suc j))) y (g (suc j) (omega arith))))
 
   rest-again : rollOf (recordsOf image) ≡ s
   rest-again =
-      ap (λ (x : List Section). rollOf (recordsIn image x)) (sections-back p d roll-planned bytes-d roll-fits)
+      ap (λ (x : List Section). rollOf (recordsBy (dataOf image) x)) (sections-back p d roll-planned bytes-d roll-fits)
       ∙ rolled placeCount n 0 (packedSection l) (a .few) (omega arith)
       (λ j q. let z : j ≡ 0 + j = omega arith in subst (Matches (packedSection l j)) z (record { kind = kind-is j q; bytes = data-is j q }))
       ∙ ap (λ (m : ℕ). drop m s) (first-record s)

@@ -8,12 +8,12 @@ use native.Mathlib.Nat.{sub-zero}
 use lib.ListN.{length, take, drop, getD, replicate}
 use lib.Seq.{take-at, drop-at, drop-drop}
 use Rattle.eif.specs.Numbers.{placeCount}
-use Rattle.eif.specs.Table.{filled}
+use Rattle.eif.specs.Table.{filled, inTable}
 use Rattle.eif.specs.Roll.{Record, recordHeadSize, flagsRecordSize, rollOf, recordAt, recordSize, recordKind, listedAt, blankRecord, acceptedRoll}
 use Rattle.eif.specs.declared.RollRecord.{RollRecord}
 use Rattle.eif_lemmas.proofs.Table.{filled-none}
 use Rattle.roll_laws.specs.Listing.{listFrom, listingOf, foundIn}
-use Rattle.roll_laws.proofs.Positions.{first-record, next-record, blank, head-past}
+use Rattle.roll_laws.proofs.Positions.{first-record, next-record, emptyRecord, head-past}
 use Rattle.roll_laws.proofs.RollRules.{listedRoll}
 
 -- ---- what it points at
@@ -31,10 +31,15 @@ found-from t (r ∷ rs) at e =
 
 -- ---- what reading gives
 
+-- a list has an entry for each record
+pub length-list : (at : ℕ) (rs : List Record) → length (listFrom at rs) ≡ length rs
+length-list at [] = refl
+length-list at (r ∷ rs) = ap suc (length-list _ rs)
+
 -- the records of a roll's rest from record i on are as in a list
 pub record AreAt (t : List ℕ) (i : ℕ) (rs : List Record) : Type 0 where
-  pub kind : (j : ℕ) → j < length rs → recordKind t (i + j) ≡ getD rs j blank .kind
-  pub size : (j : ℕ) → j < length rs → recordSize t (i + j) ≡ length (getD rs j blank .bytes)
+  pub kind : (j : ℕ) → j < length rs → recordKind t (i + j) ≡ getD rs j emptyRecord .kind
+  pub size : (j : ℕ) → j < length rs → recordSize t (i + j) ≡ length (getD rs j emptyRecord .bytes)
 
 module _ (t : List ℕ) where
   later : (i : ℕ) (r : Record) (rs : List Record) → AreAt t i (r ∷ rs) → AreAt t (suc i) rs
@@ -68,6 +73,9 @@ module _ (t : List ℕ) where
       ∙ ap (λ (k : ℕ). listFrom (at + recordHeadSize + length (r .bytes)) rs ++ replicate k blankRecord) (sym n))
 
   pub listing-is : (flags : ℕ) (rs : List Record) → length rs ≤ placeCount → AreAt t 0 rs → listedRoll flags t (length rs) ≡ listingOf flags rs
+  unfolding inTable
   listing-is flags rs h a =
+      let l : List RollRecord = listFrom flagsRecordSize rs in
       ap (acceptedRoll flags (length rs))
-      (filled-from rs placeCount 0 flagsRecordSize (listedAt t) h (λ j. let z : j ≡ 0 + j = omega arith in ap (listedAt t) z) (ap (λ (n : ℕ). flagsRecordSize + n) (first-record t)) a)
+      (filled-from rs placeCount 0 flagsRecordSize (listedAt t) h (λ j. let z : j ≡ 0 + j = omega arith in ap (listedAt t) z) (ap (λ (n : ℕ). flagsRecordSize + n) (first-record t)) a
+      ∙ ap (λ (k : ℕ). l ++ replicate (placeCount - k) blankRecord) (sym (length-list flagsRecordSize rs)))

@@ -8,18 +8,18 @@ use native.Mathlib.Omega.{arith}
 use borrow.Author.Tests.{ne-eqb}
 use lib.Dec.{eqb}
 use lib.ListN.{length, getD}
+use Rattle.eif_lemmas.proofs.Types.{no-records}
 use Rattle.octets.specs.Lists.{All}
 use Rattle.eif.specs.Numbers.{kernel, ramdisk, ramdiskBeforeKernel, typeRepeated}
 use Rattle.octets.specs.Logic.{choose, either}
 use Rattle.eif.specs.Rules.{seen, orderFault, bootType}
 use Rattle.eif.specs.Table.{filled}
-use Rattle.eif.specs.Reading.{blankSection}
-use Rattle.eif.specs.Roll.{Record, recordFor, recordsIn}
+use Rattle.eif.specs.Reading.{blankSection, dataOf}
+use Rattle.eif.specs.Roll.{Record, recordFor, recordsBy}
 use Rattle.eif.specs.declared.Section.{Section}
 use Rattle.octets.proofs.Logic.{not-both}
 use Rattle.eif_lemmas.proofs.Table.{filled-none}
-use Rattle.roll_laws.proofs.Positions.{blank}
-use Rattle.roll_laws.proofs.ImageOfRoll.{none-in}
+use Rattle.roll_laws.proofs.Positions.{emptyRecord}
 
 -- ---- the rules over a list of earlier types
 
@@ -77,12 +77,12 @@ pub record Follows (kinds : ℕ → ℕ) (i : ℕ) (e : List ℕ) (rs : List Rec
 
 -- the records of the later of m places
 abbrev pub laterRecords : List ℕ → (ℕ → Section) → ℕ → ℕ → List Record
-laterRecords s f m n = recordsIn s (filled (λ j. f (suc j)) blankSection m n)
+laterRecords s f m n = recordsBy (dataOf s) (filled (λ j. f (suc j)) blankSection m n)
 
 module _ (s : List ℕ) (kinds : ℕ → ℕ) where
   follow : (x : Section) (rest : List Record) (i n : ℕ) (e : List ℕ) → x .kind ≡ kinds i → orderFault kinds (kinds i) i ≡ 0 → Knows kinds i e
       → ((e : List ℕ) → Knows kinds (suc i) e → Follows kinds n e rest)
-      → (b : Bool) → bootType (x .kind) ≡ b → Follows kinds n e (choose b (recordFor s x ∷ rest) rest)
+      → (b : Bool) → bootType (x .kind) ≡ b → Follows kinds n e (choose b (recordFor (dataOf s) x ∷ rest) rest)
   follow x rest i n e q c k again true t =
       let r = again (x .kind ∷ e) (knows-more kinds i (x .kind) e q k) in
       record { ordered = (order-known kinds (x .kind) i e t k ∙ ap (λ (a : ℕ). orderFault kinds a i) q ∙ c, r .ordered); knows = r .knows }
@@ -90,11 +90,11 @@ module _ (s : List ℕ) (kinds : ℕ → ℕ) where
 
   pub order-of-sections : (m n i : ℕ) (f : ℕ → Section) (e : List ℕ) → n ≤ m → ((j : ℕ) → j < n → f j .kind ≡ kinds (i + j))
       → ((j : ℕ) → j < n → orderFault kinds (kinds (i + j)) (i + j) ≡ 0) → Knows kinds i e
-      → Follows kinds (i + n) e (recordsIn s (filled f blankSection m n))
-  unfolding recordsIn
+      → Follows kinds (i + n) e (recordsBy (dataOf s) (filled f blankSection m n))
+  unfolding recordsBy
   order-of-sections m zero i f e h q o k =
       let z : i ≡ i + 0 = omega arith in
-      let l : [] ≡ recordsIn s (filled f blankSection m 0) = sym (ap (recordsIn s) (filled-none f blankSection m) ∙ none-in s m) in
+      let l : [] ≡ recordsBy (dataOf s) (filled f blankSection m 0) = sym (ap (recordsBy (dataOf s)) (filled-none f blankSection m) ∙ no-records (dataOf s) m) in
       subst (Follows kinds (i + 0) e) l (record { ordered = tt; knows = subst (λ (x : ℕ). Knows kinds x e) z k })
   order-of-sections zero (suc n) i f e h q o k = absurd (omega arith)
   order-of-sections (suc m) (suc n) i f e h q o k =
@@ -105,7 +105,7 @@ module _ (s : List ℕ) (kinds : ℕ → ℕ) where
       order-of-sections m n (suc i) (λ j. f (suc j)) e (omega arith)
       (λ j l. let r : i + suc j ≡ suc i + j = omega arith in q (suc j) (omega arith) ∙ ap kinds r)
       (λ j l. let r : i + suc j ≡ suc i + j = omega arith in subst (λ (a : ℕ). orderFault kinds (kinds a) a ≡ 0) r (o (suc j) (omega arith))) k in
-      subst (λ (a : ℕ). Follows kinds a e (choose (bootType (f 0 .kind)) (recordFor s (f 0) ∷ laterRecords s f m n) (laterRecords s f m n))) y
+      subst (λ (a : ℕ). Follows kinds a e (choose (bootType (f 0 .kind)) (recordFor (dataOf s) (f 0) ∷ laterRecords s f m n) (laterRecords s f m n))) y
       (follow (f 0) (laterRecords s f m n) i (suc i + n) e (q 0 (omega arith) ∙ ap kinds z)
       (subst (λ (a : ℕ). orderFault kinds (kinds a) a ≡ 0) z (o 0 (omega arith))) k again (bootType (f 0 .kind)) refl)
 
@@ -117,7 +117,7 @@ InRoll r = bootType (r .kind) ≡ true
 module _ (kinds : ℕ → ℕ) where
   -- the places from i on have the records' types
   abbrev pub Types : ℕ → List Record → Type 0
-  Types i rs = (j : ℕ) → j < length rs → kinds (i + j) ≡ getD rs j blank .kind
+  Types i rs = (j : ℕ) → j < length rs → kinds (i + j) ≡ getD rs j emptyRecord .kind
 
   later-types : (i : ℕ) (r : Record) (rs : List Record) → Types i (r ∷ rs) → Types (suc i) rs
   later-types i r rs q j h = let w : suc i + j ≡ i + suc j = omega arith in ap kinds w ∙ q (suc j) (omega arith)

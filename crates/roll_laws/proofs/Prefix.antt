@@ -13,8 +13,8 @@ use Rattle.octets.proofs.Value.{leBytes-same}
 use Rattle.eif.specs.Roll.{Record, headOf, rollOf}
 
 -- a record that a roll can hold: not of the end record's type, and of numbers that fit their fields
-abbrev pub Fits : Record → Type 0
-Fits r = (0 < r .kind) × (r .kind < 2 ^ 16) × (length (r .bytes) < 2 ^ 64)
+abbrev pub FitsHead : Record → Type 0
+FitsHead r = (0 < r .kind) × (r .kind < 2 ^ 16) × (length (r .bytes) < 2 ^ 64)
 
 split-same {ℓ} : {A : Type ℓ} (x u y v : List A) → length x ≡ length u → x ++ y ≡ u ++ v → (x ≡ u) × (y ≡ v)
 split-same x u y v n e = (
@@ -39,7 +39,7 @@ head-same m k n l y v hm hn hk hl e =
 record-same : (r q : Record) → r .kind ≡ q .kind → r .bytes ≡ q .bytes → r ≡ q
 record-same r q k b = λ i. record { kind = k i; bytes = b i }
 
-pub prefix-same : (a b : List Record) (t : List ℕ) → All Fits a → All Fits b → rollOf a ++ t ≡ rollOf b → a ≡ b
+pub prefix-same : (a b : List Record) (t : List ℕ) → All FitsHead a → All FitsHead b → rollOf a ++ t ≡ rollOf b → a ≡ b
 unfolding All rollOf
 prefix-same [] [] t fa fb e = refl
 prefix-same [] (q ∷ qs) t fa fb e =

@@ -10,6 +10,8 @@ use borrow.Author.Tests.{leb-true}
 use lib.Dec.{leb}
 use lib.ListN.{length, drop, getD, length-append, length-take, length-drop}
 use lib.Seq.{drop-cons, drop-length}
+use Rattle.plain_laws.proofs.Shape.{packed-zero, packed-suc}
+use Rattle.eif_lemmas.proofs.Types.{no-records}
 use Rattle.octets.specs.Lists.{All}
 use Rattle.octets.specs.Bytes.{leField}
 use Rattle.octets.proofs.Value.{leField-drop, leField-drop0}
@@ -19,19 +21,18 @@ use Rattle.eif.specs.Rules.{bootType, seen, orderFault, bootMissing, missing}
 use Rattle.eif.specs.Table.{filled}
 use Rattle.eif.specs.Layout.{headerSize, sectionHeaderSize, versionOf, headerFlagsOf, countOf, offsetAt, sizeAt, startAt, kindAt}
 use Rattle.eif.specs.Reading.{verdictOf, sectionAt, blankSection, sectionsOf, dataOf}
-use Rattle.eif.specs.Roll.{Record, headOf, flagsRecord, rollOf, recordFor, recordsIn, recordsOf, rollBytes, recordAt, recordSize, recordKind, sizeAsImage, recordHeadSize, recordTypeAt, recordLengthAt}
+use Rattle.eif.specs.Roll.{Record, headOf, flagsRecord, rollOf, recordFor, recordsBy, recordsOf, rollBytes, recordAt, recordSize, recordKind, sizeAsImage, recordHeadSize, recordTypeAt, recordLengthAt}
 use Rattle.eif.specs.declared.Section.{Section}
 use Rattle.eif.specs.declared.Verdict.the-variants.{Accepted}
 use Rattle.octets.proofs.Logic.{both-true, either-false}
 use Rattle.eif_lemmas.proofs.Table.{filled-none, length-filled, all-at}
-use Rattle.eif_lemmas.proofs.Accept.{none-missing-of, order-at, sound-at}
+use Rattle.eif_lemmas.proofs.Accept.{none-missing-of, order-at, sound-at, file-ends}
 use Rattle.eif_lemmas.proofs.Flags.{length-flags}
-use Rattle.plain_laws.proofs.WriteBack.{head}
-use Rattle.plain_laws.proofs.Plainness.{start-inside}
+use Rattle.plain_laws.proofs.WriteBack.{sound-head}
 use Rattle.roll_laws.proofs.RollRules.{WholeRoll}
-use Rattle.roll_laws.proofs.Prefix.{Fits}
-use Rattle.roll_laws.proofs.Positions.{first-size, next-size, blank, suffix, sizes, kinds}
-use Rattle.roll_laws.proofs.ImageOfRoll.{boot-there, none-in, known-in-roll}
+use Rattle.roll_laws.proofs.Prefix.{FitsHead}
+use Rattle.roll_laws.proofs.Positions.{emptyRecord, suffix, sizes, kinds}
+use Rattle.roll_laws.proofs.ImageOfRoll.{boot-there, known-in-roll}
 use Rattle.roll_laws.proofs.Order.{laterRecords, InRoll, Types, Follows, knows-none, knows-both, knows-after, order-of-sections, order-of-records}
 
 -- ---- records that an image can hold
@@ -41,7 +42,7 @@ pub record Held (r : Record) : Type 0 where
   pub high : r .kind ≤ ramdisk
   pub small : length (r .bytes) ≤ sizeLimit
 
-held-fit : (rs : List Record) → All Held rs → All Fits rs
+held-fit : (rs : List Record) → All Held rs → All FitsHead rs
 unfolding All
 held-fit [] a = tt
 held-fit (r ∷ rs) a =
@@ -58,25 +59,25 @@ module _ (s : List ℕ) (small : length s ≤ sizeLimit) where
   data-small : (x : Section) → length (dataOf s x) ≤ sizeLimit
   data-small x = simp (length-take, length-drop) (omega arith)
 
-  held-one : (x : Section) → bootType (x .kind) ≡ true → Held (recordFor s x)
+  held-one : (x : Section) → bootType (x .kind) ≡ true → Held (recordFor (dataOf s) x)
   held-one x t = let b = both-true (leb 1 (x .kind)) (leb (x .kind) 3) t in record { low = leb-true _ _ (b .0); high = leb-true _ _ (b .1); small = data-small x }
 
-  all-held : (l : List Section) → All Held (recordsIn s l)
-  unfolding All recordsIn
+  all-held : (l : List Section) → All Held (recordsBy (dataOf s) l)
+  unfolding All recordsBy
   all-held [] = tt
   all-held (x ∷ xs) = one (all-held xs) (bootType (x .kind)) refl
     where
-      one : All Held (recordsIn s xs) → (b : Bool) → bootType (x .kind) ≡ b → All Held (choose b (recordFor s x ∷ recordsIn s xs) (recordsIn s xs))
+      one : All Held (recordsBy (dataOf s) xs) → (b : Bool) → bootType (x .kind) ≡ b → All Held (choose b (recordFor (dataOf s) x ∷ recordsBy (dataOf s) xs) (recordsBy (dataOf s) xs))
       one a true t = (held-one x t, a)
       one a false t = a
 
 -- there are at most as many records as sections
-records-few : (s : List ℕ) (l : List Section) → length (recordsIn s l) ≤ length l
-unfolding recordsIn
+records-few : (s : List ℕ) (l : List Section) → length (recordsBy (dataOf s) l) ≤ length l
+unfolding recordsBy
 records-few s [] = omega arith
 records-few s (x ∷ xs) = one (records-few s xs) (bootType (x .kind))
   where
-    one : length (recordsIn s xs) ≤ length xs → (b : Bool) → length (choose b (recordFor s x ∷ recordsIn s xs) (recordsIn s xs)) ≤ suc (length xs)
+    one : length (recordsBy (dataOf s) xs) ≤ length xs → (b : Bool) → length (choose b (recordFor (dataOf s) x ∷ recordsBy (dataOf s) xs) (recordsBy (dataOf s) xs)) ≤ suc (length xs)
     one h true = omega arith
     one h false = omega arith
 
@@ -93,17 +94,17 @@ sum-cons r rs = refl
 
 module _ (s : List ℕ) (ok : verdictOf s ≡ Accepted) where
   sum-one : (x : Section) (rest : List Record) (i top : ℕ) → length (dataOf s x) ≤ sizeAt s i → offsetAt s i ≡ startAt s i
-      → startAt s (suc i) + recordsSum rest ≤ top → (b : Bool) → startAt s i + recordsSum (choose b (recordFor s x ∷ rest) rest) ≤ top
+      → startAt s (suc i) + recordsSum rest ≤ top → (b : Bool) → startAt s i + recordsSum (choose b (recordFor (dataOf s) x ∷ rest) rest) ≤ top
   unfolding recordsSum
   sum-one x rest i top e b r true = le-trans (omega arith) r
   sum-one x rest i top e b r false = le-trans (omega arith) r
 
   sum-le : (m n i : ℕ) (f : ℕ → Section) → n ≤ m → i + n ≤ countOf s → ((j : ℕ) → j < n → f j ≡ sectionAt s (i + j))
-      → startAt s i + recordsSum (recordsIn s (filled f blankSection m n)) ≤ startAt s (i + n)
-  unfolding recordsIn recordsSum
+      → startAt s i + recordsSum (recordsBy (dataOf s) (filled f blankSection m n)) ≤ startAt s (i + n)
+  unfolding recordsBy recordsSum
   sum-le m zero i f h g q =
       let z : i + 0 ≡ i = omega arith in
-      let e : recordsIn s (filled f blankSection m 0) ≡ [] = ap (recordsIn s) (filled-none f blankSection m) ∙ none-in s m in
+      let e : recordsBy (dataOf s) (filled f blankSection m 0) ≡ [] = ap (recordsBy (dataOf s)) (filled-none f blankSection m) ∙ no-records (dataOf s) m in
       rw (z, e) (omega arith)
   sum-le zero (suc n) i f h g q = absurd (omega arith)
   sum-le (suc m) (suc n) i f h g q =
@@ -111,14 +112,14 @@ module _ (s : List ℕ) (ok : verdictOf s ≡ Accepted) where
       let y : suc i + n ≡ i + suc n = omega arith in
       let r = sum-le m n (suc i) (λ j. f (suc j)) (omega arith) (omega arith) (λ j l. let t : i + suc j ≡ suc i + j = omega arith in q (suc j) (omega arith) ∙ ap (sectionAt s) t) in
       let e : length (dataOf s (f 0)) ≤ sizeAt s i = rw (q 0 (omega arith) ∙ ap (sectionAt s) z) (simp length-take (omega arith)) in
-      subst (λ (a : ℕ). startAt s i + recordsSum (choose (bootType (f 0 .kind)) (recordFor s (f 0) ∷ laterRecords s f m n) (laterRecords s f m n)) ≤ startAt s a) y
+      subst (λ (a : ℕ). startAt s i + recordsSum (choose (bootType (f 0 .kind)) (recordFor (dataOf s) (f 0) ∷ laterRecords s f m n) (laterRecords s f m n)) ≤ startAt s a) y
       (sum-one (f 0) (laterRecords s f m n) i (startAt s (suc i + n)) e (sound-at s ok i (omega arith) .starts) r (bootType (f 0 .kind)))
 
   -- the records fit in the image, after its header
   sum-small : headerSize + recordsSum (recordsOf s) ≤ length s
   sum-small =
-      let a = sum-le placeCount (countOf s) 0 (sectionAt s) (head s ok .few) (omega arith) (λ j l. let z : j ≡ 0 + j = omega arith in ap (sectionAt s) z) in
-      let b = start-inside s ok (countOf s) refl in
+      let a = sum-le placeCount (countOf s) 0 (sectionAt s) (sound-head s ok .few) (omega arith) (λ j l. let z : j ≡ 0 + j = omega arith in ap (sectionAt s) z) in
+      let b : startAt s (countOf s) ≤ length s = omega (arith, file-ends s ok) in
       let z : 0 + countOf s ≡ countOf s = omega arith in
       let c = subst (λ (x : ℕ). headerSize + recordsSum (recordsOf s) ≤ startAt s x) z a in
       le-trans c b
@@ -161,7 +162,7 @@ module _ (rs : List Record) (held : All Held rs) where
   abbrev n : ℕ
   n = length rs
 
-  fit : All Fits rs
+  fit : All FitsHead rs
   fit = held-fit rs held
 
   head-inside : (i : ℕ) → i ≤ n → recordAt t i + recordHeadSize ≤ length t
@@ -187,12 +188,12 @@ module _ (rs : List Record) (held : All Held rs) where
   end-kind-is = leField-drop 2 recordTypeAt (recordAt t n) t ∙ ap (leField 2 recordTypeAt) at-end ∙ end-kind
 
   sizes-sum : (i : ℕ) → i ≤ n → sizeAsImage t i + recordsSum (drop i rs) ≡ headerSize + recordsSum rs
-  sizes-sum zero h = ap (λ (x : ℕ). x + recordsSum rs) (first-size t)
+  sizes-sum zero h = ap (λ (x : ℕ). x + recordsSum rs) (packed-zero (recordSize t))
   sizes-sum (suc i) h =
       let r = sizes-sum i (omega arith) in
-      let e = ap recordsSum (drop-cons rs i blank h) ∙ sum-cons (getD rs i blank) (drop (suc i) rs) in
+      let e = ap recordsSum (drop-cons rs i emptyRecord h) ∙ sum-cons (getD rs i emptyRecord) (drop (suc i) rs) in
       let z = sizes rs fit i h in
-      let q = next-size t i in
+      let q = packed-suc (recordSize t) i in
       omega arith
 
 -- ---- of an accepted image
@@ -205,9 +206,9 @@ module _ (s : List ℕ) (ok : verdictOf s ≡ Accepted) where
   roll = rollOf (recordsOf s)
 
   held : All Held (recordsOf s)
-  held = all-held s (head s ok .small) (sectionsOf s)
+  held = all-held s (sound-head s ok .small) (sectionsOf s)
 
-  pub image-fit : All Fits (recordsOf s)
+  pub image-fit : All FitsHead (recordsOf s)
   image-fit = held-fit (recordsOf s) held
 
   pub image-few : length (recordsOf s) ≤ placeCount
@@ -218,7 +219,7 @@ module _ (s : List ℕ) (ok : verdictOf s ≡ Accepted) where
 
   ordered : Follows (kindAt s) (0 + countOf s) [] (recordsOf s)
   ordered =
-      order-of-sections s (kindAt s) placeCount (countOf s) 0 (sectionAt s) [] (head s ok .few)
+      order-of-sections s (kindAt s) placeCount (countOf s) 0 (sectionAt s) [] (sound-head s ok .few)
       (λ j l. let z : j ≡ 0 + j = omega arith in ap (kindAt s) z)
       (λ j l. let z : j ≡ 0 + j = omega arith in subst (λ (x : ℕ). orderFault (kindAt s) (kindAt s x) x ≡ 0) z (order-at s ok j l))
       (knows-none (kindAt s))
@@ -247,11 +248,11 @@ module _ (s : List ℕ) (ok : verdictOf s ≡ Accepted) where
       let m = boot-there (kindAt s) (countOf s) (boot-of-missing (kindAt s) (versionOf s) (countOf s) (none-missing-of s ok)) in
       let z = sizes-sum rs held (length rs) (omega arith) in
       let u = sum-small s ok in
-      let v = head s ok .small in
+      let v = sound-head s ok .small in
       record {
         few = image-few;
         heads = head-inside rs held;
-        known = λ i h. let x = all-at Held rs i blank h held in let k = kinds rs image-fit i h in let lo = x .low in let hi = x .high in (omega arith, omega arith);
+        known = λ i h. let x = all-at Held rs i emptyRecord h held in let k = kinds rs image-fit i h in let lo = x .low in let hi = x .high in (omega arith, omega arith);
         inside = λ i h. let x = head-inside rs held (suc i) h in omega arith;
         order = order-there;
         end-kind = end-kind-is rs held;

@@ -1,9 +1,10 @@
 -- The list of a roll, said from its records alone, what such a list points at, and a roll with its heads taken out.
 -- Assumes nothing.
-use Prim.Native.Nat.{ℕ, _+_, _-_}
-use mathlib.Core.List.{List, [], _∷_, _++_}
-use lib.ListN.{length, take, drop, replicate}
-use Rattle.eif.specs.Numbers.{placeCount}
+use Prim.Native.Nat.{ℕ, _+_}
+use mathlib.Core.List.{List, [], _∷_}
+use lib.ListN.{length, take, drop}
+use Rattle.eif.specs.Table.{inTable}
+use Rattle.octets.specs.Lists.{joinedBy}
 use Rattle.eif.specs.Roll.{Record, recordHeadSize, flagsRecordSize, blankRecord, acceptedRoll, readRoll}
 use Rattle.eif.specs.Stream.{kept}
 use Rattle.eif.specs.declared.Stream.{Stream}
@@ -19,7 +20,7 @@ listFrom at (r ∷ rs) =
 
 -- the answer: the flags, the number of records, and their list from the end of the flags record on, unused places blank
 abbrev pub listingOf : ℕ → List Record → RollReading
-listingOf flags rs = acceptedRoll flags (length rs) (listFrom flagsRecordSize rs ++ replicate (placeCount - length rs) blankRecord)
+listingOf flags rs = acceptedRoll flags (length rs) (inTable blankRecord (listFrom flagsRecordSize rs))
 
 -- the type that a list gives, and the bytes of a roll that it points at
 abbrev pub foundIn : List ℕ → RollRecord → Record
@@ -36,9 +37,8 @@ abbrev pub entriesOf : List ℕ → List RollRecord
 entriesOf t = take (readRoll t .count) (readRoll t .records)
 
 -- what entries point at, joined
-unfoldable pub joinedAt : List ℕ → List RollRecord → List ℕ
-joinedAt t [] = []
-joinedAt t (x ∷ xs) = bytesAt t x ++ joinedAt t xs
+abbrev pub joinedAt : List ℕ → List RollRecord → List ℕ
+joinedAt t l = joinedBy (bytesAt t) l
 
 -- all of it; and what a stream keeps of it
 unfoldable pub withoutHeads : List ℕ → List ℕ

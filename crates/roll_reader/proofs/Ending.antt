@@ -13,7 +13,7 @@ use Rattle.eif.specs.Numbers.{sizeLimit, placeCount, imageTooLong, sectionMissi
 use Rattle.eif.specs.Answers.{refuse, refuseAt}
 use Rattle.eif.specs.Rules.{bootMissing}
 use Rattle.eif.specs.Table.{filled}
-use Rattle.eif.specs.Layout.{headerSize, sectionHeaderSize}
+use Rattle.eif.specs.Layout.{headerSize, sectionHeaderSize, packedBy}
 use Rattle.eif.specs.Roll.{recordHeadSize, flagsRecordSize, endType, Ending, ended, stopped, recordAt, recordKind, endVerdict, listedAt, blankRecord, headFault, bodyFault, endFrom, sizeAsImage, rollFault, refusedRoll, acceptedRoll, rollAnswerFor, readRest}
 use Rattle.eif.specs.declared.Refusal.{Refusal}
 use Rattle.eif.specs.declared.RollRecord.{RollRecord}
@@ -35,9 +35,12 @@ module _ (s : List ℕ) (i : ℕ) (few : i ≤ placeCount) (so-far : endFrom s (
   unfolding endFrom
   from-head k e h = rw (more, ← e) (simp (ne-eqb k 0 h))
 
-  pub walk-head : (k : ℕ) → k ≡ headFault s i → (k ≡ 0 → ⊥) → stoppedAt k i (recordAt s i) ≡ walkOf s
+  stopped-here : (k : ℕ) → endFrom s (suc placeCount - i) i ≡ stopped k i → stoppedAt k i (recordAt s i) ≡ walkOf s
   unfolding walkOf
-  walk-head k e h = ap (walkFor s) (sym (from-head k e h) ∙ so-far)
+  stopped-here k e = ap (walkFor s) (sym e ∙ so-far)
+
+  pub walk-head : (k : ℕ) → k ≡ headFault s i → (k ≡ 0 → ⊥) → stoppedAt k i (recordAt s i) ≡ walkOf s
+  walk-head k e h = stopped-here k (from-head k e h)
 
   module _ (head : headFault s i ≡ 0) where
     from-end : recordKind s i ≡ endType → endFrom s (suc placeCount - i) i ≡ ended i
@@ -76,14 +79,13 @@ module _ (s : List ℕ) (i : ℕ) (few : i ≤ placeCount) (so-far : endFrom s (
       (zero-or (headFault s i))
 
   pub walk-stop : (k : ℕ) → k ≡ recordFault s i → (k ≡ 0 → ⊥) → stoppedAt k i (recordAt s i) ≡ walkOf s
-  unfolding walkOf
-  walk-stop k e h = ap (walkFor s) (sym (from-stop k e h) ∙ so-far)
+  walk-stop k e h = stopped-here k (from-stop k e h)
 
 -- ---- the rules on the whole roll
 
 -- what the records before i take in an image: before each data it has a section header where the roll has a record's head
 pub image-size : (s : List ℕ) (i : ℕ) → sizeAsImage s i ≡ headerSize + (sectionHeaderSize - recordHeadSize) * i + recordAt s i
-unfolding sizeAsImage recordAt
+unfolding packedBy recordAt
 image-size s zero = refl
 image-size s (suc i) = omega (arith, image-size s i)
 

@@ -1,4 +1,5 @@
--- The rules on one record together, and what the walk over a roll's records hands to the rules on the whole roll.
+-- The rules on one record together, and what the walk over a roll's records hands to the rules on the whole roll: the walk and these rules
+-- are functions of their own, where `Roll.readRest` is one definition. The laws `read-` of proofs/Ending.antt join the two.
 -- Assumes nothing.
 use Prim.Native.Nat.{ℕ, suc, _+_}
 use mathlib.Core.List.{List}

@@ -10,42 +10,35 @@ use Rattle.octets.specs.Lists.{All}
 use Rattle.eif.specs.Numbers.{sizeLimit, placeCount}
 use Rattle.eif.specs.Layout.{headerFlagsOf, countOf}
 use Rattle.eif.specs.Reading.{verdictOf, blankSection, sectionAt, sectionsOf, readImage}
-use Rattle.eif.specs.Roll.{flagsRecordSize, flagsRecord, rollOf, rollBytes}
+use Rattle.eif.specs.Roll.{flagsRecordSize, flagsRecord, rollOf, rollBytes, recordsBy}
 use Rattle.eif.specs.declared.Reading.{Reading}
 use Rattle.eif.specs.declared.Section.{Section}
 use Rattle.eif.specs.declared.Verdict.the-variants.{Accepted}
-use Rattle.eif_lemmas.proofs.Reading.{told-accepted, reading-is}
+use Rattle.eif_lemmas.proofs.Reading.{told-accepted, flags-are, sections-are}
 use Rattle.eif_lemmas.proofs.Table.{all-filled, length-filled}
 use Rattle.eif_lemmas.proofs.Accept.{Inside, length-data, passes, sound-at}
 use Rattle.staged.specs.View.{Holds, heldBy}
-use Rattle.staged.proofs.Same.{recordsBy, records-in}
 use Rattle.staged.proofs.Held.{held-alone}
 use Rattle.roll_writer.specs.Write.{sizeFor, sizeBound, sectionsRoll}
 use Rattle.roll_writer.proofs.Steps.{sections-roll, size-is, size-bounded}
 
 module _ (s : List ℕ) (r : Reading) (is : r ≡ readImage s) where
   module _ (told : r .verdict ≡ Accepted) where
-    pub ok : verdictOf s ≡ Accepted
+    abbrev ok : verdictOf s ≡ Accepted
     ok = told-accepted s r is told
-
-    sections-are : r .sections ≡ sectionsOf s
-    sections-are = ap (λ (x : Reading). x .sections) (reading-is s r is told)
-
-    flags-are : r .flags ≡ headerFlagsOf s
-    flags-are = ap (λ (x : Reading). x .flags) (reading-is s r is told)
 
     held-length : (x : Section) → Inside s x → Holds (heldBy s []) x
     held-length x h = ap length (held-alone s x) ∙ length-data s x h
 
     pub holds : All (Holds (heldBy s [])) (r .sections)
     holds =
-        rw sections-are
+        rw (sections-are s r is told)
         (all-filled (Holds (heldBy s [])) (sectionAt s) blankSection placeCount (countOf s) (held-length blankSection (omega arith))
         (λ i h. held-length (sectionAt s i) (sound-at s ok i h .ends)))
 
     pub bounded : sizeFor (r .sections) ≤ sizeBound
     bounded =
-        rw sections-are
+        rw (sections-are s r is told)
         (size-bounded (sectionsOf s) (length-filled (sectionAt s) blankSection placeCount (countOf s))
         (all-filled (λ (x : Section). x .length .0 ≤ sizeLimit) (sectionAt s) blankSection placeCount (countOf s) (omega arith)
         (λ i h. let q = sound-at s ok i h .ends in let m = passes s ok .head .small in omega arith)))
@@ -55,9 +48,8 @@ module _ (s : List ℕ) (r : Reading) (is : r ≡ readImage s) where
     unfolding rollBytes
     roll-is =
         sections-roll (heldBy s []) (r .flags) (r .sections) holds
-        ∙ ap₂ (λ (f : ℕ) (l : List Section). flagsRecord f ++ rollOf (recordsBy (heldBy s []) l)) flags-are sections-are
+        ∙ ap₂ (λ (f : ℕ) (l : List Section). flagsRecord f ++ rollOf (recordsBy (heldBy s []) l)) (flags-are s r is told) (sections-are s r is told)
         ∙ ap (λ (held : Section → List ℕ). flagsRecord (headerFlagsOf s) ++ rollOf (recordsBy held (sectionsOf s))) (λ t x. held-alone s x t)
-        ∙ ap (λ l. flagsRecord (headerFlagsOf s) ++ rollOf l) (records-in s (sectionsOf s))
 
     pub length-is : (n : ℕ) → n ≡ sizeFor (r .sections) → flagsRecordSize + n ≡ length (rollBytes s)
     length-is n e =

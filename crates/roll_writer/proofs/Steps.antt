@@ -16,12 +16,11 @@ use Rattle.eif.specs.Numbers.{sizeLimit, placeCount}
 use Rattle.octets.specs.Logic.{choose}
 use Rattle.eif.specs.Reading.{blankSection}
 use Rattle.eif.specs.Rules.{bootType}
-use Rattle.eif.specs.Roll.{recordHeadSize, flagsRecordSize, headOf, flagsRecord, endType, rollOf}
+use Rattle.eif.specs.Roll.{recordHeadSize, flagsRecordSize, headOf, flagsRecord, endType, rollOf, recordsBy}
 use Rattle.eif.specs.declared.Section.{Section}
 use Rattle.eif_lemmas.proofs.Table.{all-at}
 use Rattle.eif_lemmas.proofs.Flags.{length-flags}
 use Rattle.staged.specs.View.{Holds}
-use Rattle.staged.proofs.Same.{recordsBy}
 use Rattle.roll_writer.specs.Write.{rollPart, rollPartSize, rollFor, sizeFor, sizeBound, sectionsRoll}
 
 -- ---- one section

@@ -1,20 +1,16 @@
--- The roll of a list of sections, as the writer goes through the list. What a section's data is, is given by a function: that of an image,
--- or of a base and a replacement.
+-- The roll of a list of sections, as the writer goes through the list: each head has the length that the list says. What a section's data is,
+-- is given by a function: that of an image, or of a base and a replacement. Where the data are as long as listed, it is the roll of
+-- `Roll.recordsBy`: `sections-roll` of proofs/Steps.antt.
 -- Assumes nothing.
 use Prim.Native.Nat.{ℕ, _+_, _*_}
 use mathlib.Core.List.{List, [], _∷_, _++_}
-use lib.Dec.{ltb}
 use lib.ListN.{length}
-use Rattle.eif.specs.Numbers.{sizeLimit, placeCount, outputTooShort}
+use Rattle.eif.specs.Numbers.{sizeLimit, placeCount}
 use Rattle.octets.specs.Logic.{choose}
-use Rattle.eif.specs.Answers.{refuse}
-use Rattle.eif.specs.Output.{outputFor}
-use Rattle.eif.specs.Plan.{writtenFor}
+use Rattle.eif.specs.Output.{roomVerdict, writtenFor, outputFor}
 use Rattle.eif.specs.Rules.{bootType}
 use Rattle.eif.specs.Roll.{recordHeadSize, headOf, flagsRecord, endType}
 use Rattle.eif.specs.declared.Section.{Section}
-use Rattle.eif.specs.declared.Verdict.{Verdict}
-use Rattle.eif.specs.declared.Verdict.the-variants.{Accepted}
 use Rattle.eif.specs.declared.Written.{Written}
 
 -- a section's record, or no bytes where a roll leaves its type out
@@ -44,11 +40,8 @@ sectionsRoll flags held l = flagsRecord flags ++ rollFor held l
 
 -- ---- a roll into so much room: 14, or its length and bytes
 
-abbrev pub roomVerdict : ℕ → List ℕ → Verdict
-roomVerdict room roll = choose (ltb room (length roll)) (refuse outputTooShort 0) Accepted
-
 unfoldable pub roomAnswer : ℕ → List ℕ → Written
-roomAnswer room roll = writtenFor (roomVerdict room roll) (length roll)
+roomAnswer room roll = writtenFor (roomVerdict room (length roll)) (length roll)
 
 unfoldable pub roomOutput : List ℕ → List ℕ → List ℕ
-roomOutput roll d = outputFor (roomVerdict (length d) roll) roll d
+roomOutput roll d = outputFor (roomVerdict (length d) (length roll)) roll d

@@ -7,7 +7,7 @@ ghost use mathlib.Core.Path.{_≡_};
 ghost use Prim.Native.Nat.{_+_, _≤_};
 ghost use lib.ListN.{length};
 ghost use Rattle.octets.specs.Over.{over};
-ghost use Rattle.eif.specs.Plan.{writtenFor};
+ghost use Rattle.eif.specs.Output.{writtenFor};
 ghost use Rattle.eif.specs.Roll.{recordHeadSize, flagsRecordSize, headOf, flagsRecord, rollAnswer, rollOutput, rollLength};
 ghost use Rattle.octets.specs.Lists.{All};
 ghost use Rattle.staged.specs.Staged.{stagedRollAnswer, stagedRollOutput, stagedRollLength};

@@ -13,7 +13,7 @@ use Rattle.octets.specs.Bytes.{beFrom, beValue, beBytes}
 use Rattle.octets.specs.Over.{over}
 use Rattle.octets.proofs.Over.{over-append, over-parts}
 use Rattle.octets.proofs.Value.{be-read, bytes-be, length-beBytes, beBytes-beValue}
-use Rattle.sha384_block.specs.Fips.{padding, zerosFor}
+use Rattle.sha384_block.specs.Fips.{blockSize, padding, zerosFor}
 
 -- ---- a number's bytes: the high ones and the low ones, and no more than the low ones of a remainder
 
@@ -44,7 +44,7 @@ take-replicate (suc n) zero h = absurd (omega arith)
 take-replicate (suc n) (suc m) h = ap (λ (l : List ℕ). 0 ∷ l) (take-replicate n m (omega arith))
 
 -- a byte, z zeros, and two strings of eight bytes
-laid : (z : ℕ) (x y : List ℕ) → z < 128 → length x ≡ 8 → length y ≡ 8
+laid : (z : ℕ) (x y : List ℕ) → z < blockSize → length x ≡ 8 → length y ≡ 8
     → take (z + 17) (over (over (set (replicate 144 0) 0 0x80) (z + 1) x) (z + 9) y) ≡ 0x80 ∷ (replicate z 0 ++ (x ++ y))
 laid z x y h p q =
     let d : List ℕ = 0x80 ∷ replicate 143 0 in

@@ -16,6 +16,10 @@ use Rattle.sha384.specs.declared.Updated.{Updated}
 
 -- ---- a block that is being filled
 
+-- the place of a block's last byte
+abbrev pub blockLast : ℕ
+blockLast = blockSize - 1
+
 unfoldable pub noBytes : List ℕ
 noBytes = replicate blockSize 0
 
@@ -27,7 +31,7 @@ newBlock words = record { words = words; block = noBytes; used = 0 }
 unfoldable pub takeByte : Filling → ℕ → Filling
 takeByte m b =
     let block = set (m .block) (m .used) b in
-    choose (eqb (m .used) (blockSize - 1))
+    choose (eqb (m .used) blockLast)
     (newBlock (compress (m .words) block))
     (record { words = m .words; block = block; used = m .used + 1 })
 

@@ -17,6 +17,9 @@ use sha384_block::DIGEST_SIZE;
 // The most bytes that one digest is of.
 pub const TOTAL_LIMIT: u64 = 0x1FFFFFFFFFFFFFFF;
 
+// A digest's words.
+const DIGEST_WORDS: usize = DIGEST_SIZE / 8;
+
 // A block's size, as totals are counted.
 const BLOCK: u64 = BLOCK_SIZE as u64;
 
@@ -169,7 +172,7 @@ fn digest(words: [u64; 8]) -> [u8; DIGEST_SIZE]
 {
     let mut out = [0u8; DIGEST_SIZE];
     let mut i: usize = 0;
-    while i < 6 {
+    while i < DIGEST_WORDS {
         octets::put_be64(&mut out, 8 * i, words[i]);
         i += 1;
     }

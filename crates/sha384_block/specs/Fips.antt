@@ -19,6 +19,10 @@ blockSize = 128
 abbrev pub digestSize : ℕ
 digestSize = 48
 
+-- a digest's words
+abbrev pub digestWords : ℕ
+digestWords = digestSize / wordSize
+
 -- ---- sections 2.2.2 and 3.2: operations on words
 
 -- x shifted right by n, shifted left by n, and rotated right by n

@@ -1,15 +1,12 @@
 // SHA-384 vectors, a line each: a label, and the digest in hexadecimal. The standard's examples; the digest of the digests of messages
 // of 0 to 260 bytes, each fed whole, and again each fed in two pieces; one million times the letter a. Then pieces around the limit of
 // 2 to the 61 less 1 bytes: each answer, and the total after it.
-use eif::Refusal;
+use case_lines::hex;
+use case_lines::labelled;
+use case_lines::refusal;
+use case_lines::text;
 use eif::Verdict;
-use libc::STDOUT_FILENO;
 use sha384::State;
-use sha384_block::DIGEST_SIZE;
-
-fn text(bytes: &[u8]) {
-    io::write_all(STDOUT_FILENO, bytes);
-}
 
 fn fed(state: State, piece: &[u8]) -> State {
     let updated = sha384::update(state, piece);
@@ -20,9 +17,7 @@ fn show(label: &[u8], state: State) {
     let digest = sha384::finish(state);
     text(label);
     text(b" ");
-    for i in 0..DIGEST_SIZE {
-        io::print_hex(STDOUT_FILENO, digest[i] as u64, 2);
-    }
+    hex(&digest);
     text(b"\n");
 }
 
@@ -83,25 +78,18 @@ fn million() -> State {
     state
 }
 
-fn refusal(r: Refusal) {
-    text(b" refused ");
-    io::print_decimal(STDOUT_FILENO, r.number as u64);
-    text(b" at ");
-    io::print_decimal(STDOUT_FILENO, r.index);
-}
-
 // The answer to a piece, and the total after it.
 fn answer(label: &[u8], state: State, piece: &[u8]) -> State {
     let updated = sha384::update(state, piece);
     let verdict = updated.verdict;
     let after = updated.state;
     text(label);
+    text(b" ");
     match verdict {
-        Verdict::Accepted => text(b" taken"),
+        Verdict::Accepted => text(b"taken"),
         Verdict::Refused(r) => refusal(r),
     }
-    text(b", total ");
-    io::print_decimal(STDOUT_FILENO, after.total);
+    labelled(b", total ", after.total);
     text(b"\n");
     after
 }

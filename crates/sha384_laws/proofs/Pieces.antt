@@ -17,7 +17,7 @@ use Rattle.sha384_block.specs.Fips.{sha384}
 use Rattle.sha384.specs.State.{initialState, absorbed, digestFrom, stateAfter, updated, totalLimit}
 use Rattle.sha384.specs.declared.State.{State}
 use Rattle.sha384.specs.declared.Updated.{Updated}
-use Rattle.sha384_laws.specs.Pieces.{afterAll, taken}
+use Rattle.sha384_laws.specs.Pieces.{afterAll, bytesTaken}
 use Rattle.sha384_laws.proofs.Fed.{total-fed, total-stateOf, fed-append, fed-nothing, fresh-fed, fresh-finished}
 
 -- ---- one piece
@@ -45,29 +45,29 @@ module _ (st : State) (s : List ℕ) where
 
 -- ---- all pieces
 
-pub after-is : (st : State) (ps : List (List ℕ)) → afterAll st ps ≡ absorbed st (taken (st .total) ps)
-unfolding afterAll taken
+pub after-is : (st : State) (ps : List (List ℕ)) → afterAll st ps ≡ absorbed st (bytesTaken (st .total) ps)
+unfolding afterAll bytesTaken
 after-is st [] = sym (fed-nothing st)
 after-is st (p ∷ ps) =
     ⊎-elim
     (λ h.
-    ap (λ (u : Updated). afterAll (u .state) ps) (within-limit st p h) ∙ after-is (absorbed st p) ps ∙ ap (λ (k : ℕ). absorbed (absorbed st p) (taken k ps)) (total-fed st p)
-    ∙ fed-append st p (taken (st .total + length p) ps) ∙ sym (simp (le-ltb _ _ h)))
+    ap (λ (u : Updated). afterAll (u .state) ps) (within-limit st p h) ∙ after-is (absorbed st p) ps ∙ ap (λ (k : ℕ). absorbed (absorbed st p) (bytesTaken k ps)) (total-fed st p)
+    ∙ fed-append st p (bytesTaken (st .total + length p) ps) ∙ sym (simp (le-ltb _ _ h)))
     (λ h.
     ap (λ (u : Updated). afterAll (u .state) ps) (past-limit st p h) ∙ after-is st ps ∙ sym (simp (lt-ltb _ _ h)))
     (le-or-lt (st .total + length p) totalLimit)
 
 -- from the fresh state, after any pieces: the state and the digest of the bytes that were taken
-pub pieces-state : (ps : List (List ℕ)) → afterAll initialState ps ≡ stateAfter (taken 0 ps)
+pub pieces-state : (ps : List (List ℕ)) → afterAll initialState ps ≡ stateAfter (bytesTaken 0 ps)
 unfolding initialState
-pieces-state ps = after-is initialState ps ∙ fresh-fed (taken 0 ps)
+pieces-state ps = after-is initialState ps ∙ fresh-fed (bytesTaken 0 ps)
 
-pub pieces-digest : (ps : List (List ℕ)) → digestFrom (afterAll initialState ps) ≡ sha384 (taken 0 ps)
-pieces-digest ps = ap digestFrom (pieces-state ps) ∙ fresh-finished (taken 0 ps)
+pub pieces-digest : (ps : List (List ℕ)) → digestFrom (afterAll initialState ps) ≡ sha384 (bytesTaken 0 ps)
+pieces-digest ps = ap digestFrom (pieces-state ps) ∙ fresh-finished (bytesTaken 0 ps)
 
 -- and where all of them are within the limit, that is all of them
-pub all-taken : (total : ℕ) (ps : List (List ℕ)) → total + length (joined ps) ≤ totalLimit → taken total ps ≡ joined ps
-unfolding taken
+pub all-taken : (total : ℕ) (ps : List (List ℕ)) → total + length (joined ps) ≤ totalLimit → bytesTaken total ps ≡ joined ps
+unfolding bytesTaken
 all-taken total [] h = refl
 all-taken total (p ∷ ps) h =
     let n = length-append p (joined ps) in
@@ -83,33 +83,33 @@ joined-digest ps h = pieces-digest ps ∙ ap sha384 (all-taken 0 ps (omega arith
 -- ---- one piece more, after any pieces from the fresh state
 
 -- what was taken keeps the limit
-taken-short : (total : ℕ) (ps : List (List ℕ)) → total ≤ totalLimit → total + length (taken total ps) ≤ totalLimit
-unfolding taken
+taken-short : (total : ℕ) (ps : List (List ℕ)) → total ≤ totalLimit → total + length (bytesTaken total ps) ≤ totalLimit
+unfolding bytesTaken
 taken-short total [] h = omega arith
 taken-short total (p ∷ ps) h =
     ⊎-elim
     (λ (g : total + length p ≤ totalLimit).
-    simp (le-ltb _ _ g) (omega (arith, taken-short (total + length p) ps g, length-append p (taken (total + length p) ps))))
+    simp (le-ltb _ _ g) (omega (arith, taken-short (total + length p) ps g, length-append p (bytesTaken (total + length p) ps))))
     (λ (g : totalLimit < total + length p). simp (lt-ltb _ _ g) (taken-short total ps h))
     (le-or-lt (total + length p) totalLimit)
 
-total-after : (ps : List (List ℕ)) → afterAll initialState ps .total ≡ length (taken 0 ps)
-total-after ps = ap (λ (st : State). st .total) (pieces-state ps) ∙ total-stateOf (taken 0 ps)
+total-after : (ps : List (List ℕ)) → afterAll initialState ps .total ≡ length (bytesTaken 0 ps)
+total-after ps = ap (λ (st : State). st .total) (pieces-state ps) ∙ total-stateOf (bytesTaken 0 ps)
 
 module _ (ps : List (List ℕ)) (p : List ℕ) where
   -- within the limit it is taken, and the state is the one for the bytes before it and its own
-  pub next-taken : length (taken 0 ps) + length p ≤ totalLimit
-      → updated (afterAll initialState ps) p ≡ record { verdict = Accepted; state = stateAfter (taken 0 ps ++ p) }
+  pub next-taken : length (bytesTaken 0 ps) + length p ≤ totalLimit
+      → updated (afterAll initialState ps) p ≡ record { verdict = Accepted; state = stateAfter (bytesTaken 0 ps ++ p) }
   next-taken h =
       let t = total-after ps in
       within-limit (afterAll initialState ps) p (omega arith)
-      ∙ ap (λ (st : State). with st) (ap (λ (st : State). absorbed st p) (pieces-state ps ∙ sym (fresh-fed (taken 0 ps))) ∙ fed-append initialState (taken 0 ps) p ∙ fresh-fed (taken 0 ps ++ p))
+      ∙ ap (λ (st : State). with st) (ap (λ (st : State). absorbed st p) (pieces-state ps ∙ sym (fresh-fed (bytesTaken 0 ps))) ∙ fed-append initialState (bytesTaken 0 ps) p ∙ fresh-fed (bytesTaken 0 ps ++ p))
     where
       with : State → Updated
       with st = record { verdict = Accepted; state = st }
 
   -- past it, it is refused, and the state is as it was
-  pub next-refused : totalLimit < length (taken 0 ps) + length p
+  pub next-refused : totalLimit < length (bytesTaken 0 ps) + length p
       → updated (afterAll initialState ps) p ≡ record { verdict = refuse messageTooLong 0; state = afterAll initialState ps }
   next-refused h = let t = total-after ps in past-limit (afterAll initialState ps) p (omega arith)
 

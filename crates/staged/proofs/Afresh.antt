@@ -13,7 +13,7 @@ use Rattle.eif.specs.Table.{joinFrom}
 use Rattle.eif.specs.Numbers.{sizeLimit, placeCount}
 use Rattle.octets.specs.Logic.{choose}
 use Rattle.eif.specs.Rules.{allowedIn, orderFault}
-use Rattle.eif.specs.Layout.{versionOf, countOf, kindAt, sizeAt, sectionHeaderSize}
+use Rattle.eif.specs.Layout.{versionOf, countOf, kindAt, sectionHeaderSize}
 use Rattle.eif.specs.Reading.{verdictOf, blankSection, sectionAt, sectionsOf, dataOf}
 use Rattle.eif.specs.Plan.{blankPlace, placeAt, plannedKind, plannedSize, plainSize, plainImage, placeOf, planOf}
 use Rattle.staged.specs.Staged.{withLength, withPlace, stagedPlan, stagedPart, stagedJoined, afresh}
@@ -29,7 +29,7 @@ use Rattle.eif_lemmas.proofs.Types.{order-same, missing-same}
 use Rattle.plain_laws.proofs.PlanRules.{Planned}
 use Rattle.plain_laws.proofs.Joined.{join-same, piece-is, length-joined}
 use Rattle.plain_laws.proofs.Written.{read-kind, read-count, read-offset, read-size, read-data}
-use Rattle.plain_laws.proofs.WriteBack.{plan, piece, head, kind-is, length-piece-is}
+use Rattle.plain_laws.proofs.WriteBack.{plan, piece, sound-head, kind-is, length-piece-is}
 use Rattle.plain_laws.proofs.Plainness.{plan-planned}
 
 -- ---- one place of a plan changed
@@ -62,43 +62,46 @@ module _ (l : List Place) (k size : ℕ) (h : k < length l) where
 
 module _ (s r : List ℕ) (k : ℕ) (ok : verdictOf s ≡ Accepted) where
   -- the data of section j
-  abbrev pub part : ℕ → List ℕ
-  part j = choose (eqb j k) r (piece s j)
+  abbrev pub partAt : ℕ → List ℕ
+  partAt j = choose (eqb j k) r (piece s j)
 
-  abbrev pub parts : List ℕ
-  parts = joinFrom part (countOf s) 0
+  abbrev pub partsJoined : List ℕ
+  partsJoined = joinFrom partAt (countOf s) 0
 
   abbrev pub changedPlan : ℕ → Plan
   changedPlan size = withPlace (plan s) k size
 
+  abbrev pub freshImage : List ℕ
+  freshImage = plainImage (changedPlan (length r)) partsJoined
+
   few : countOf s ≤ placeCount
-  few = head s ok .few
+  few = sound-head s ok .few
 
   pub plan-is : (size : ℕ) → stagedPlan s k size ≡ changedPlan size
   unfolding stagedPlan
   plan-is size = ap (λ (x : Reading). withPlace (planOf x) k size) (reading-accepted s ok)
 
-  pub part-is : (j : ℕ) → j < countOf s → stagedPart s r k j ≡ part j
+  pub part-is : (j : ℕ) → j < countOf s → stagedPart s r k j ≡ partAt j
   unfolding stagedPart
   part-is j h =
       ap (λ (x : Reading). choose (eqb j k) r (dataOf s (getD (x .sections) j blankSection))) (reading-accepted s ok)
       ∙ ap (λ (x : Section). choose (eqb j k) r (dataOf s x)) (filled-at (sectionAt s) blankSection blankSection placeCount (countOf s) j h few)
 
-  parts-are : stagedJoined s r k ≡ parts
+  pub parts-are : stagedJoined s r k ≡ partsJoined
   unfolding stagedJoined
   parts-are =
       ap (λ (x : Reading). joinFrom (stagedPart s r k) (x .count) 0) (reading-accepted s ok)
-      ∙ join-same (stagedPart s r k) part (countOf s) 0 (λ j h. part-is j (omega arith))
+      ∙ join-same (stagedPart s r k) partAt (countOf s) 0 (λ j h. part-is j (omega arith))
 
-  pub afresh-is : afresh s r k ≡ plainImage (changedPlan (length r)) parts
+  pub afresh-is : afresh s r k ≡ freshImage
   unfolding afresh
   afresh-is = ap₂ (λ (p : Plan) (d : List ℕ). plainImage p d) (plan-is (length r)) parts-are
 
   -- the replaced section's data is the replacement, the others' that of the base
-  pub part-replaced : part k ≡ r
+  pub part-replaced : partAt k ≡ r
   part-replaced = simp (eq-eqb k k refl)
 
-  pub part-kept : (j : ℕ) → (j ≡ k → ⊥) → part j ≡ piece s j
+  pub part-kept : (j : ℕ) → (j ≡ k → ⊥) → partAt j ≡ piece s j
   part-kept j n = simp (ne-eqb j k n)
 
   -- ---- and has the section that is replaced
@@ -113,7 +116,7 @@ module _ (s r : List ℕ) (k : ℕ) (ok : verdictOf s ≡ Accepted) where
     pub in-places : k < length l
     in-places = let n = places-long in let f = few in omega arith
 
-    pub size-kept : (j : ℕ) → j < countOf s → length (part j) ≡ plannedSize (changedPlan (length r) .places) j
+    pub size-kept : (j : ℕ) → j < countOf s → length (partAt j) ≡ plannedSize (changedPlan (length r) .places) j
     size-kept j q =
         ⊎-elim
         (λ (e : j ≡ k).
@@ -131,7 +134,7 @@ module _ (s r : List ℕ) (k : ℕ) (ok : verdictOf s ≡ Accepted) where
       same-kind : (j : ℕ) → plannedKind m j ≡ plannedKind l j
       same-kind = kind-kept l k (length r) in-places
 
-      pub changed-planned : Planned (changedPlan (length r)) (length parts)
+      pub changed-planned : Planned (changedPlan (length r)) (length partsJoined)
       changed-planned =
           let a = plan-planned s ok in
           record {
@@ -145,24 +148,18 @@ module _ (s r : List ℕ) (k : ℕ) (ok : verdictOf s ≡ Accepted) where
                 ∙ order-same (plannedKind m) (plannedKind l) (plannedKind l i) i (λ j g. same-kind j) ∙ a .order i q;
             none-missing = missing-same (plannedKind m) (plannedKind l) (versionOf s) (countOf s) (λ j g. same-kind j) ∙ a .none-missing;
             small = small;
-            sized = length-joined m (countOf s) part size-kept;
+            sized = length-joined m (countOf s) partAt size-kept;
           }
 
-      abbrev pub image : List ℕ
-      image = plainImage (changedPlan (length r)) parts
+      pub fresh-count : countOf freshImage ≡ countOf s
+      fresh-count = read-count (changedPlan (length r)) partsJoined changed-planned
 
-      pub fresh-count : countOf image ≡ countOf s
-      fresh-count = read-count (changedPlan (length r)) parts changed-planned
+      pub fresh-kind : (j : ℕ) → j < countOf s → kindAt freshImage j ≡ kindAt s j
+      fresh-kind j q = read-kind (changedPlan (length r)) partsJoined changed-planned j q ∙ same-kind j ∙ kind-is s ok j q
 
-      pub fresh-kind : (j : ℕ) → j < countOf s → kindAt image j ≡ kindAt s j
-      fresh-kind j q = read-kind (changedPlan (length r)) parts changed-planned j q ∙ same-kind j ∙ kind-is s ok j q
-
-      pub fresh-data : (j : ℕ) → j < countOf s → dataOf image (sectionAt image j) ≡ part j
+      pub fresh-data : (j : ℕ) → j < countOf s → dataOf freshImage (sectionAt freshImage j) ≡ partAt j
       fresh-data j q =
           let p = changedPlan (length r) in
           let a = changed-planned in
-          ap₂ (λ (n o : ℕ). take n (drop (o + sectionHeaderSize) image)) (read-size p parts a j q) (read-offset p parts a j q)
-          ∙ read-data p parts a j q ∙ piece-is m (countOf s) part size-kept j q
-
-      pub fresh-size : (j : ℕ) → j < countOf s → sizeAt image j ≡ length (part j)
-      fresh-size j q = read-size (changedPlan (length r)) parts changed-planned j q ∙ sym (size-kept j q)
+          ap₂ (λ (n o : ℕ). take n (drop (o + sectionHeaderSize) freshImage)) (read-size p partsJoined a j q) (read-offset p partsJoined a j q)
+          ∙ read-data p partsJoined a j q ∙ piece-is m (countOf s) partAt size-kept j q

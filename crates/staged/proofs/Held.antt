@@ -11,15 +11,15 @@ use borrow.Author.Tests.{eq-eqb, ne-eqb, lt-ltb, le-ltb}
 use lib.Dec.{eqb}
 use lib.ListN.{length, getD, set, take, drop, drop-of-length-le}
 use lib.Seq.{take-length, drop-nil}
-use Rattle.octets.specs.Lists.{All}
+use Rattle.octets.specs.Lists.{All, joinedBy}
 use Rattle.octets.proofs.Over.{le-or-lt}
 use Rattle.eif.specs.Numbers.{placeCount, sizeLimit}
 use Rattle.octets.specs.Logic.{choose}
 use Rattle.eif.specs.Table.{filled}
 use Rattle.eif.specs.Layout.{headerFlagsOf, countOf, kindAt}
 use Rattle.eif.specs.Reading.{verdictOf, blankSection, sectionAt, sectionsOf, readImage, dataOf}
-use Rattle.eif.specs.Plan.{plainSize, plainImage}
-use Rattle.eif.specs.Roll.{Record, flagsRecord, rollOf, recordsOf, rollBytes}
+use Rattle.eif.specs.Plan.{plainSize}
+use Rattle.eif.specs.Roll.{Record, flagsRecord, rollOf, recordsOf, rollBytes, recordsBy}
 use Rattle.eif.specs.Stream.{streamSections, streamOf}
 use Rattle.eif.specs.declared.Reading.{Reading}
 use Rattle.eif.specs.declared.Section.{Section}
@@ -30,12 +30,12 @@ use Rattle.eif_lemmas.proofs.Reading.{reading-accepted}
 use Rattle.eif_lemmas.proofs.Table.{all-filled, filled-at, length-filled}
 use Rattle.eif_lemmas.proofs.Accept.{length-data, sound-at}
 use Rattle.plain_laws.proofs.Written.{size-small, read-flags}
-use Rattle.plain_laws.proofs.WriteBack.{piece, head}
+use Rattle.plain_laws.proofs.WriteBack.{piece, sound-head}
 use Rattle.staged.specs.Staged.{afresh}
 use Rattle.staged.specs.View.{moved, stagedSections, heldBy, heldStart, Holds}
 use Rattle.staged.proofs.Accept.{Stages}
-use Rattle.staged.proofs.Afresh.{part, parts, changedPlan, plan-is, afresh-is, part-replaced, size-kept, changed-planned, fresh-count, fresh-kind, fresh-data}
-use Rattle.staged.proofs.Same.{recordsBy, records-in, same-records, joinedBy, joined-in, same-stream, set-filled}
+use Rattle.staged.proofs.Afresh.{partAt, partsJoined, changedPlan, freshImage, plan-is, afresh-is, part-replaced, size-kept, changed-planned, fresh-count, fresh-kind, fresh-data}
+use Rattle.staged.proofs.Same.{same-records, same-stream, set-filled}
 
 -- ---- the data of a section by where it starts
 
@@ -95,7 +95,7 @@ module _ (s r : List ℕ) (k : ℕ) where
       ∙ ap (λ (n : ℕ). take (length r) (drop n r)) z ∙ take-length r
 
   module _ (ok : verdictOf s ≡ Accepted) where
-    pub held-is : (i : ℕ) → i < countOf s → heldBy s r (stagedAt i) ≡ part s r k ok i
+    pub held-is : (i : ℕ) → i < countOf s → heldBy s r (stagedAt i) ≡ partAt s r k ok i
     held-is i h = by (eqb i k)
       where
         by : (b : Bool) → heldBy s r (choose b (moved (sectionAt s k) (length s) (length r)) (sectionAt s i)) ≡ choose b r (piece s i)
@@ -113,7 +113,7 @@ module _ (s r : List ℕ) (k : ℕ) where
       pub sections-are : stagedSections (readImage s .sections) k (length s) (length r) ≡ filled stagedAt blankSection placeCount (countOf s)
       unfolding stagedSections
       sections-are =
-          let few = head s ok .few in
+          let few = sound-head s ok .few in
           ap (λ (x : Reading). set (x .sections) k (moved (getD (x .sections) k blankSection) (length s) (length r))) (reading-accepted s ok)
           ∙ ap (λ (y : Section). set (sectionsOf s) k (moved y (length s) (length r)))
           (filled-at (sectionAt s) blankSection blankSection placeCount (countOf s) k h few)
@@ -132,13 +132,13 @@ module _ (s r : List ℕ) (k j : ℕ) (a : Stages s (length r) k j) where
   replacement-small : length r ≤ sizeLimit
   replacement-small =
       let h = a .replaced in
-      let m = size-small (changedPlan s r k ok (length r)) (parts s r k ok) (changed-planned s r k ok h within) k h in
+      let m = size-small (changedPlan s r k ok (length r)) (partsJoined s r k ok) (changed-planned s r k ok h within) k h in
       let e = size-kept s r k ok h k h in
       let q = ap length (part-replaced s r k ok) in
       omega arith
 
   abbrev image : List ℕ
-  image = plainImage (changedPlan s r k ok (length r)) (parts s r k ok)
+  image = freshImage s r k ok
 
   abbrev pub stagedList : List Section
   stagedList = stagedSections (readImage s .sections) k (length s) (length r)
@@ -157,7 +157,6 @@ module _ (s r : List ℕ) (k j : ℕ) (a : Stages s (length r) k j) where
       ap (recordsBy (heldBy s r)) (sections-are s r k ok (a .replaced))
       ∙ same-records (heldBy s r) (dataOf image) placeCount (countOf s) (stagedAt s r k) (sectionAt image) same-kinds same-bytes
       ∙ ap (recordsBy (dataOf image)) fresh-sections
-      ∙ records-in image (sectionsOf image)
       ∙ ap recordsOf (sym (afresh-is s r k ok))
 
   pub stream-is : (stream : Stream) → joinedBy (heldBy s r) (streamSections stream stagedList) ≡ streamOf (afresh s r k) stream
@@ -166,7 +165,6 @@ module _ (s r : List ℕ) (k j : ℕ) (a : Stages s (length r) k j) where
       ap (λ (l : List Section). joinedBy (heldBy s r) (streamSections stream l)) (sections-are s r k ok (a .replaced))
       ∙ same-stream (heldBy s r) (dataOf image) stream placeCount (countOf s) (stagedAt s r k) (sectionAt image) same-kinds same-bytes
       ∙ ap (λ (l : List Section). joinedBy (dataOf image) (streamSections stream l)) fresh-sections
-      ∙ joined-in image (streamSections stream (sectionsOf image))
       ∙ ap (λ (t : List ℕ). streamOf t stream) (sym (afresh-is s r k ok))
 
   -- each is as long as the list says, and no longer than an image
@@ -185,7 +183,7 @@ module _ (s r : List ℕ) (k j : ℕ) (a : Stages s (length r) k j) where
     where
       by : (b : Bool) → choose b (moved (sectionAt s k) (length s) (length r)) (sectionAt s i) .length .0 ≤ sizeLimit
       by true = replacement-small
-      by false = let q = sound-at s ok i h .ends in let m = head s ok .small in omega arith
+      by false = let q = sound-at s ok i h .ends in let m = sound-head s ok .small in omega arith
 
   blank-holds : Holds (heldBy s r) blankSection
   blank-holds = ap length (held-inside s r blankSection (omega arith))
@@ -209,7 +207,7 @@ module _ (s r : List ℕ) (k j : ℕ) (a : Stages s (length r) k j) where
       let e : readImage s .flags ≡ headerFlagsOf s = ap (λ (x : Reading). x .flags) (reading-accepted s ok) in
       let g : headerFlagsOf s < 2 ^ 16 = omega arith in
       ap headerFlagsOf (afresh-is s r k ok)
-      ∙ read-flags (changedPlan s r k ok (length r)) (parts s r k ok) (changed-planned s r k ok (a .replaced) within) g ∙ sym e
+      ∙ read-flags (changedPlan s r k ok (length r)) (partsJoined s r k ok) (changed-planned s r k ok (a .replaced) within) g ∙ sym e
 
   -- the roll of the image written afresh
   pub roll-is : readImage s .flags < 2 ^ 16 → flagsRecord (readImage s .flags) ++ rollOf (recordsBy (heldBy s r) stagedList) ≡ rollBytes (afresh s r k)

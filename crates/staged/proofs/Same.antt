@@ -8,35 +8,20 @@ use mathlib.Core.List.{List, [], _∷_, _++_}
 use native.Mathlib.Omega.{arith}
 use lib.Dec.{eqb, eqb·zero-suc, eqb·suc-zero, eqb·suc-suc}
 use lib.ListN.{replicate, set}
+use Rattle.eif_lemmas.proofs.Types.{no-records}
+use Rattle.octets.specs.Lists.{joinedBy}
 use Rattle.octets.specs.Logic.{choose}
 use Rattle.eif.specs.Table.{filled}
-use Rattle.eif.specs.Reading.{ramdiskIn, blankSection, dataOf}
+use Rattle.eif.specs.Reading.{ramdiskIn, blankSection, sectionKind}
 use Rattle.eif.specs.Rules.{bootType}
-use Rattle.eif.specs.Roll.{Record, recordFor, recordsIn}
-use Rattle.eif.specs.Stream.{keeps, kept, sectionKind, streamSections, sectionsData}
+use Rattle.eif.specs.Roll.{recordsBy}
+use Rattle.eif.specs.Stream.{keeps, kept, streamSections}
 use Rattle.eif.specs.declared.Section.{Section}
 use Rattle.eif.specs.declared.Stream.{Stream}
 use Rattle.eif.specs.declared.Stream.the-variants.{Whole, Boot, App}
 use Rattle.eif_lemmas.proofs.Table.{filled-same}
 
 -- ---- records
-
-unfoldable pub recordsBy : (Section → List ℕ) → List Section → List Record
-recordsBy held [] = []
-recordsBy held (x ∷ xs) =
-    let rest = recordsBy held xs in
-    choose (bootType (x .kind)) (record { kind = x .kind; bytes = held x } ∷ rest) rest
-
--- of an image
-pub records-in : (s : List ℕ) (l : List Section) → recordsBy (dataOf s) l ≡ recordsIn s l
-unfolding recordsBy recordsIn
-records-in s [] = refl
-records-in s (x ∷ xs) = let rest = records-in s xs in λ y. choose (bootType (x .kind)) (recordFor s x ∷ rest y) (rest y)
-
-no-records : (held : Section → List ℕ) (m : ℕ) → recordsBy held (replicate m blankSection) ≡ []
-unfolding recordsBy
-no-records held zero = refl
-no-records held (suc m) = no-records held m
 
 pub same-records : (held other : Section → List ℕ) (m n : ℕ) (f g : ℕ → Section)
     → ((j : ℕ) → j < n → f j .kind ≡ g j .kind) → ((j : ℕ) → j < n → held (f j) ≡ other (g j))
@@ -51,17 +36,6 @@ same-records held other (suc m) (suc n) f g hk hd =
     λ x. choose (bootType (k x)) (record { kind = k x; bytes = d x } ∷ rest x) (rest x)
 
 -- ---- streams
-
--- the data of sections, joined
-unfoldable pub joinedBy : (Section → List ℕ) → List Section → List ℕ
-joinedBy held [] = []
-joinedBy held (x ∷ xs) = held x ++ joinedBy held xs
-
--- of an image
-pub joined-in : (s : List ℕ) (l : List Section) → joinedBy (dataOf s) l ≡ sectionsData s l
-unfolding joinedBy sectionsData
-joined-in s [] = refl
-joined-in s (x ∷ xs) = ap (λ (t : List ℕ). dataOf s x ++ t) (joined-in s xs)
 
 -- the data that a stream keeps, joined, after so many ramdisks
 unfoldable keptData : (Section → List ℕ) → Stream → ℕ → List Section → List ℕ

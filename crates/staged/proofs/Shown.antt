@@ -11,17 +11,14 @@ use lib.ListN.{length, getD, take, drop}
 use lib.Seq.{getD-set-other, take-length}
 use Rattle.eif.specs.Numbers.{placeCount}
 use Rattle.octets.specs.Logic.{choose}
-use Rattle.eif.specs.Answers.{beside}
-use Rattle.eif.specs.Reading.{blankSection, sectionAt, dataOf, readImage}
+use Rattle.eif.specs.Reading.{blankSection, dataOf, readImage}
 use Rattle.eif.specs.declared.Refusal.{Refusal}
 use Rattle.eif.specs.declared.Section.{Section}
-use Rattle.eif.specs.declared.Verdict.{Verdict}
 use Rattle.eif.specs.declared.Verdict.the-variants.{Accepted, Refused}
-use Rattle.plain_laws.proofs.WriteBack.{head}
+use Rattle.plain_laws.proofs.WriteBack.{sound-head}
 use Rattle.staged.specs.Staged.{stagedPart, stagedVerdict, shownPart}
 use Rattle.staged.specs.View.{moved, stagedSections, shownStart, placeFor, stagedPlace}
 use Rattle.staged.proofs.Accept.{staged→}
-use Rattle.staged.proofs.Afresh.{part-is, part-kept}
 
 module _ (s r : List ℕ) (k j : ℕ) where
   pub shown-refused : (x : Refusal) → stagedVerdict s (length r) k j ≡ Refused x → shownPart s r k j ≡ []
@@ -29,24 +26,12 @@ module _ (s r : List ℕ) (k j : ℕ) where
   shown-refused x e = simp e
 
   module _ (e : stagedVerdict s (length r) k j ≡ Accepted) where
-    -- the number of a section is one of a place
-    pub in-places : j < placeCount
-    in-places = let a = staged→ s (length r) k j e in let f = head s (a .accepted) .few in let h = a .shown in omega arith
-
     -- the replaced section is the replacement, whole
     pub shown-replaced : j ≡ k → shownPart s r k j ≡ r
     unfolding shownPart stagedPart
     shown-replaced q = simp (e, eq-eqb j k q)
 
-    -- any other is that of the base
-    pub shown-kept : (j ≡ k → ⊥) → shownPart s r k j ≡ dataOf s (sectionAt s j)
-    unfolding shownPart
-    shown-kept n =
-        let a = staged→ s (length r) k j e in
-        ap (λ (v : Verdict). beside v (stagedPart s r k j) []) e
-        ∙ part-is s r k (a .accepted) j (a .shown) ∙ part-kept s r k (a .accepted) j n
-
-    -- as the view lists it
+    -- any other is that of the base, as the view lists it
     pub listed-kept : (j ≡ k → ⊥)
         → dataOf s (getD (stagedSections (readImage s .sections) k (length s) (length r)) j blankSection) ≡ shownPart s r k j
     unfolding shownPart stagedPart stagedSections
@@ -84,8 +69,9 @@ module _ (s : List ℕ) (size k j : ℕ) where
   place-refused x e = simp e
 
   module _ (e : stagedVerdict s size k j ≡ Accepted) where
+    -- the number of a section is one of a place
     pub place-in : j < placeCount
-    place-in = let a = staged→ s size k j e in let f = head s (a .accepted) .few in let h = a .shown in omega arith
+    place-in = let a = staged→ s size k j e in let f = sound-head s (a .accepted) .few in let h = a .shown in omega arith
 
     pub place-replaced : j ≡ k → placeFor Accepted 1 0 size ≡ stagedPlace s size k j
     unfolding stagedPlace

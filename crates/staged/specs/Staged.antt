@@ -6,12 +6,12 @@ use mathlib.Core.List.{List, []}
 use lib.Dec.{ltb, leb, eqb}
 use lib.ListN.{length, set}
 use Rattle.eif.specs.Table.{joinFrom}
-use Rattle.eif.specs.Numbers.{sizeLimit, imageTooLong, outputTooShort, noSuchSection}
+use Rattle.eif.specs.Numbers.{sizeLimit, imageTooLong, noSuchSection}
 use Rattle.octets.specs.Logic.{either, choose}
 use Rattle.eif.specs.Answers.{refuse, andThen, beside}
 use Rattle.eif.specs.Reading.{verdictOf, dataOf, readImage, sectionIn}
-use Rattle.eif.specs.Output.{outputFor}
-use Rattle.eif.specs.Plan.{placeAt, plainSize, plainImage, planOf, writtenFor}
+use Rattle.eif.specs.Output.{roomVerdict, writtenFor, outputFor}
+use Rattle.eif.specs.Plan.{placeAt, plainSize, plainImage, planOf}
 use Rattle.eif.specs.Roll.{rollBytes}
 use Rattle.eif.specs.declared.Place.{Place}
 use Rattle.eif.specs.declared.Plan.{Plan}
@@ -71,8 +71,7 @@ shownPart s r k j = beside (stagedVerdict s (length r) k j) (stagedPart s r k j)
 
 unfoldable pub stagedRollVerdict : List ℕ → List ℕ → ℕ → ℕ → Verdict
 stagedRollVerdict s r k room =
-    andThen (stagedVerdict s (length r) k k)
-    (choose (ltb room (length (rollBytes (afresh s r k)))) (refuse outputTooShort 0) Accepted)
+    andThen (stagedVerdict s (length r) k k) (roomVerdict room (length (rollBytes (afresh s r k))))
 
 unfoldable pub stagedRollAnswer : List ℕ → List ℕ → ℕ → ℕ → Written
 stagedRollAnswer s r k room = writtenFor (stagedRollVerdict s r k room) (length (rollBytes (afresh s r k)))

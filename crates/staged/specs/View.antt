@@ -1,5 +1,6 @@
 -- The staged view as the code has it: a section list in which the replaced section stands as if the replacement followed the base, and
--- the data of a section of such a list.
+-- the data of a section of such a list. Its records and streams are those of the image written afresh: `records-are` and `stream-is` of
+-- proofs/Held.antt.
 -- Assumes nothing.
 use Prim.Native.Nat.{ℕ, _+_, _-_, min}
 use mathlib.Core.Bool.{Bool, true, false}

@@ -1,13 +1,34 @@
--- The order of the refusals, on a base that has no bytes: its own refusal comes before 27, whatever the numbers.
+-- The refusals of a view by computation: on a base that has no bytes its own comes before 27, whatever the numbers; and 27, which is written out as
+-- FORMAT.md prints it.
 -- Assumes nothing.
-use mathlib.Core.Path.{_≡_, refl}
+use mathlib.Core.Path.{_≡_, refl, ap}
 use mathlib.Core.List.{[]}
-use Rattle.eif.specs.Numbers.{imageTooShort}
-use Rattle.eif.specs.Answers.{refuse}
+use lib.Dec.{leb, ltb}
+use Rattle.eif.specs.declared.Verdict.the-variants.{Accepted}
+use Rattle.eif.specs.declared.Verdict.{Verdict}
+use Rattle.eif.specs.Worked.{workedImage, worked-accepted}
+use Rattle.eif.specs.Plan.{plainSize, planOf}
+use Rattle.eif.specs.Layout.{viewOf}
+use Rattle.octets.specs.Logic.{choose, either}
+use Rattle.octets.specs.Bytes.{field, beValue}
+use Rattle.eif.specs.Numbers.{imageTooShort, noSuchSection, sizeLimit, imageTooLong}
+use Rattle.eif.specs.Answers.{refuse, andThen}
 use Rattle.eif.specs.Rules.{fieldFault}
-use Rattle.eif.specs.Reading.{headerFault, judged, early, verdictIn, positionIn}
-use Rattle.staged.specs.Staged.{stagedVerdict}
+use Rattle.eif.specs.Reading.{headerFault, judged, early, verdictIn, positionIn, readingOf, readView}
+use Rattle.staged.specs.Staged.{stagedVerdict, withPlace, stagedPlan}
 
 pub base-first : stagedVerdict [] 0 0 0 ≡ refuse imageTooShort 0
 unfolding stagedVerdict verdictIn early judged headerFault fieldFault positionIn
 base-first = refl
+
+-- the worked image has three sections, so none has the number 3
+pub no-fourth-section : stagedVerdict workedImage 0 3 0 ≡ refuse 27 0
+unfolding stagedVerdict stagedPlan readView field beValue
+no-fourth-section =
+    ap
+    (λ (v : Verdict).
+    let n = readingOf (viewOf workedImage) v .count in
+    andThen v
+    (choose (either (leb n 3) (leb n 0)) (refuse noSuchSection 0)
+    (choose (ltb sizeLimit (plainSize (withPlace (planOf (readingOf (viewOf workedImage) v)) 3 0))) (refuse imageTooLong 0) Accepted)))
+    worked-accepted

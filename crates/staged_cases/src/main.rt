@@ -1,72 +1,38 @@
 // Runs cases of the staged view, one line each: what is shown of each section, and the roll beside that of the image written afresh.
-ghost use lib.ListN.{length};
 use case_images::Shape;
+use case_lines::hex;
+use case_lines::labelled;
+use case_lines::say;
+use case_lines::text;
 use eif::PLACES;
 use eif::Plan;
 use eif::SectionType;
-use eif::Verdict;
 use eif::Written;
-
-// ---- lines
-
-fn text(bytes: &[u8]) {
-    io::write_all(libc::STDOUT_FILENO, bytes);
-}
-
-fn number(n: u64) {
-    io::print_decimal(libc::STDOUT_FILENO, n);
-}
-
-fn byte(b: u8) {
-    io::print_hex(libc::STDOUT_FILENO, b as u64, 2);
-}
-
-fn hex(bytes: &[u8]) {
-    let mut i: usize = 0;
-    while i < bytes.len() {
-        byte(bytes[i]);
-        i += 1;
-    }
-}
-
-fn answer(verdict: Verdict) {
-    let said = case_lines::answer(verdict);
-    let bytes = said.bytes;
-    let length = said.length;
-    text(&bytes[..length]);
-}
 
 // ---- the view
 
 // What is shown of a section: the verdict, the length and the bytes.
 fn shown<'a>(base: &'a [u8], replacement: &'a [u8], replaced: u64, section: u64) {
-    text(b"replaced ");
-    number(replaced);
-    text(b", shown ");
-    number(section);
+    labelled(b"replaced ", replaced);
+    labelled(b", shown ", section);
     text(b": ");
     let verdict = staged_view::verdict(base, replacement, replaced, section);
-    answer(verdict);
+    say(verdict);
     let part = staged_view::section(base, replacement, replaced, section);
     let place = staged_view::place(base, replacement.len() as u64, replaced, section);
-    text(b", length ");
-    number(part.len() as u64);
+    labelled(b", length ", part.len() as u64);
     text(b", ");
     text(part);
-    text(b", of the replacement ");
-    number(place.in_replacement as u64);
-    text(b" from ");
-    number(place.start);
-    text(b" length ");
-    number(place.length.0);
+    labelled(b", of the replacement ", place.in_replacement as u64);
+    labelled(b" from ", place.start);
+    labelled(b" length ", place.length.0);
     text(b"\n");
 }
 
 fn rolled(written: Written) {
     let verdict = written.verdict;
-    answer(verdict);
-    text(b", length ");
-    number(written.length);
+    say(verdict);
+    labelled(b", length ", written.length);
 }
 
 // ---- the base: kernel, command line and two ramdisks
@@ -148,8 +114,7 @@ fn mended(base: &[u8]) {
 fn small_room(base: &[u8], replaced: u64) {
     let mut out = [238u8; 8];
     let answered = roll_writer::write_staged(base, &base[..0], replaced, &mut out);
-    text(b"room 8, section ");
-    number(replaced);
+    labelled(b"room 8, section ", replaced);
     text(b": ");
     rolled(answered);
     text(b", ");
@@ -162,7 +127,7 @@ fn judged(label: &[u8], base: &[u8], size: u64, section: u64) {
     let answered = staged_view::judge(base, size, 2, section);
     let verdict = answered.verdict;
     text(label);
-    answer(verdict);
+    say(verdict);
     text(b"\n");
 }
 

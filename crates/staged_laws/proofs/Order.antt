@@ -6,9 +6,11 @@ use mathlib.Core.Bool.{Bool, true, false}
 use mathlib.Core.List.{List}
 use lib.Dec.{ltb, leb}
 use lib.ListN.{length}
-use Rattle.eif.specs.Numbers.{sizeLimit, imageTooLong, outputTooShort, noSuchSection}
+use Rattle.staged.specs.View.{stagedPlace}
+use Rattle.eif.specs.Numbers.{sizeLimit, imageTooLong, noSuchSection}
 use Rattle.octets.specs.Logic.{either, choose}
 use Rattle.eif.specs.Answers.{refuse, andThen}
+use Rattle.eif.specs.Output.{roomVerdict}
 use Rattle.eif.specs.Layout.{countOf}
 use Rattle.eif.specs.Reading.{verdictOf, readImage}
 use Rattle.eif.specs.Plan.{plainSize}
@@ -17,7 +19,7 @@ use Rattle.eif.specs.Order.{firstThatApplies, imageRules}
 use Rattle.eif.specs.declared.Verdict.{Verdict}
 use Rattle.eif.specs.declared.Verdict.the-variants.{Accepted, Refused}
 use Rattle.eif_laws.proofs.FirstApplies.{read-first, first-append}
-use Rattle.staged.specs.Staged.{stagedPlan, afresh, stagedVerdict, stagedRollVerdict}
+use Rattle.staged.specs.Staged.{stagedPlan, afresh, stagedVerdict, stagedRollVerdict, stagedRollLength}
 use Rattle.staged.specs.Order.{stagedRules, stagedRollRules}
 use Rattle.staged.proofs.Accept.{count-is}
 
@@ -49,5 +51,14 @@ module _ (s : List ℕ) (size k j : ℕ) where
 pub staged-roll-first : (s r : List ℕ) (k room : ℕ) → stagedRollVerdict s r k room ≡ firstThatApplies (stagedRollRules s r k room)
 unfolding stagedRollVerdict stagedRollRules firstThatApplies
 staged-roll-first s r k room =
-    ap (λ (v : Verdict). andThen v (choose (ltb room (length (rollBytes (afresh s r k)))) (refuse outputTooShort 0) Accepted)) (staged-first s (length r) k k)
+    ap (λ (v : Verdict). andThen v (roomVerdict room (length (rollBytes (afresh s r k))))) (staged-first s (length r) k k)
     ∙ sym (first-append (stagedRules s (length r) k k) _)
+
+-- where a section's data lies, and how long the roll is: the same rules as of the view
+pub staged-place-first : (s : List ℕ) (size k j : ℕ) → stagedPlace s size k j .verdict ≡ firstThatApplies (stagedRules s size k j)
+unfolding stagedPlace
+staged-place-first s size k j = staged-first s size k j
+
+pub staged-length-first : (s r : List ℕ) (k : ℕ) → stagedRollLength s r k .verdict ≡ firstThatApplies (stagedRules s (length r) k k)
+unfolding stagedRollLength
+staged-length-first s r k = staged-first s (length r) k k

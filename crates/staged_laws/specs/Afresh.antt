@@ -3,16 +3,20 @@
 use Prim.Native.Nat.{ℕ, _<_}
 use mathlib.Core.Path.{_≡_}
 use mathlib.Core.List.{List}
+use lib.ListN.{length}
+use Rattle.plain_laws.specs.RoundTrip.{Writes}
 use Rattle.eif.specs.Layout.{viewOf, defaultMem, defaultCpus, versionOf, headerFlagsOf, countOf, kindAt, flagsAt}
 use Rattle.eif.specs.Reading.{sectionAt, dataOf}
 use Rattle.eif.specs.Plan.{Plain}
-use Rattle.staged.specs.Staged.{stagedPart, afresh}
+use Rattle.staged.specs.Staged.{stagedPart, afresh, stagedPlan, stagedJoined}
 
 -- the data of section k of an image, as its own replacement
 abbrev pub ownData : List ℕ → ℕ → List ℕ
 ownData s k = dataOf s (sectionAt s k)
 
 pub record WrittenAfresh (s r : List ℕ) (k : ℕ) : Type 0 where
+  -- it is what the writer writes for the base's plan with the replacement's length, and the data with the replacement
+  pub writes : Writes (stagedPlan s k (length r)) (stagedJoined s r k) (afresh s r k)
   -- it is accepted, and plain
   pub plain : Plain (afresh s r k)
   -- it has the base's header fields and sections, in order, and their data are the staged parts

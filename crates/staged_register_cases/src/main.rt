@@ -1,28 +1,16 @@
 // The registers over a staged view of a small image, a line each in hexadecimal, or the refusal: a ramdisk mended, a section replaced by
 // its own data beside the base itself, and a section number past the count.
 use case_images::Shape;
+use case_lines::hex;
+use case_lines::say;
+use case_lines::text;
 use eif::Verdict;
 use eif_registers::Digest;
 use eif_registers::Measurement;
-use libc::STDOUT_FILENO;
-use sha384_block::DIGEST_SIZE;
-
-fn text(bytes: &[u8]) {
-    io::write_all(STDOUT_FILENO, bytes);
-}
-
-fn answer(verdict: Verdict) {
-    let said = case_lines::answer(verdict);
-    let bytes = said.bytes;
-    let length = said.length;
-    text(&bytes[..length]);
-}
 
 fn show(register: Digest) {
     let digest = register.0;
-    for i in 0..DIGEST_SIZE {
-        io::print_hex(STDOUT_FILENO, digest[i] as u64, 2);
-    }
+    hex(&digest);
     text(b"\n");
 }
 
@@ -31,7 +19,7 @@ fn told(label: &[u8], all: Measurement) {
     let verdict = all.verdict;
     if let Verdict::Refused(_) = verdict {
         text(b" ");
-        answer(verdict);
+        say(verdict);
     }
     text(b"\n");
     let values = all.registers;

@@ -1,33 +1,20 @@
 // Runs the cases of the three streams, one line each: what each stream of small images is, and copying from positions at and
 // around borders and ends. An output buffer is shown whole; it held dots before the call. Section types are FORMAT.md's numbers.
 use case_images::Shape;
+use case_lines::labelled;
+use case_lines::say;
+use case_lines::text;
 use eif::Header;
 use eif::SectionType;
 use eif::Stream;
 use eif::StreamPosition;
-use eif::Verdict;
 
 // ---- lines
-
-fn text(bytes: &[u8]) {
-    io::write_all(libc::STDOUT_FILENO, bytes);
-}
-
-fn number(n: u64) {
-    io::print_decimal(libc::STDOUT_FILENO, n);
-}
 
 fn in_brackets(bytes: &[u8]) {
     text(b"[");
     text(bytes);
     text(b"]");
-}
-
-fn answer(verdict: Verdict) {
-    let said = case_lines::answer(verdict);
-    let bytes = said.bytes;
-    let length = said.length;
-    text(&bytes[..length]);
 }
 
 // The answer, the number of bytes copied and every byte of the output.
@@ -36,9 +23,8 @@ fn copy(label: &[u8], image: &[u8], stream: Stream, from: u64, out: &mut [u8]) {
     let verdict = copied.verdict;
     text(label);
     text(b": ");
-    answer(verdict);
-    text(b", ");
-    number(copied.count);
+    say(verdict);
+    labelled(b", ", copied.count);
     text(b" ");
     in_brackets(out);
     text(b"\n");
@@ -55,17 +41,15 @@ fn length(label: &[u8], image: &[u8], stream: Stream) {
     let verdict = length.verdict;
     text(label);
     text(b": ");
-    answer(verdict);
-    text(b", ");
-    number(length.length.0);
+    say(verdict);
+    labelled(b", ", length.length.0);
     text(b"\n");
 }
 
 // A stream's length, and its bytes in a buffer of 26.
 fn whole_of(name: &[u8], image: &[u8], stream: Stream) {
     let mut out = [b'.'; 26];
-    text(name);
-    number(stream_reader::length(image, stream).length.0);
+    labelled(name, stream_reader::length(image, stream).length.0);
     text(b" ");
     stream_reader::copy(image, stream, StreamPosition(0), &mut out);
     in_brackets(&out);
@@ -220,9 +204,8 @@ fn from_listed(label: &[u8], image: &[u8], size: usize, from: u64) {
     let copied = stream_reader::copy_listed(&image[..size], list, StreamPosition(from), &mut out);
     let verdict = copied.verdict;
     text(label);
-    answer(verdict);
-    text(b", ");
-    number(copied.count);
+    say(verdict);
+    labelled(b", ", copied.count);
     text(b" ");
     in_brackets(&out);
     text(b"\n");

@@ -13,16 +13,17 @@ use lib.ListN.{length, getD, take}
 use Rattle.octets.specs.Logic.{both, choose}
 use Rattle.eif.specs.Numbers.{placeCount, kernel, commandLine, ramdisk}
 use Rattle.eif.specs.Layout.{countOf, kindAt}
-use Rattle.eif.specs.Reading.{ramdiskIn, blankSection, sectionAt, sectionsOf}
+use Rattle.octets.proofs.Lists.{joined-append}
+use Rattle.eif.specs.Reading.{dataOf, ramdiskIn, blankSection, sectionAt, sectionsOf, ramdisksIn, sectionKind}
 use Rattle.eif.specs.Rules.{bootType}
-use Rattle.eif.specs.Stream.{laterRamdisk, keeps, kept, sectionKind, streamSections, sectionsData, streamOf}
+use Rattle.eif.specs.Stream.{laterRamdisk, keeps, kept, streamSections, sectionsData, streamOf}
 use Rattle.eif.specs.Acceptance.{MeetsRules}
 use Rattle.eif.specs.declared.Section.{Section}
 use Rattle.eif.specs.declared.Stream.the-variants.{Whole, Boot, App}
 use Rattle.octets.proofs.Logic.{both-true, equal-or-not, not-both}
 use Rattle.eif_lemmas.proofs.Table.{filled-at, filled-past}
-use Rattle.stream_laws.specs.Sums.{ramdisksIn, ramdisksBefore}
-use Rattle.stream_laws.proofs.Sections.{later-in, joined-append}
+use Rattle.stream_laws.specs.Sums.{ramdisksBefore}
+use Rattle.stream_laws.proofs.Sections.{later-in}
 
 -- ---- of any sections
 
@@ -52,13 +53,13 @@ boot-empty before (x ∷ xs) some lacks =
     ∙ boot-empty (before + ramdiskIn (x .kind)) xs (omega arith) (λ i h. lacks (suc i) (after x xs i h))
 
 -- one section more: kept by none, by Whole and Boot, or by Whole and App, where Boot then keeps nothing after it
-joined : (t later : Bool) (x : Section) (w b a : List Section) → w ≡ b ++ a → (later ≡ true → b ≡ []) → both later (not t) ≡ false
+parts-joined : (t later : Bool) (x : Section) (w b a : List Section) → w ≡ b ++ a → (later ≡ true → b ≡ []) → both later (not t) ≡ false
     → choose t (x ∷ w) w ≡ choose (both t (not later)) (x ∷ b) b ++ choose later (x ∷ a) a
-joined true true x w b a e n z =
+parts-joined true true x w b a e n z =
     ap (λ (l : List Section). x ∷ l) (e ∙ ap (λ (l : List Section). l ++ a) (n refl)) ∙ sym (ap (λ (l : List Section). l ++ (x ∷ a)) (n refl))
-joined true false x w b a e n z = ap (λ (l : List Section). x ∷ l) e
-joined false true x w b a e n z = not-both (sym z)
-joined false false x w b a e n z = e
+parts-joined true false x w b a e n z = ap (λ (l : List Section). x ∷ l) e
+parts-joined false true x w b a e n z = not-both (sym z)
+parts-joined false false x w b a e n z = e
 
 -- a kernel or a command line has at most one ramdisk before it
 abbrev Early : ℕ → List Section → Type 0
@@ -81,7 +82,7 @@ unfolding kept keeps
 whole-is-parts before [] h = refl
 whole-is-parts before (x ∷ xs) h =
     let next : ℕ = before + ramdiskIn (x .kind) in
-    joined (bootType (x .kind)) (laterRamdisk (x .kind) before) x (kept Whole sectionKind next xs) (kept Boot sectionKind next xs) (kept App sectionKind next xs)
+    parts-joined (bootType (x .kind)) (laterRamdisk (x .kind) before) x (kept Whole sectionKind next xs) (kept Boot sectionKind next xs) (kept App sectionKind next xs)
     (whole-is-parts next xs (early-rest before x xs h))
     (nothing-after before x xs h)
     (later-in (x .kind) before (eqb (x .kind) ramdisk) refl)
@@ -126,7 +127,7 @@ module _ (s : List ℕ) (meets : MeetsRules s) where
       → streamOf s Whole ≡ streamOf s Boot ++ streamOf s App
   unfolding streamOf
   whole-begins-with-boot line =
-      ap (sectionsData s) (whole-is-parts 0 (sectionsOf s) early) ∙ joined-append s (streamSections Boot (sectionsOf s)) (streamSections App (sectionsOf s))
+      ap (sectionsData s) (whole-is-parts 0 (sectionsOf s) early) ∙ joined-append (dataOf s) (streamSections Boot (sectionsOf s)) (streamSections App (sectionsOf s))
     where
       early : Early 0 (sectionsOf s)
       early i h =

@@ -1,15 +1,21 @@
 -- How the three streams are made up: Boot and App hold Whole's sections, each once, and the lengths add up.
+-- And a refused reading has no sections in any stream.
 -- Assumes nothing.
 use Prim.Native.Nat.{ℕ, _+_}
-use mathlib.Core.Path.{_≡_, sym, ap, ap₂, _∙_}
+use mathlib.Core.Path.{_≡_, sym, ap, ap₂, _∙_, refl}
 use mathlib.Core.List.{List}
-use lib.ListN.{length}
-use Rattle.eif.specs.Reading.{dataOf, sectionsOf, verdictOf}
-use Rattle.eif.specs.Stream.{streamSections, streamOf}
+use lib.ListN.{length, replicate}
+use Rattle.eif.specs.declared.Verdict.{Verdict}
+use Rattle.eif.specs.declared.Refusal.{Refusal}
+use Rattle.eif.specs.Layout.{viewOf}
+use Rattle.eif.specs.Table.{inTable}
+use Rattle.eif.specs.Numbers.{placeCount}
+use Rattle.eif.specs.Reading.{dataOf, sectionsOf, verdictOf, blankSection, readingOf, readView, readImage}
+use Rattle.eif.specs.Stream.{streamSections, streamOf, sectionsAnswer, kept, keeps}
 use Rattle.eif.specs.declared.Section.{Section}
 use Rattle.eif.specs.declared.Stream.{Stream}
 use Rattle.eif.specs.declared.Stream.the-variants.{Whole, Boot, App}
-use Rattle.eif.specs.declared.Verdict.the-variants.{Accepted}
+use Rattle.eif.specs.declared.Verdict.the-variants.{Accepted, Refused}
 use Rattle.eif_lemmas.proofs.Accept.{Inside, sections-inside}
 use Rattle.stream_laws.specs.Sums.{measuredIn, sumOf, lengthOf}
 use Rattle.stream_laws.proofs.Sections.{all-stream, length-of-joined, length-joined, sums-add, whole-kept}
@@ -38,3 +44,16 @@ module _ (s : List ℕ) where
     whole-length =
         let l = sectionsOf s in
         length-joined s (streamSections Whole l) (all-stream (Inside s) Whole l (sections-inside s e)) ∙ ap (sumOf lengthOf) (whole-kept 0 l)
+
+-- no section of blank places is in a stream
+none-listed : (stream : Stream) → sectionsAnswer stream (replicate placeCount blankSection) ≡ record { count = 0; sections = replicate placeCount blankSection }
+unfolding sectionsAnswer inTable kept keeps
+none-listed Whole = refl
+none-listed Boot = refl
+none-listed App = refl
+
+-- a refused reading has no sections in any stream
+pub refused-none : (s : List ℕ) (r : Refusal) → verdictOf s ≡ Refused r → (stream : Stream)
+    → sectionsAnswer stream (readImage s .sections) ≡ record { count = 0; sections = replicate placeCount blankSection }
+unfolding readView
+refused-none s r e stream = ap (λ (v : Verdict). sectionsAnswer stream (readingOf (viewOf s) v .sections)) e ∙ none-listed stream

@@ -3,32 +3,30 @@
 use Prim.Native.Nat.{ℕ, _+_, _≤_}
 use mathlib.Core.Path.{_≡_, refl, sym, ap, ap₂, _∙_}
 use mathlib.Core.Bool.{Bool, true, false, not}
-use mathlib.Core.List.{List, [], _∷_, _++_, append-assoc}
+use mathlib.Core.List.{List, [], _∷_, _++_}
 use native.Mathlib.Omega.{arith}
 use native.Mathlib.Nat.{add-zero, add-assoc}
-use borrow.Author.Tests.{eqb-true, le-leb}
+use borrow.Author.Tests.{eqb-true}
 use lib.Dec.{eqb, ltb}
 use lib.ListN.{length, length-append}
 use Rattle.octets.proofs.Logic.{not-both}
-use Rattle.octets.specs.Lists.{All}
-use Rattle.eif.specs.Numbers.{kernel, ramdisk}
+use Rattle.octets.specs.Lists.{All, joinedBy}
+use Rattle.eif.specs.Numbers.{ramdisk}
 use Rattle.octets.specs.Logic.{both, choose}
-use Rattle.eif.specs.Reading.{ramdiskIn, dataOf}
+use Rattle.eif.specs.Reading.{ramdiskIn, dataOf, ramdisksIn, sectionKind}
 use Rattle.eif.specs.Rules.{bootType}
-use Rattle.eif.specs.Stream.{laterRamdisk, keeps, kept, sectionKind, streamSections, sectionsData}
+use Rattle.eif.specs.Stream.{laterRamdisk, keeps, kept, streamSections, sectionsData}
 use Rattle.eif.specs.declared.Section.{Section}
 use Rattle.eif.specs.declared.Stream.{Stream}
 use Rattle.eif.specs.declared.Stream.the-variants.{Whole, Boot, App}
 use Rattle.eif_lemmas.proofs.Accept.{Inside, length-data}
-use Rattle.stream_laws.specs.Sums.{measuredIn, ramdisksIn, sumOf, lengthOf}
+use Rattle.stream_laws.specs.Sums.{measuredIn, sumOf, lengthOf}
 
 -- ---- types
 
 -- the type of a ramdisk is one of those that a roll holds
 ramdisk-in : (kind : ℕ) (b : Bool) → eqb kind ramdisk ≡ b → both b (not (bootType kind)) ≡ false
-ramdisk-in kind true e =
-    let k : kind ≡ ramdisk = eqb-true kind ramdisk e in
-    simp (le-leb kernel kind (omega arith), le-leb kind ramdisk (omega arith))
+ramdisk-in kind true e = ap (λ (k : ℕ). not (bootType k)) (eqb-true kind ramdisk e)
 ramdisk-in kind false e = refl
 
 -- and so is that of a later one
@@ -90,18 +88,13 @@ all-stream P stream l a = all-kept stream sectionKind P 0 l a
 -- ---- the length of data
 
 module _ (s : List ℕ) where
-  pub joined-append : (k l : List Section) → sectionsData s (k ++ l) ≡ sectionsData s k ++ sectionsData s l
-  unfolding sectionsData
-  joined-append [] l = refl
-  joined-append (y ∷ ys) l = ap (λ (b : List ℕ). dataOf s y ++ b) (joined-append ys l) ∙ sym (append-assoc (dataOf s y) (sectionsData s ys) (sectionsData s l))
-
   pub length-of-joined : (l : List Section) → length (sectionsData s l) ≡ sumOf (λ x. length (dataOf s x)) l
-  unfolding sectionsData sumOf
+  unfolding joinedBy sumOf
   length-of-joined [] = refl
   length-of-joined (x ∷ xs) = length-append (dataOf s x) (sectionsData s xs) ∙ ap (λ (n : ℕ). length (dataOf s x) + n) (length-of-joined xs)
 
   pub length-joined : (l : List Section) → All (Inside s) l → length (sectionsData s l) ≡ sumOf lengthOf l
-  unfolding All sectionsData sumOf
+  unfolding All joinedBy sumOf
   length-joined [] a = refl
   length-joined (x ∷ xs) a = length-append (dataOf s x) (sectionsData s xs) ∙ ap₂ (λ (m n : ℕ). m + n) (length-data s x (a .0)) (length-joined xs (a .1))
 

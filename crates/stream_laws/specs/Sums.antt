@@ -1,25 +1,20 @@
--- Numbers of sections added up.
+-- The measured sections of a list, and numbers of sections added up.
 -- Assumes nothing.
 use Prim.Native.Nat.{ℕ, _+_}
 use mathlib.Core.List.{List, [], _∷_}
 use Rattle.octets.specs.Logic.{choose}
 use lib.ListN.{take}
 use Rattle.eif.specs.Rules.{bootType}
-use Rattle.eif.specs.Reading.{ramdiskIn, sectionsOf}
-use Rattle.eif.specs.Stream.{sectionKind}
+use Rattle.eif.specs.Reading.{sectionsOf, ramdisksIn, sectionKind}
 use Rattle.eif.specs.declared.Section.{Section}
 
--- the sections of type kernel, command line or ramdisk, in file order
+-- the sections of type kernel, command line or ramdisk, in file order: what Whole has, said without streams. That it has them is
+-- `Sections.whole-kept`
 unfoldable pub measuredIn : List Section → List Section
 measuredIn [] = []
 measuredIn (x ∷ xs) =
     let rest = measuredIn xs in
     choose (bootType (x .kind)) (x ∷ rest) rest
-
--- how many ramdisks are in a list whose elements have types
-unfoldable pub ramdisksIn : {A : Type 0} → (A → ℕ) → List A → ℕ
-ramdisksIn kindOf [] = 0
-ramdisksIn kindOf (x ∷ xs) = ramdiskIn (kindOf x) + ramdisksIn kindOf xs
 
 -- how many stand before section i of an image
 abbrev pub ramdisksBefore : List ℕ → ℕ → ℕ

@@ -1,19 +1,18 @@
 -- The answers of copying and of a stream's length, by what the image's verdict is and where the position stands.
 -- Assumes nothing.
-use Prim.Native.Nat.{ℕ, _-_, _<_, _≤_, min}
-use mathlib.Core.Path.{_≡_, refl, ap, _∙_}
+use Prim.Native.Nat.{ℕ, _-_, _<_, _≤_, min, _^_}
+use mathlib.Core.Path.{_≡_, ap, _∙_}
 use mathlib.Core.List.{List}
 use native.Mathlib.Omega.{arith}
 use borrow.Author.Tests.{lt-ltb, le-ltb}
-use lib.ListN.{length, take, drop, replicate, length-take, length-drop}
-use lib.Seq.{take-at}
+use lib.ListN.{length, take, drop, length-take, length-drop}
 use Rattle.octets.specs.Over.{over}
 use Rattle.octets.proofs.Over.{over-clip}
 use Rattle.eif.specs.Numbers.{placeCount, sizeLimit, pastStreamEnd}
 use Rattle.eif.specs.Answers.{refuse}
 use Rattle.eif.specs.Layout.{viewOf, countOf}
-use Rattle.eif.specs.Reading.{section, blankSection, verdictOf, sectionsOf, readImage}
-use Rattle.eif.specs.Stream.{sectionKind, streamSections, inTable, sectionsAnswer, sectionsData, streamOf, listedBytes, copiedFor, copyVerdict, copyAnswer, copyOutput, copyListedAnswer, copyListedOutput, lengthFor, lengthAnswer}
+use Rattle.eif.specs.Reading.{section, blankSection, verdictOf, readImage, sectionKind}
+use Rattle.eif.specs.Stream.{streamSections, sectionsAnswer, sectionsData, streamOf, listedBytes, copiedFor, copyVerdict, copyAnswer, copyOutput, copyListedAnswer, copyListedOutput, lengthFor, lengthAnswer}
 use Rattle.eif.specs.declared.Copied.{Copied}
 use Rattle.eif.specs.declared.Reading.{Reading}
 use Rattle.eif.specs.declared.Refusal.{Refusal}
@@ -21,8 +20,8 @@ use Rattle.eif.specs.declared.Section.{Section}
 use Rattle.eif.specs.declared.Stream.{Stream}
 use Rattle.eif.specs.declared.StreamSections.{StreamSections}
 use Rattle.eif.specs.declared.Verdict.the-variants.{Accepted, Refused}
-use Rattle.eif_lemmas.proofs.Table.{length-filled}
-use Rattle.eif_lemmas.proofs.Reading.{told-accepted, reading-is}
+use Rattle.eif_lemmas.proofs.Table.{length-filled, take-table}
+use Rattle.eif_lemmas.proofs.Reading.{told-accepted, sections-are}
 use Rattle.eif_lemmas.proofs.Accept.{passes}
 use Rattle.stream_laws.proofs.Sections.{kept-fits}
 use Rattle.stream_reader.proofs.Listed.{joined-bound}
@@ -53,10 +52,8 @@ module _ (s : List ℕ) (list : StreamSections) (from : ℕ) (d : List ℕ) wher
 
 -- the bytes of the listed sections of a stream
 pub listed-is : (s : List ℕ) (stream : Stream) (l : List Section) → listedBytes s (sectionsAnswer stream l) ≡ sectionsData s (streamSections stream l)
-unfolding listedBytes sectionsAnswer inTable
-listed-is s stream l =
-    let k = streamSections stream l in
-    ap (sectionsData s) (take-at k (replicate (placeCount - length k) blankSection) (length k) refl)
+unfolding listedBytes sectionsAnswer
+listed-is s stream l = ap (sectionsData s) (take-table blankSection (streamSections stream l))
 
 module _ (s : List ℕ) (stream : Stream) where
   pub length-refused : (r : Refusal) → verdictOf s ≡ Refused r → lengthFor (Refused r) 0 ≡ lengthAnswer s stream
@@ -69,10 +66,10 @@ module _ (s : List ℕ) (stream : Stream) where
 
   module _ (from : ℕ) (d : List ℕ) where
     -- the answer is c, and the output is o
-    abbrev pub Answers : Copied → List ℕ → Type 0
-    Answers c o = (c ≡ copyAnswer s stream from (length d)) × (o ≡ copyOutput s stream from d)
+    abbrev pub CopyAnswers : Copied → List ℕ → Type 0
+    CopyAnswers c o = (c ≡ copyAnswer s stream from (length d)) × (o ≡ copyOutput s stream from d)
 
-    pub copy-refused : (r : Refusal) → verdictOf s ≡ Refused r → Answers (copiedFor (Refused r) 0) d
+    pub copy-refused : (r : Refusal) → verdictOf s ≡ Refused r → CopyAnswers (copiedFor (Refused r) 0) d
     unfolding copyAnswer copyOutput copyVerdict
     copy-refused r e = (simp e, simp e)
 
@@ -80,30 +77,27 @@ module _ (s : List ℕ) (stream : Stream) where
 
 module _ (s : List ℕ) (r : Reading) (is : r ≡ readImage s) where
   module _ (told : r .verdict ≡ Accepted) (stream : Stream) where
-    pub accepted : verdictOf s ≡ Accepted
-    accepted = told-accepted s r is told
-
-    sections-are : r .sections ≡ sectionsOf s
-    sections-are = ap (λ (x : Reading). x .sections) (reading-is s r is told)
+    abbrev ok : verdictOf s ≡ Accepted
+    ok = told-accepted s r is told
 
     pub stream-is : listedBytes s (sectionsAnswer stream (r .sections)) ≡ streamOf s stream
     unfolding streamOf
-    stream-is = listed-is s stream (r .sections) ∙ ap (λ (l : List Section). sectionsData s (streamSections stream l)) sections-are
+    stream-is = listed-is s stream (r .sections) ∙ ap (λ (l : List Section). sectionsData s (streamSections stream l)) (sections-are s r is told)
 
     -- so the sum of its sections' lengths fits 64 bits
-    pub stream-fits : length (listedBytes s (sectionsAnswer stream (r .sections))) ≤ 18446744073709551615
+    pub stream-fits : length (listedBytes s (sectionsAnswer stream (r .sections))) < 2 ^ 64
     stream-fits =
         let l = r .sections in
-        let n : length l ≡ placeCount = ap length sections-are ∙ length-filled (section (viewOf s)) blankSection placeCount (countOf s) in
+        let n : length l ≡ placeCount = ap length (sections-are s r is told) ∙ length-filled (section (viewOf s)) blankSection placeCount (countOf s) in
         let k = kept-fits stream sectionKind 0 l in
-        let b = joined-bound s (streamSections stream l) sizeLimit (passes s accepted .head .small) in
+        let b = joined-bound s (streamSections stream l) sizeLimit (passes s ok .head .small) in
         omega (arith, ap length (listed-is s stream l))
 
     module _ (from : ℕ) (d : List ℕ) where
       pub answer-is : copyListedAnswer s (sectionsAnswer stream (r .sections)) from (length d) ≡ copyAnswer s stream from (length d)
       unfolding copyListedAnswer copyAnswer copyVerdict
-      answer-is = simp (stream-is, accepted)
+      answer-is = simp (stream-is, ok)
 
       pub output-is : copyListedOutput s (sectionsAnswer stream (r .sections)) from d ≡ copyOutput s stream from d
       unfolding copyListedOutput copyOutput copyVerdict
-      output-is = simp (stream-is, accepted)
+      output-is = simp (stream-is, ok)

@@ -7,31 +7,22 @@ use mathlib.Core.List.{List, [], _∷_, _++_, append-assoc, append-nil}
 use native.Mathlib.Omega.{arith}
 use native.Mathlib.Nat.{zero-add}
 use native.Mathlib.Numerals.{add-one}
-use borrow.Author.Tests.{ne-eqb}
 use lib.ListN.{length, getD, set, take, replicate, length-append}
 use lib.Seq.{take-suc, set-at, length-take-le}
-use Rattle.eif.specs.Numbers.{placeCount, ramdisk}
+use Rattle.eif.specs.Table.{inTable}
+use Rattle.eif.specs.Numbers.{placeCount}
 use Rattle.octets.specs.Logic.{choose}
 use Rattle.eif.specs.Rules.{bootType}
-use Rattle.eif.specs.Reading.{ramdiskIn, blankSection}
-use Rattle.eif.specs.Stream.{laterRamdisk, keeps, kept, sectionKind, inTable}
+use Rattle.eif.specs.Reading.{ramdiskIn, blankSection, ramdisksIn, sectionKind}
+use Rattle.eif.specs.Stream.{laterRamdisk, keeps, kept}
 use Rattle.eif.specs.declared.Section.{Section}
 use Rattle.eif.specs.declared.Stream.{Stream}
 use Rattle.eif.specs.declared.Stream.the-variants.{Whole, Boot, App}
-use Rattle.octets.proofs.Logic.{not-both}
-use Rattle.stream_laws.specs.Sums.{ramdisksIn}
 use Rattle.stream_laws.proofs.Sections.{kept-append, kept-fits}
 
 -- ---- by type
 
 module _ (kind before : ℕ) where
-  -- a type that no stream keeps
-  pub kept-other : (stream : Stream) → bootType kind ≡ false → false ≡ keeps stream kind before
-  unfolding keeps
-  kept-other Whole e = sym e
-  kept-other Boot e = rw e refl
-  kept-other App e = simp (ne-eqb kind ramdisk (λ z. not-both (sym e ∙ ap bootType z)))
-
   module _ (stream : Stream) where
     pub kept-whole : bootType kind ≡ true → stream ≡ Whole → true ≡ keeps stream kind before
     unfolding keeps
@@ -91,7 +82,7 @@ module _ (stream : Stream) (l : List Section) where
   kept-few i h = let f = kept-fits stream sectionKind 0 (take i l) in let n = length-take-le i l h in omega arith
 
 -- a section is stored behind those that are listed
-pub table-next : (k : List Section) (x : Section) (n : ℕ) → n ≡ length k → n < placeCount → set (inTable k) n x ≡ inTable (k ++ (x ∷ []))
+pub table-next : (k : List Section) (x : Section) (n : ℕ) → n ≡ length k → n < placeCount → set (inTable blankSection k) n x ≡ inTable blankSection (k ++ (x ∷ []))
 unfolding inTable
 table-next k x n e h =
     let m : placeCount - length k ≡ suc (placeCount - suc n) = omega arith in

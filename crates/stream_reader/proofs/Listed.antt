@@ -8,22 +8,20 @@ use native.Mathlib.Omega.{arith}
 use native.Mathlib.Nat.{zero-add, suc-mul}
 use native.Mathlib.Numerals.{add-one}
 use lib.ListN.{length, getD, take, drop, length-append, length-drop, length-take, drop-of-length-le}
-use lib.Seq.{take-suc, take-all, take-add, take-nil}
-use Rattle.octets.proofs.Lists.{drop-both}
+use lib.Seq.{take-suc, take-add, take-nil}
+use borrow.Rule.Slice.PartAt.{part-to-end}
+use Rattle.octets.proofs.Lists.{drop-both, take-min, drop-min}
 use Rattle.octets.specs.Over.{over}
 use Rattle.octets.proofs.Over.{le-or-lt, length-over, over-append, over-out}
 use Rattle.eif.specs.Reading.{blankSection, dataOf}
 use Rattle.eif.specs.Stream.{sectionsData}
 use Rattle.eif.specs.declared.Section.{Section}
-use Rattle.stream_laws.proofs.Sections.{joined-append}
+use Rattle.octets.specs.Lists.{joinedBy}
+use Rattle.octets.proofs.Lists.{joined-append}
 
 -- as many elements as there are
 pub cut : {A : Type 0} (l : List A) (n k : ℕ) → k ≡ min n (length l) → take k l ≡ take n l
-cut l n k q =
-    ⊎-elim
-    (λ (h : n ≤ length l). let z : k ≡ n = omega arith in ap (λ (j : ℕ). take j l) z)
-    (λ (h : length l < n). take-all k l (omega arith) ∙ sym (take-all n l (omega arith)))
-    (le-or-lt n (length l))
+cut l n k q = ap (λ (j : ℕ). take j l) q ∙ take-min n l
 
 -- ---- a section's data
 
@@ -44,7 +42,7 @@ clipped s x start size e f =
 -- ---- one section after the other
 
 joined-one : (s : List ℕ) (x : Section) → sectionsData s (x ∷ []) ≡ dataOf s x
-unfolding sectionsData
+unfolding joinedBy
 joined-one s x = append-nil (dataOf s x)
 
 module _ (s : List ℕ) (l : List Section) where
@@ -54,7 +52,7 @@ module _ (s : List ℕ) (l : List Section) where
 
   pub passed-next : (i : ℕ) → i < length l → passed (i + 1) ≡ passed i ++ dataOf s (getD l i blankSection)
   passed-next i h =
-      ap (λ (n : ℕ). sectionsData s (take n l)) (add-one i) ∙ ap (sectionsData s) (take-suc l i blankSection h) ∙ joined-append s (take i l) (getD l i blankSection ∷ [])
+      ap (λ (n : ℕ). sectionsData s (take n l)) (add-one i) ∙ ap (sectionsData s) (take-suc l i blankSection h) ∙ joined-append (dataOf s) (take i l) (getD l i blankSection ∷ [])
       ∙ ap (λ (b : List ℕ). passed i ++ b) (joined-one s (getD l i blankSection))
 
   -- fewer sections have no more data
@@ -62,7 +60,7 @@ module _ (s : List ℕ) (l : List Section) where
   passed-within i n h =
       let m : n ≡ i + (n - i) = omega arith in
       let e : passed n ≡ passed i ++ sectionsData s (take (n - i) (drop i l)) =
-      ap (λ (k : ℕ). sectionsData s (take k l)) m ∙ ap (sectionsData s) (take-add i (n - i) l) ∙ joined-append s (take i l) (take (n - i) (drop i l)) in
+      ap (λ (k : ℕ). sectionsData s (take k l)) m ∙ ap (sectionsData s) (take-add i (n - i) l) ∙ joined-append (dataOf s) (take i l) (take (n - i) (drop i l)) in
       omega (arith, ap length e, length-append (passed i) (sectionsData s (take (n - i) (drop i l))))
 
 -- ---- what is copied from a position on
@@ -110,7 +108,7 @@ over-more o p d from skip done e f =
 -- ---- the length of all of it
 
 pub joined-bound : (s : List ℕ) (l : List Section) (bound : ℕ) → length s ≤ bound → length (sectionsData s l) ≤ length l * bound
-unfolding sectionsData
+unfolding joinedBy
 joined-bound s [] bound h = omega arith
 joined-bound s (x ∷ xs) bound h =
     let r = joined-bound s xs bound h in
@@ -121,12 +119,8 @@ joined-bound s (x ∷ xs) bound h =
 
 -- what is left of data after as much of it as there is
 rest-of : (d : List ℕ) (skip passed : ℕ) → passed ≡ min skip (length d) → drop passed d ≡ drop skip d
-rest-of d skip passed e =
-    ⊎-elim
-    (λ (h : skip ≤ length d). let z : passed ≡ skip = omega arith in ap (λ (k : ℕ). drop k d) z)
-    (λ (h : length d < skip). drop-of-length-le d {i = passed} (omega arith) ∙ sym (drop-of-length-le d {i = skip} (omega arith)))
-    (le-or-lt skip (length d))
+rest-of d skip passed e = ap (λ (k : ℕ). drop k d) e ∙ drop-min skip d
 
 -- as it is lent, up to its end
 pub part-to-rest : (d : List ℕ) (skip passed : ℕ) → passed ≡ min skip (length d) → take (length d - passed) (drop passed d) ≡ drop skip d
-part-to-rest d skip passed e = take-all (length d - passed) (drop passed d) (simp length-drop (omega arith)) ∙ rest-of d skip passed e
+part-to-rest d skip passed e = part-to-end d passed ∙ rest-of d skip passed e

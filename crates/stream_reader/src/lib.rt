@@ -1,7 +1,7 @@
 // The three measured streams: which sections one has, copying from it, and how long it is. A stream is the data of the sections that
 // it keeps of an image, in file order; which these are is decided by `is_kept` alone.
 ghost use mathlib.Core.Path.{_≡_};
-ghost use Prim.Native.Nat.{_+_, _-_, _≤_, min};
+ghost use Prim.Native.Nat.{_+_, _-_, _^_, _<_, _≤_, min};
 ghost use lib.ListN.{length, drop};
 ghost use Rattle.octets.specs.Over.{over};
 ghost use Rattle.eif.specs.Numbers.{placeCount};
@@ -176,7 +176,7 @@ pub fn copy(image: &[u8], stream: Stream, from: StreamPosition, out: &mut [u8]) 
 
 // How long the data of listed sections is together.
 fn total(image: &[u8], list: StreamSections) -> u64
-    requires { ⌜ length (listedBytes (now image) list) ≤ 18446744073709551615 ⌝ }
+    requires { ⌜ length (listedBytes (now image) list) < 2 ^ 64 ⌝ }
     ensures { λ r. ⌜ r ≡ length (listedBytes (now (image .entry)) list) ⌝ }
 {
     let sections = list.sections;

@@ -1,37 +1,23 @@
 // Runs cases of the stricter reading, one line each: an image, the answers of the ordinary and of the stricter reading, and the fields of
 // the latter, which are zero beside a refusal. Section types are FORMAT.md's numbers.
 use case_images::Shape;
+use case_lines::labelled;
+use case_lines::say;
+use case_lines::text;
 use eif::Header;
 use eif::Reading;
 use eif::SectionType;
-use eif::Verdict;
 
 // ---- answers
 
-fn text(bytes: &[u8]) {
-    io::write_all(libc::STDOUT_FILENO, bytes);
-}
-
-fn field(name: &[u8], n: u64) {
-    text(name);
-    io::print_decimal(libc::STDOUT_FILENO, n);
-}
-
-fn answer(verdict: Verdict) {
-    let said = case_lines::answer(verdict);
-    let bytes = said.bytes;
-    let length = said.length;
-    text(&bytes[..length]);
-}
-
 fn fields(reading: Reading) {
-    field(b"; version ", reading.version as u64);
-    field(b" flags ", reading.flags as u64);
-    field(b" count ", reading.count as u64);
+    labelled(b"; version ", reading.version as u64);
+    labelled(b" flags ", reading.flags as u64);
+    labelled(b" count ", reading.count as u64);
     let first = reading.sections[0];
-    field(b" first type ", first.kind as u64);
-    field(b" position ", first.position.0);
-    field(b" length ", first.length.0);
+    labelled(b" first type ", first.kind as u64);
+    labelled(b" position ", first.position.0);
+    labelled(b" length ", first.length.0);
     text(b"\n");
 }
 
@@ -42,9 +28,9 @@ fn both(label: &[u8], image: &[u8]) {
     let second = strict.verdict;
     text(label);
     text(b": ");
-    answer(first);
+    say(first);
     text(b", strict ");
-    answer(second);
+    say(second);
     fields(strict);
 }
 

@@ -16,10 +16,10 @@ use Rattle.json.specs.declared.JsonVerdict.{JsonVerdict}
 use Rattle.json.specs.declared.JsonVerdict.the-variants.{Text, Fault}
 use Rattle.json_machine.specs.Machine.{jsonVerdict}
 use Rattle.json_laws.proofs.Laws.{accepted-exactly-when}
-use Rattle.eif.specs.Numbers.{metadata}
+use Rattle.eif.specs.Numbers.{metadata, metadataVersion}
 use Rattle.octets.specs.Logic.{both, choose}
 use Rattle.eif.specs.Answers.{andThen}
-use Rattle.eif.specs.Layout.{viewOf, countOf}
+use Rattle.eif.specs.Layout.{viewOf, countOf, versionOf}
 use Rattle.eif.specs.Reading.{verdictOf, sectionAt, dataOf, readingOf, readView, readImage}
 use Rattle.eif.specs.Acceptance.{MeetsRules}
 use Rattle.eif.specs.Order.{firstThatApplies, imageRules}
@@ -156,6 +156,20 @@ module _ (s : List ℕ) where
 pub strict-same : (s : List ℕ) → strictVerdict s ≡ verdictOf s → readStrict s ≡ readImage s
 unfolding readStrict readView
 strict-same s e = ap (readingOf (viewOf s)) e
+
+-- no accepted image of another version than 4 has metadata, so both readings of it are the same; of a refused one they are the same too
+pub no-metadata-same : (s : List ℕ) → (versionOf s ≡ metadataVersion → ⊥) → readStrict s ≡ readImage s
+no-metadata-same s other = ⊎-elim (λ e. strict-same s e) (λ f. absurd (none f)) (same-or-21 s)
+  where
+    none : Refused21 s → ⊥
+    none f =
+        let m = acceptance.accepted-exactly-when s .0 (f .ordinary) in
+        let k = f .is-metadata in
+        let v = m .known-version .1 in
+        ⊎-elim
+        (λ a. let b = a .1 in omega arith)
+        (λ a. ⊎-elim (λ b. let c = b .0 in omega arith) (λ b. let c = b .1 in other (omega arith)) a)
+        (m .types-allowed (f .index) (f .is-section))
 
 -- ---- the refusal is the first that applies
 

@@ -18,7 +18,7 @@ use Rattle.eif.specs.declared.Section.{Section}
 use Rattle.eif.specs.declared.Verdict.{Verdict}
 use Rattle.eif.specs.declared.Verdict.the-variants.{Accepted, Refused}
 use Rattle.eif_lemmas.proofs.Accept.{passes}
-use Rattle.eif_lemmas.proofs.Reading.{verdict-is, told-accepted, reading-is}
+use Rattle.eif_lemmas.proofs.Reading.{verdict-is, told-accepted, reading-is, count-is}
 use Rattle.eif_lemmas.proofs.Table.{filled-at}
 use Rattle.strict_reader.specs.Strict.{tellsText, notJson, refuseMetadata, metadataVerdict, strictVerdict, readStrict}
 
@@ -64,33 +64,27 @@ module _ (s : List ℕ) (r : Reading) (is : r ≡ readImage s) where
   strict-refused f e = let z : verdictOf s ≡ Refused f = sym (verdict-is s r is) ∙ e in is ∙ simp z
 
   module _ (ok : r .verdict ≡ Accepted) where
-    accepted : verdictOf s ≡ Accepted
-    accepted = told-accepted s r is ok
-
-    whole : r ≡ readingOf (viewOf s) Accepted
-    whole = reading-is s r is ok
-
-    count-is : r .count ≡ countOf s
-    count-is = ap (λ (x : Reading). x .count) whole
+    abbrev good : verdictOf s ≡ Accepted
+    good = told-accepted s r is ok
 
     pub count-small : r .count ≤ placeCount
-    count-small = let p = passes s accepted .head .few in let e = count-is in omega arith
+    count-small = let p = passes s good .head .few in let e = count-is s r is ok in omega arith
 
     place-is : (i : ℕ) → i < countOf s → sectionIn (r .sections) i ≡ sectionAt s i
     place-is i h =
-        ap (λ (x : Reading). sectionIn (x .sections) i) whole
-        ∙ filled-at (sectionAt s) blankSection blankSection placeCount (countOf s) i h (passes s accepted .head .few)
+        ap (λ (x : Reading). sectionIn (x .sections) i) (reading-is s r is ok)
+        ∙ filled-at (sectionAt s) blankSection blankSection placeCount (countOf s) i h (passes s good .head .few)
 
     -- the sections of the reading are judged as those of the file
     judged-is : metadataVerdict s (sectionIn (r .sections)) (r .count) 0 ≡ metadataVerdict s (sectionAt s) (countOf s) 0
     judged-is =
-        ap (λ (n : ℕ). metadataVerdict s (sectionIn (r .sections)) n 0) count-is
+        ap (λ (n : ℕ). metadataVerdict s (sectionIn (r .sections)) n 0) (count-is s r is ok)
         ∙ metadata-same s (sectionIn (r .sections)) (sectionAt s) (countOf s) 0 (λ j l. place-is j (omega arith))
 
     module _ (v : Verdict) (j : v ≡ metadataVerdict s (sectionIn (r .sections)) (r .count) 0) where
       strict-is : strictVerdict s ≡ v
       unfolding strictVerdict
-      strict-is = rw accepted (sym judged-is ∙ sym j)
+      strict-is = rw good (sym judged-is ∙ sym j)
 
       pub strict-blank : (f : Refusal) → v ≡ Refused f → blankReading v ≡ readStrict s
       unfolding readStrict
@@ -98,4 +92,4 @@ module _ (s : List ℕ) (r : Reading) (is : r ≡ readImage s) where
 
       pub strict-whole : v ≡ Accepted → r ≡ readStrict s
       unfolding readStrict
-      strict-whole e = let z : strictVerdict s ≡ Accepted = strict-is ∙ e in whole ∙ sym (ap (readingOf (viewOf s)) z)
+      strict-whole e = let z : strictVerdict s ≡ Accepted = strict-is ∙ e in reading-is s r is ok ∙ sym (ap (readingOf (viewOf s)) z)

@@ -3,16 +3,15 @@
 use Prim.Native.Nat.{ℕ, _<_, _≤_}
 use mathlib.Core.Path.{_≡_, ap, _∙_}
 use mathlib.Core.List.{List}
-use native.Mathlib.Omega.{arith}
-use lib.ListN.{length, take, getD, length-take}
-use lib.Seq.{getD-take}
+use lib.ListN.{length, take, getD}
+use lib.Seq.{getD-take, length-take-le}
 use Rattle.eif.specs.Rules.{orderFault, bootMissing, missing}
 use Rattle.eif_lemmas.proofs.Types.{order-same, boot-missing-same, missing-same}
 use Rattle.type_judge.specs.Kinds.{listedKind}
 
 module _ (l : List ℕ) (f : ℕ → ℕ) (n : ℕ) (fits : n ≤ length l) (same : (j : ℕ) → j < n → getD l j 0 ≡ f j) where
   part-length : length (take n l) ≡ n
-  part-length = simp length-take (omega arith)
+  part-length = length-take-le n l fits
 
   part-at : (j : ℕ) → j < n → listedKind (take n l) j ≡ f j
   part-at j h = rw getD-take (same j h)

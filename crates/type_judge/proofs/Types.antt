@@ -16,13 +16,13 @@ module _ (kinds : ℕ → ℕ) (kind n : ℕ) where
   unfolding orderFault
   before-kernel h e = simp (eq-eqb _ _ h, e)
 
-  pub repeated : (kind ≡ ramdisk → ⊥) → seen kinds kind n ≡ true → typeRepeated ≡ orderFault kinds kind n
+  pub second-of-type : (kind ≡ ramdisk → ⊥) → seen kinds kind n ≡ true → typeRepeated ≡ orderFault kinds kind n
   unfolding orderFault
-  repeated h e = simp (ne-eqb _ _ h, e)
+  second-of-type h e = simp (ne-eqb _ _ h, e)
 
-  pub not-repeated : (kind ≡ ramdisk → ⊥) → seen kinds kind n ≡ false → 0 ≡ orderFault kinds kind n
+  pub first-of-type : (kind ≡ ramdisk → ⊥) → seen kinds kind n ≡ false → 0 ≡ orderFault kinds kind n
   unfolding orderFault
-  not-repeated h e = simp (ne-eqb _ _ h, e)
+  first-of-type h e = simp (ne-eqb _ _ h, e)
 
 module _ (kinds : ℕ → ℕ) (n : ℕ) where
   pub no-kernel : seen kinds kernel n ≡ false → true ≡ bootMissing kinds n

@@ -1,28 +1,19 @@
 // Runs cases of writing an image, one line each: what was asked for, and the writer's answer. Output buffers are
 // filled with a pattern first, so that a byte that should stay is seen to stay.
 use case_images::Shape;
+use case_images::WORKED_SIZE;
+use case_lines::labelled;
+use case_lines::say;
+use case_lines::text;
+use eif::Header;
 use eif::Plan;
+use eif::SectionHeader;
 use eif::Verdict;
 
 const LIMIT: u64 = eif::SIZE_LIMIT as u64;
 
 // The data that an image of three sections has where it is as long as the limit.
-const LONGEST: u64 = LIMIT - 548 - 3 * 12;
-
-fn text(bytes: &[u8]) {
-    io::write_all(libc::STDOUT_FILENO, bytes);
-}
-
-fn number(n: u64) {
-    io::print_decimal(libc::STDOUT_FILENO, n);
-}
-
-fn answer(verdict: Verdict) {
-    let said = case_lines::answer(verdict);
-    let bytes = said.bytes;
-    let length = said.length;
-    text(&bytes[..length]);
-}
+const LONGEST: u64 = LIMIT - Header::SIZE as u64 - 3 * SectionHeader::SIZE as u64;
 
 // ---- plans
 
@@ -52,10 +43,9 @@ fn attempt(label: &[u8], asked: Plan, lent: &[u8], out: &mut [u8]) {
     text(b": ");
     match verdict {
         Verdict::Accepted => {
-            text(b"wrote ");
-            number(written.length);
+            labelled(b"wrote ", written.length);
         }
-        Verdict::Refused(_) => answer(verdict),
+        Verdict::Refused(_) => say(verdict),
     }
 }
 
@@ -94,9 +84,9 @@ fn lengths(label: &[u8], count: u16, a: u64, b: u64, c: u64) {
 
 // Built by case_images, without the writer.
 fn exact_buffer() {
-    let mut image = [0u8; 586];
+    let mut image = [0u8; WORKED_SIZE];
     case_images::put_image(&mut image, Shape::WORKED, b"Ka");
-    let mut out = [0xeeu8; 586];
+    let mut out = [0xeeu8; WORKED_SIZE];
     attempt(
         b"the worked example",
         case_images::worked_plan(),
@@ -117,19 +107,16 @@ fn read_back(image: &[u8]) {
     let sections = reading.sections;
     let second = sections[1];
     text(b"read back: ");
-    answer(verdict);
-    text(b", version ");
-    number(reading.version as u64);
-    text(b", sections ");
-    number(reading.count as u64);
-    text(b", second's data at ");
-    number(second.position.0);
+    say(verdict);
+    labelled(b", version ", reading.version as u64);
+    labelled(b", sections ", reading.count as u64);
+    labelled(b", second's data at ", second.position.0);
     text(b"\n");
 }
 
 fn short_buffer() {
-    let before = [0xeeu8; 585];
-    let mut out = [0xeeu8; 585];
+    let before = [0xeeu8; WORKED_SIZE - 1];
+    let mut out = [0xeeu8; WORKED_SIZE - 1];
     attempt(
         b"a buffer of 585",
         case_images::worked_plan(),
@@ -140,7 +127,7 @@ fn short_buffer() {
 }
 
 fn long_buffer() {
-    let mut out = [0xeeu8; 590];
+    let mut out = [0xeeu8; WORKED_SIZE + 4];
     attempt(
         b"a buffer of 590",
         case_images::worked_plan(),
@@ -151,9 +138,9 @@ fn long_buffer() {
 }
 
 fn tail(out: &[u8]) {
-    if 586 <= out.len() {
+    if WORKED_SIZE <= out.len() {
         tell(
-            check::same(&out[586..], b"\xee\xee\xee\xee"),
+            check::same(&out[WORKED_SIZE..], b"\xee\xee\xee\xee"),
             b", tail kept\n",
             b", TAIL CHANGED\n",
         );

@@ -50,6 +50,14 @@ pub fn numbers(bytes: &[u8]) -> Item {
     Item::Array(bytes.iter().map(|&b| Item::Unsigned(b.into())).collect())
 }
 
+/// One map of a signature section.
+pub fn signature_entry(certificate: Item, signature: Item) -> Item {
+    Item::Map(vec![
+        (Item::Text("signing_certificate"), certificate),
+        (Item::Text("signature"), signature),
+    ])
+}
+
 /// The bytes of an item, every head the shortest.
 pub fn encode(item: &Item) -> Vec<u8> {
     encode_with(item, &|_| Head::Shortest)

@@ -6,8 +6,8 @@ use eif_cases::{put, Layout, Section, CHECKSUM_AT, HEADER, SHORTEST};
 use eif_check::{parts, Rng};
 use eif_twin::Crc32;
 
-/// The lengths from which the code of `crates/crc32` takes another way: the window of bytes, the ring of words,
-/// two parts.
+/// The lengths from which the code of `crates/crc32_fold` takes another way: the window of bytes, the ring of
+/// words, two parts.
 const LONG: usize = 640;
 const LONGER: usize = 1 << 18;
 const PARTED: usize = 1 << 24;

@@ -1,5 +1,5 @@
 //! Each answer number at a first, an inner and a last index, as far as it can occur there, with its position,
-//! through every call that hands it on.
+//! through the calls that hand it on.
 
 use eif::raw;
 use eif::{Arriving, DataLength, Place, Plan, Refusal, SectionType, Stream, StreamPosition};

@@ -1,8 +1,8 @@
 //! A transfer that is kept in files, so that it can be stopped at any time and taken up again.
 //!
 //! Of a transfer to FILE, FILE.part has the image's bytes, and FILE.marks the open record and a mark for each piece.
-//! A transfer is open exactly while FILE.marks is there. A mark is written when the bytes that it vouches for are on
-//! the disk, and the image gets its name before FILE.marks goes.
+//! A transfer is open exactly while FILE.marks is there. A mark is written only when its bytes are on the
+//! disk, and the image gets its name before FILE.marks goes.
 
 use crate::disk::{Disk, Part};
 use crate::status::Trouble;

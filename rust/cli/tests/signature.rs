@@ -5,7 +5,7 @@ mod common;
 use common::json::{parse, Value};
 use common::signing::{certificate, has_openssl, is_genuine, sign};
 use common::{repository, Folder};
-use eif_cases::cbor::{encode, numbers, Item};
+use eif_cases::cbor::{encode, numbers, signature_entry as entry, Item};
 use eif_cases::{
     hex, sign1_example, worked_image, Layout, Section, Sign1Parts, HEADER, SECTION_HEADER,
     SIGN1_ALGORITHMS,
@@ -30,14 +30,6 @@ const DATA_AT: usize = HEADER + 5 * SECTION_HEADER + 10 + 5 + 9 + 9;
 /// The registers of such an image.
 fn registers() -> [[u8; 48]; 3] {
     eif::registers(&image(&[])).unwrap().0.map(|r| r.0)
-}
-
-/// One map of a signature section.
-fn entry(certificate: Item, signature: Item) -> Item {
-    Item::Map(vec![
-        (Item::Text("signing_certificate"), certificate),
-        (Item::Text("signature"), signature),
-    ])
 }
 
 /// A signature section as the published builder writes it, with certificates of three bytes.

@@ -329,18 +329,24 @@ fn the_man_page_is_well_formed() {
     );
 }
 
-/// No file of the product speaks of papers that are not in it.
+/// The documents in a folder of the repository.
+fn documents(folder: &str) -> Vec<String> {
+    let entries = std::fs::read_dir(common::repository(folder)).expect(folder);
+    let names = entries.map(|entry| entry.expect(folder).file_name());
+    let names = names.filter_map(|name| name.into_string().ok());
+    let names = names.filter(|name| name.ends_with(".md") || name.ends_with(".1"));
+    names.map(|name| format!("{folder}/{name}")).collect()
+}
+
+/// No document speaks of papers that are not in the repository, nor does the header.
 #[test]
 fn rules_are_cited_from_format() {
-    let files = [
-        "include/eif.h",
-        "README.md",
-        "docs/MANUAL.md",
-        "docs/eif.1",
-        "rust/README.md",
-    ];
+    let folders = [".", "rust", "docs", "docs/changes"];
+    let mut files: Vec<String> = folders.into_iter().flat_map(documents).collect();
+    assert!(files.len() > 20, "{files:?}");
+    files.push("include/eif.h".to_string());
     for name in files {
-        let text = repository_text(name).to_lowercase();
+        let text = repository_text(&name).to_lowercase().replace('\n', " ");
         for phrase in ["document 01", "the paper"] {
             assert!(!text.contains(phrase), "{name}: {phrase}");
         }

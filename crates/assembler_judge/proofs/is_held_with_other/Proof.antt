@@ -1,5 +1,4 @@
 -- `assembler_judge::is_held_with_other` meets its contract: a held piece is compared with the bytes that stand in its place. Assumes nothing.
-use Prim.Native.Nat.{ℕ, _+_}
 use mathlib.Core.Path.{sym, ap, _∙_}
 use native.Mathlib.Omega.{arith}
 use borrow.Author.Needs.{needs}
@@ -7,15 +6,11 @@ use borrow.Author.Tests.{not-true, not-false}
 use borrow.Rule.Slice.PartAt.{part-to-end}
 use denote.Ref.{now}
 use lib.ListN.{length}
-use Rattle.eif.specs.Roll.{recordHeadSize}
-use Rattle.assembler.specs.Records.{numberSize}
+use Rattle.octets.proofs.Same.{is-same}
+use Rattle.assembler.specs.Records.{dataAt}
 use Rattle.assembler.proofs.Piece.{not-held, held-other}
 use Rattle.assembler_judge.proofs.is_held_with_other.Statement.{statement}
 use Rattle.assembler_judge.proofs.is_held_with_other.Tie as tie
-
--- where a piece's data stand
-abbrev dataAt : ℕ
-dataAt = recordHeadSize + numberSize
 
 returns : tie.Need-returns
 returns c =
@@ -33,7 +28,8 @@ returns-2 c =
     let l = c .before .before .before in
     let h = l .before .before .is-held .ensures in
     held-other (now (a .sent)) (now (a .marks)) (now (a .image)) (l .le64 .result) (l .le64 .ensures) _ (part-to-end (now (a .sent)) dataAt)
-    (sym h ∙ not-false _ (l .before .if1 .left)) (c .is-same .result) (c .is-same .ensures)
+    (sym h ∙ not-false _ (l .before .if1 .left)) (c .same .result)
+    (is-same (c .same .result) _ _ (c .same .ensures .0) (c .same .ensures .1))
 
 pub is-held-with-other-spec : {M : Type 1} → statement M
 is-held-with-other-spec =

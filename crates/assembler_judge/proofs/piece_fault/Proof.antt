@@ -9,8 +9,7 @@ use denote.Ref.{now}
 use lib.ListN.{length, length-drop}
 use Rattle.eif.specs.Numbers.{bufferTooShort, pieceDiffers}
 use Rattle.octets.specs.Logic.{choose}
-use Rattle.eif.specs.Roll.{recordHeadSize}
-use Rattle.assembler.specs.Records.{numberSize, numberIn, dataIn, offGrid, placeIn}
+use Rattle.assembler.specs.Records.{dataAt, numberIn, dataIn, offGrid, placeIn}
 use Rattle.assembler.specs.Rules.{shortFor, heldWithOther}
 use Rattle.assembler.specs.ByKind.{pieceFault}
 use Rattle.assembler.specs.declared.State.{State}
@@ -36,7 +35,7 @@ module _ (c : tie.After-off-grid) where
   grid =
       sym
       (c .off-grid .ensures
-      ∙ ap₂ (λ (n m : ℕ). offGrid (st .length) n m) (c .before .le64 .ensures) (sym (length-drop (recordHeadSize + numberSize) r)))
+      ∙ ap₂ (λ (n m : ℕ). offGrid (st .length) n m) (c .before .le64 .ensures) (sym (length-drop dataAt r)))
 
 -- a piece of the open image
 module _ (c : tie.Else1) where

@@ -1,5 +1,5 @@
 -- `assembler_step::take_piece` meets its contract: a held piece changes nothing, another writes its bytes and its mark. Assumes nothing.
-use Prim.Native.Nat.{ℕ, _+_, _/_}
+use Prim.Native.Nat.{ℕ, _/_}
 use mathlib.Core.Path.{ap, ap₂, _∙_}
 use mathlib.Core.List.{List}
 use native.Mathlib.Omega.{arith}
@@ -8,8 +8,7 @@ use borrow.Rule.Slice.PartAt.{part-to-end}
 use denote.Ref.{now}
 use lib.ListN.{set}
 use Rattle.octets.specs.Over.{over}
-use Rattle.eif.specs.Roll.{recordHeadSize}
-use Rattle.assembler.specs.Records.{pieceSize, numberSize}
+use Rattle.assembler.specs.Records.{dataAt, pieceSize}
 use Rattle.assembler.proofs.Piece.{held-yes, held-no, piece-kept, piece-put}
 use Rattle.assembler_step.proofs.take_piece.Statement.{statement}
 use Rattle.assembler_step.proofs.take_piece.Tie as tie
@@ -27,7 +26,7 @@ returns-2 c =
     let l = q .before .before .le64 in
     let p = piece-put (now (a .sent)) (now (a .marks)) (now (a .image)) (held-no (now (a .sent)) (now (a .marks)) (l .result) (l .ensures) (omega arith)) in (
       c .before .before .copy .ensures
-          ∙ ap₂ (λ (n : ℕ) (b : List ℕ). over (now (a .image)) n b) (l .ensures) (part-to-end (now (a .sent)) (recordHeadSize + numberSize)) ∙ p .0,
+          ∙ ap₂ (λ (n : ℕ) (b : List ℕ). over (now (a .image)) n b) (l .ensures) (part-to-end (now (a .sent)) dataAt) ∙ p .0,
       ap (λ (n : ℕ). set (now (a .marks)) (n / pieceSize) 1) (l .ensures) ∙ p .1,
     )
 

@@ -2,14 +2,15 @@
 use Prim.Native.Nat.{_-_, _≤_}
 use native.Mathlib.Omega.{arith}
 use borrow.Author.Needs.{needs}
+use Rattle.burst_cases.specs.Sizes.{stretchCount}
 use Rattle.burst_cases.proofs.count_slips.Statement.{statement}
 use Rattle.burst_cases.proofs.count_slips.Tie as tie
 
 abbrev Inv-loop : tie.InvT-loop
-Inv-loop a b c d n₀ k₀ n k = (n ≤ k) × (k ≤ 582)
+Inv-loop a b c d n₀ k₀ n k = (n ≤ k) × (k ≤ stretchCount)
 
 abbrev μ-loop : tie.MeasureT-loop
-μ-loop a b c d n₀ k₀ n k = 582 - k
+μ-loop a b c d n₀ k₀ n k = stretchCount - k
 
 pub count-slips-spec : {M : Type 1} → statement M
 count-slips-spec =

@@ -2,14 +2,15 @@
 use Prim.Native.Nat.{_-_, _≤_}
 use native.Mathlib.Omega.{arith}
 use borrow.Author.Needs.{needs}
+use Rattle.burst_cases.specs.Sizes.{damagedSize}
 use Rattle.burst_cases.proofs.differences.Statement.{statement}
 use Rattle.burst_cases.proofs.differences.Tie as tie
 
 abbrev Inv-loop : tie.InvT-loop
-Inv-loop one other i₀ i = i ≤ 589
+Inv-loop one other i₀ i = i ≤ damagedSize
 
 abbrev μ-loop : tie.MeasureT-loop
-μ-loop one other i₀ i = 589 - i
+μ-loop one other i₀ i = damagedSize - i
 
 pub differences-spec : {M : Type 1} → statement M
 differences-spec =

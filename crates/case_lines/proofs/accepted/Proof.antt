@@ -3,7 +3,7 @@ use mathlib.Core.Path.{refl}
 use native.Mathlib.Omega.{arith}
 use borrow.Author.Needs.{needs}
 use Rattle.case_lines.specs.Answers.{acceptedWord}
-use Rattle.eif_lines.proofs.Parts.{filled, filled-counts}
+use Rattle.eif_lines.proofs.Parts.{text-filled, text-counts}
 use Rattle.case_lines.proofs.accepted.Statement.{statement}
 use Rattle.case_lines.proofs.accepted.Tie as tie
 
@@ -11,7 +11,7 @@ returns : tie.Need-returns
 returns c =
     let p = c .before .copy .ensures in
     let e = c .before .before .before .before .empty .ensures in
-    (filled _ acceptedWord _ 8 e p refl (omega arith), filled-counts _ acceptedWord _ 8 e p refl (omega arith))
+    (text-filled _ acceptedWord _ 8 e p refl (omega arith), text-counts _ acceptedWord _ 8 e p refl (omega arith))
 
 pub accepted-spec : {M : Type 1} → statement M
 accepted-spec =

@@ -12,7 +12,8 @@ use native.Mathlib.Nat.{zero-add}
 use Rattle.cose.specs.Cbor.{byteString, headBytes, stringBytes}
 use Rattle.cose.specs.Sign1.{payloadBytes}
 use Rattle.cose_lemmas.proofs.Head.{head-two}
-use Rattle.cose_lemmas.proofs.Parts.{opening, sign-parts}
+use Rattle.cose_lemmas.specs.Opening.{opening}
+use Rattle.cose_lemmas.proofs.Parts.{sign-parts}
 use Rattle.cose_writer.proofs.put_sign1.Statement.{statement}
 use Rattle.cose_writer.proofs.put_sign1.Tie as tie
 

@@ -8,7 +8,8 @@ use borrow.Author.Needs.{needs}
 use denote.Ref.{now}
 use lib.ListN.{length}
 use Rattle.eif.specs.declared.Verdict.the-variants.{Accepted}
-use Rattle.eif.specs.Plan.{writtenFor}
+use Rattle.eif.specs.Output.{writtenFor}
+use Rattle.cose.specs.Cbor.{inOneByte, oneByteLimit}
 use Rattle.cose.specs.Sign1.{signatureSize, signatureFits, sign1Bytes}
 use Rattle.cose.specs.declared.Claim.{Claim}
 use Rattle.cose_lemmas.proofs.Parts.{size-bounds, sign-size}
@@ -50,7 +51,7 @@ module _ (c : tie.After-payload-size) where
   fit : signatureFits (claim .algorithm) (length s) ≡ true
   fit = fitting-yes (claim .algorithm) (length s) known sized
 
-  large : (24 ≤ length s) × (length s < 256)
+  large : (inOneByte ≤ length s) × (length s < oneByteLimit)
   large = let l = size-bounds (claim .algorithm) known in let e = sized in (omega arith, omega arith)
 
   total : c .before .opening-size .result + 2 + c .payload-size .result + 2 + c .before .before .before .before .signature-size .result

@@ -5,7 +5,7 @@ use mathlib.Core.Path.{_≡_, sym, ap, ap₂, _∙_}
 use lib.Bits.{bitXor, xor-zero-l, xor-zero-r}
 use lib.Dec.{lit<}
 use Rattle.crc32_lemmas.specs.Sizes.{ringBytes}
-use Rattle.crc32_lemmas.specs.Fold.{down, sparse, sparser, spread, left, mix, ring, pastWord, ringSize}
+use Rattle.crc32_lemmas.specs.Fold.{down, sparse, sparser, spread, remainderFrom, mix, ring, pastWord, ringSize}
 use Rattle.crc32_fold.specs.Carried.{carried}
 use Rattle.crc32_fold.proofs.Carried.{bits-turn-under, carried-none}
 use Rattle.crc32_lemmas.proofs.FoldWords.{mix-from, down-on}
@@ -16,7 +16,7 @@ use Rattle.crc32_fold.proofs.empty_ring.Statement.{statement}
 use Rattle.crc32_fold.proofs.empty_ring.Tie as tie
 
 abbrev Inv-loop : tie.InvT-loop
-Inv-loop s at v n₀ j₀ n j = (j ≤ ringSize) × (j % 2 ≡ 0) × (left s (at + j * 4) (bitXor (carried n) (down (32 * j) (mix sparser 32 (ring v 0)))) ≡ left s at (mix sparser 32 (ring v 0))) × (n .a < 2 ^ 64)
+Inv-loop s at v n₀ j₀ n j = (j ≤ ringSize) × (j % 2 ≡ 0) × (remainderFrom s (at + j * 4) (bitXor (carried n) (down (32 * j) (mix sparser 32 (ring v 0)))) ≡ remainderFrom s at (mix sparser 32 (ring v 0))) × (n .a < 2 ^ 64)
 
 abbrev μ-loop : tie.MeasureT-loop
 μ-loop s at v n₀ j₀ n j = ringSize - j
@@ -28,7 +28,7 @@ loop-holds c =
     let x = mix sparser 32 (ring (a .v .now) 0) in
     let e : a .at + 0 ≡ a .at = omega arith in
     let z : down 0 x ≡ x = omega arith in
-    (omega arith, omega arith, ap₂ (left (a .s .now)) e (ap₂ bitXor carried-none z ∙ xor-zero-l x), lit< tt)
+    (omega arith, omega arith, ap₂ (remainderFrom (a .s .now)) e (ap₂ bitXor carried-none z ∙ xor-zero-l x), lit< tt)
 
 loop-again : tie.Need-loop-again Inv-loop μ-loop
 loop-again c =
@@ -44,7 +44,7 @@ loop-again c =
     ∙ ap (λ (z : ℕ). bitXor (down 64 (carried (l .n))) (spread sparse 1 pastWord (bitXor (l .n .a) (bitXor z (r .result))))) p in (
       omega arith,
       omega arith,
-      ap₂ (left (a .s .now)) e (ap₂ bitXor u (sym (down-on 32 2 y (l .j))))
+      ap₂ (remainderFrom (a .s .now)) e (ap₂ bitXor u (sym (down-on 32 2 y (l .j))))
           ∙ sym (bits-turn-under (l .n) (l .inv .3) (a .s .now) i (r .result) (omega arith, r .ensures .1, r .ensures .0) (omega arith) (down (32 * l .j) y))
           ∙ l .inv .2,
       omega arith,
@@ -58,7 +58,7 @@ returns c =
     let j : l .j ≡ ringSize = omega arith in
     let e : a .at + ringBytes ≡ a .at + l .j * 4 = omega arith in
     let z = ap (λ (n : ℕ). down (32 * n) y) j ∙ mix-past (a .v .now) (c .before .before .before .pre .1) in
-    (ap₂ (left (a .s .now)) e (sym (ap (bitXor (carried (l .n))) z ∙ xor-zero-r (carried (l .n)))) ∙ l .inv .2, l .inv .3)
+    (ap₂ (remainderFrom (a .s .now)) e (sym (ap (bitXor (carried (l .n))) z ∙ xor-zero-r (carried (l .n)))) ∙ l .inv .2, l .inv .3)
 
 pub empty-ring-spec : {M : Type 1} → statement M
 empty-ring-spec =

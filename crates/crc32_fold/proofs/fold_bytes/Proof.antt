@@ -5,16 +5,16 @@ use mathlib.Core.Path.{_≡_, refl, sym, ap, ap₂, _∙_}
 use lib.Bits.{bitXor, xor-lt}
 use lib.ListN.{getD, set}
 use Rattle.crc32_lemmas.specs.Sizes.{bufferSize}
-use Rattle.crc32_lemmas.specs.Fold.{left, sparse, mix, window, Words, windowSize}
+use Rattle.crc32_lemmas.specs.Fold.{remainderFrom, sparse, mix, window, Words, windowSize}
 use Rattle.crc32_lemmas.proofs.FoldWords.{bytes-turn, words-set}
-use Rattle.crc32_lemmas.proofs.Left.{le-step}
+use Rattle.crc32_lemmas.proofs.Remainder.{le-step}
 use borrow.Author.Needs.{needs}
 use native.Mathlib.Omega.{arith}
 use Rattle.crc32_fold.proofs.fold_bytes.Statement.{statement}
 use Rattle.crc32_fold.proofs.fold_bytes.Tie as tie
 
 abbrev Inv-loop : tie.InvT-loop
-Inv-loop s at n v₀ j₀ v j = (j ≤ n) × (left s (at + j) (mix sparse 8 (window v j)) ≡ left s at (mix sparse 8 (window v₀ 0))) × Words 8 bufferSize v
+Inv-loop s at n v₀ j₀ v j = (j ≤ n) × (remainderFrom s (at + j) (mix sparse 8 (window v j)) ≡ remainderFrom s at (mix sparse 8 (window v₀ 0))) × Words 8 bufferSize v
 
 abbrev μ-loop : tie.MeasureT-loop
 μ-loop s at n v₀ j₀ v j = n - j
@@ -23,7 +23,7 @@ loop-holds : tie.Need-loop-holds Inv-loop μ-loop
 loop-holds c =
     let a = c .before .args in
     let e : a .at + 0 ≡ a .at = omega arith in
-    (omega arith, ap (λ (i : ℕ). left (a .s .now) i (mix sparse 8 (window (a .v .now) 0))) e, c .before .pre .2)
+    (omega arith, ap (λ (i : ℕ). remainderFrom (a .s .now) i (mix sparse 8 (window (a .v .now) 0))) e, c .before .pre .2)
 
 loop-again : tie.Need-loop-again Inv-loop μ-loop
 loop-again c =
@@ -41,7 +41,7 @@ loop-again c =
     let e : a .at + (l .j + 1) ≡ i + 1 = omega arith in
     let o : q .result < 2 ^ 8 = omega arith in (
       omega arith,
-      ap₂ (λ (n x : ℕ). left s n (mix sparse 8 (window (set v (l .j + windowSize) (bitXor x w)) (l .j + 1)))) e (q .ensures)
+      ap₂ (λ (n x : ℕ). remainderFrom s n (mix sparse 8 (window (set v (l .j + windowSize) (bitXor x w)) (l .j + 1)))) e (q .ensures)
           ∙ sym (bytes-turn v (l .j) (h .1) (omega arith) s i w (omega arith, m, le-step s i (i + 1) (omega arith) refl) (omega arith))
           ∙ l .inv .1,
       words-set 8 bufferSize v (l .j + windowSize) (bitXor (q .result) w) (xor-lt 8 (q .result) w o m) h,
@@ -52,7 +52,7 @@ returns c =
     let l = c .before .loop in
     let a = c .before .before .before .args in
     let e : a .n ≡ l .j = omega arith in
-    (ap (λ (n : ℕ). left (a .s .now) (a .at + n) (mix sparse 8 (window (l .v) n))) e ∙ l .inv .1, l .inv .2)
+    (ap (λ (n : ℕ). remainderFrom (a .s .now) (a .at + n) (mix sparse 8 (window (l .v) n))) e ∙ l .inv .1, l .inv .2)
 
 pub fold-bytes-spec : {M : Type 1} → statement M
 fold-bytes-spec =

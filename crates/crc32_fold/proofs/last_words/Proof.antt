@@ -5,7 +5,7 @@ use mathlib.Core.Path.{_≡_, sym, ap, ap₂, _∙_}
 use lib.Bits.{bitXor, xor-zero-l, xor-zero-r}
 use borrow.Author.Needs.{needs}
 use native.Mathlib.Omega.{arith}
-use Rattle.crc32_lemmas.specs.Fold.{up, num, left}
+use Rattle.crc32_lemmas.specs.Fold.{up, num, remainderFrom}
 use Rattle.crc32_fold.specs.Carried.{carried}
 use Rattle.crc32_fold.proofs.last_words.Statement.{statement}
 use Rattle.crc32_fold.proofs.last_words.Tie as tie
@@ -25,11 +25,11 @@ returns c =
     let i3 : a .i + 24 ≡ a .i + 16 + 8 = omega arith in
     let i4 : a .i + 32 ≡ a .i + 24 + 8 = omega arith in
     let i5 : a .i + 40 ≡ a .i + 32 + 8 = omega arith in
-    ap₂ (left s) i5 (sym (xor-zero-r (c .take-in5 .result))) ∙ c .take-in5 .ensures 0
-    ∙ ap (λ (i : ℕ). left s i (bitXor (c .before .take-in4 .result) d)) i4 ∙ c .before .take-in4 .ensures d
-    ∙ ap (λ (i : ℕ). left s i (bitXor (c .before .before .take-in3 .result) e)) i3 ∙ c .before .before .take-in3 .ensures e
-    ∙ ap (λ (i : ℕ). left s i (bitXor (c .before .before .before .take-in2 .result) f)) i2 ∙ c .before .before .before .take-in2 .ensures f
-    ∙ c1 .take-in .ensures g ∙ ap (left s (a .i)) (xor-zero-l (bitXor (n .a) (up 64 g)))
+    ap₂ (remainderFrom s) i5 (sym (xor-zero-r (c .take-in5 .result))) ∙ c .take-in5 .ensures 0
+    ∙ ap (λ (i : ℕ). remainderFrom s i (bitXor (c .before .take-in4 .result) d)) i4 ∙ c .before .take-in4 .ensures d
+    ∙ ap (λ (i : ℕ). remainderFrom s i (bitXor (c .before .before .take-in3 .result) e)) i3 ∙ c .before .before .take-in3 .ensures e
+    ∙ ap (λ (i : ℕ). remainderFrom s i (bitXor (c .before .before .before .take-in2 .result) f)) i2 ∙ c .before .before .before .take-in2 .ensures f
+    ∙ c1 .take-in .ensures g ∙ ap (remainderFrom s (a .i)) (xor-zero-l (bitXor (n .a) (up 64 g)))
 
 pub last-words-spec : {M : Type 1} → statement M
 last-words-spec =

@@ -2,7 +2,7 @@
 -- Assumes nothing.
 use Prim.Native.Nat.{_+_}
 use mathlib.Core.Path.{refl}
-use Rattle.crc32_lemmas.proofs.Left.{le-step}
+use Rattle.crc32_lemmas.proofs.Remainder.{le-step}
 use borrow.Author.Needs.{needs}
 use native.Mathlib.Omega.{arith}
 use Rattle.crc32_fold.proofs.le16.Statement.{statement}

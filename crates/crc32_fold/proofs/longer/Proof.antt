@@ -5,17 +5,17 @@ use mathlib.Core.Path.{_≡_, ap, _∙_}
 use lib.ListN.{length, replicate}
 use Rattle.crc32_lemmas.specs.Sizes.{carrySize, ringBuffer, ringBytes}
 use Rattle.crc32.specs.Crc.{crcFrom}
-use Rattle.crc32_lemmas.specs.Fold.{left, sparser, mix, ring, Words, ringSize}
+use Rattle.crc32_lemmas.specs.Fold.{remainderFrom, sparser, mix, ring, Words, ringSize}
 use Rattle.crc32_lemmas.proofs.FoldWords.{words-cons, words-none}
 use Rattle.crc32_lemmas.proofs.FoldRing.{start-ring}
-use Rattle.crc32_lemmas.proofs.Left.{left-crc}
+use Rattle.crc32_lemmas.proofs.Remainder.{remainder-crc}
 use borrow.Author.Needs.{needs}
 use native.Mathlib.Omega.{arith}
 use Rattle.crc32_fold.proofs.longer.Statement.{statement}
 use Rattle.crc32_fold.proofs.longer.Tie as tie
 
 abbrev Inv-loop : tie.InvT-loop
-Inv-loop state s v₀ i₀ v i = (i + (ringBytes + carrySize) ≤ length s) × (left s i (mix sparser 32 (ring v 0)) ≡ crcFrom state s) × Words 32 ringBuffer v
+Inv-loop state s v₀ i₀ v i = (i + (ringBytes + carrySize) ≤ length s) × (remainderFrom s i (mix sparser 32 (ring v 0)) ≡ crcFrom state s) × Words 32 ringBuffer v
 
 abbrev μ-loop : tie.MeasureT-loop
 μ-loop state s v₀ i₀ v i = length s - i
@@ -26,7 +26,7 @@ loop-holds c =
     let x = b .args .state in
     let s = b .args .s .now in
     let l = b .fits .state .fits in
-    (search needs, ap (left s 0) (start-ring x l) ∙ left-crc s x (λ k. c .shared-slice-known .given k .fits), words-cons 32 ringSize x (replicate ringSize 0) l (words-none 32 ringSize))
+    (search needs, ap (remainderFrom s 0) (start-ring x l) ∙ remainder-crc s x (λ k. c .shared-slice-known .given k .fits), words-cons 32 ringSize x (replicate ringSize 0) l (words-none 32 ringSize))
 
 turn-first-requires : tie.Need-turn-first-requires Inv-loop μ-loop
 turn-first-requires c κs = (omega arith, c .before .before .loop .inv .2)

@@ -3,7 +3,7 @@
 use Prim.Native.Nat.{_+_, _-_, _^_, _<_, _≤_}
 use mathlib.Core.Path.{_≡_, refl, sym, ap, _∙_}
 use lib.ListN.{length}
-use Rattle.crc32_lemmas.specs.Fold.{left}
+use Rattle.crc32_lemmas.specs.Fold.{remainderFrom}
 use Rattle.crc32_fold.specs.Carried.{carried}
 use Rattle.crc32_fold.proofs.Carried.{bits-turn}
 use borrow.Author.Needs.{needs}
@@ -12,7 +12,7 @@ use Rattle.crc32_fold.proofs.rest.Statement.{statement}
 use Rattle.crc32_fold.proofs.rest.Tie as tie
 
 abbrev Inv-loop : tie.InvT-loop
-Inv-loop s from n₀ i₀ n i = (i + 40 ≤ length s) × (left s i (carried n) ≡ left s from (carried n₀)) × (n .a < 2 ^ 64)
+Inv-loop s from n₀ i₀ n i = (i + 40 ≤ length s) × (remainderFrom s i (carried n) ≡ remainderFrom s from (carried n₀)) × (n .a < 2 ^ 64)
 
 abbrev μ-loop : tie.MeasureT-loop
 μ-loop s from n₀ i₀ n i = length s - i
@@ -26,7 +26,7 @@ loop-again c =
     let s = c .before .before .before .before .before .args .s .now in
     let r = c .before .le64 in (
       omega arith,
-      ap (left s (l .i + 8)) (c .fold-bits .ensures)
+      ap (remainderFrom s (l .i + 8)) (c .fold-bits .ensures)
           ∙ sym (bits-turn (l .n) (l .inv .2) s (l .i) (r .result) (omega arith, r .ensures .1, r .ensures .0) (omega arith))
           ∙ l .inv .1,
       omega arith,

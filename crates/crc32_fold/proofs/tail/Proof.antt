@@ -4,21 +4,21 @@ use Prim.Native.Nat.{ℕ, _+_, _-_, _*_, _≤_}
 use mathlib.Core.Path.{_≡_, refl, sym, ap, _∙_}
 use lib.ListN.{length, drop}
 use Rattle.octets.specs.Bytes.{leValue}
-use Rattle.crc32_lemmas.specs.Fold.{left}
-use Rattle.crc32_lemmas.proofs.Left.{left-next, left-end, le-step}
+use Rattle.crc32_lemmas.specs.Fold.{remainderFrom}
+use Rattle.crc32_lemmas.proofs.Remainder.{remainder-next, remainder-end, le-step}
 use borrow.Author.Needs.{needs}
 use native.Mathlib.Omega.{arith}
 use Rattle.crc32_fold.proofs.tail.Statement.{statement}
 use Rattle.crc32_fold.proofs.tail.Tie as tie
 
 abbrev Inv-loop : tie.InvT-loop
-Inv-loop state s from c₀ i₀ c i = (i ≤ length s) × (left s i c ≡ left s from state)
+Inv-loop state s from c₀ i₀ c i = (i ≤ length s) × (remainderFrom s i c ≡ remainderFrom s from state)
 
 abbrev μ-loop : tie.MeasureT-loop
 μ-loop state s from c₀ i₀ c i = length s - i
 
 abbrev Inv-loop2 : tie.InvT-loop2
-Inv-loop2 state s from c₀ i₀ c i = (i ≤ length s) × (left s i c ≡ left s from state)
+Inv-loop2 state s from c₀ i₀ c i = (i ≤ length s) × (remainderFrom s i c ≡ remainderFrom s from state)
 
 abbrev μ-loop2 : tie.MeasureT-loop2
 μ-loop2 state s from c₀ i₀ c i = length s - i
@@ -28,7 +28,7 @@ loop-again c =
     let l = c .before .before .before .loop in
     let s = c .before .before .before .before .before .args .s .now in
     let r = c .before .le32 in
-    (omega arith, ap (left s (l .i + 4)) (c .steps32 .ensures) ∙ sym (left-next s (l .i) 4 (r .result) (l .c) (omega arith, r .ensures .1, r .ensures .0)) ∙ l .inv .1)
+    (omega arith, ap (remainderFrom s (l .i + 4)) (c .steps32 .ensures) ∙ sym (remainder-next s (l .i) 4 (r .result) (l .c) (omega arith, r .ensures .1, r .ensures .0)) ∙ l .inv .1)
 
 loop2-again : tie.Need-loop2-again Inv-loop μ-loop Inv-loop2 μ-loop2
 loop2-again c =
@@ -36,13 +36,13 @@ loop2-again c =
     let s = c .before .before .before .before .before .before .before .before .args .s .now in
     let r = c .before .wide8 in
     let e = le-step s (l .i) (l .i + 1) (omega arith) refl ∙ ap (λ (x : ℕ). x + 256 * leValue (drop (l .i + 1) s)) (sym (r .ensures .0)) in
-    (omega arith, ap (left s (l .i + 1)) (c .steps8 .ensures) ∙ sym (left-next s (l .i) 1 (r .result) (l .c) (omega arith, r .ensures .1, e)) ∙ l .inv .1)
+    (omega arith, ap (remainderFrom s (l .i + 1)) (c .steps8 .ensures) ∙ sym (remainder-next s (l .i) 1 (r .result) (l .c) (omega arith, r .ensures .1, e)) ∙ l .inv .1)
 
 returns : tie.Need-returns Inv-loop μ-loop Inv-loop2 μ-loop2
 returns c =
     let l = c .before .loop2 in
     let s = c .before .before .before .before .before .args .s .now in
-    sym (left-end s (l .i) (l .c) (omega arith)) ∙ l .inv .1
+    sym (remainder-end s (l .i) (l .c) (omega arith)) ∙ l .inv .1
 
 pub tail-spec : {M : Type 1} → statement M
 tail-spec =

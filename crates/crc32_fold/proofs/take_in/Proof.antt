@@ -5,8 +5,8 @@ use mathlib.Core.Path.{sym, ap, _∙_}
 use lib.Bits.{bitXor}
 use borrow.Author.Needs.{needs}
 use Rattle.crc32.specs.Crc.{shiftBits}
-use Rattle.crc32_lemmas.specs.Fold.{left}
-use Rattle.crc32_lemmas.proofs.Left.{left-more}
+use Rattle.crc32_lemmas.specs.Fold.{remainderFrom}
+use Rattle.crc32_lemmas.proofs.Remainder.{remainder-more}
 use Rattle.crc32_fold.proofs.take_in.Statement.{statement}
 use Rattle.crc32_fold.proofs.take_in.Tie as tie
 
@@ -16,8 +16,8 @@ returns c y =
     let s = a .s .now in
     let w = c .before .le64 in
     let e = c .steps64 .ensures ∙ ap (λ (x : ℕ). shiftBits 64 (bitXor x (bitXor (a .more) (w .result)))) (c .before .before .wide32 .ensures .0) in
-    ap (λ (x : ℕ). left s (a .i + 8) (bitXor x y)) e
-    ∙ sym (left-more s (a .i) (w .result) (a .state) (a .more) y (c .before .before .before .before .pre, w .ensures .1, w .ensures .0))
+    ap (λ (x : ℕ). remainderFrom s (a .i + 8) (bitXor x y)) e
+    ∙ sym (remainder-more s (a .i) (w .result) (a .state) (a .more) y (c .before .before .before .before .pre, w .ensures .1, w .ensures .0))
 
 pub take-in-spec : {M : Type 1} → statement M
 take-in-spec =

@@ -3,15 +3,15 @@
 use Prim.Native.Nat.{ℕ, _+_, _-_, _*_, _≤_}
 use mathlib.Core.Path.{_≡_, ap, ap₂, _∙_}
 use Rattle.crc32_lemmas.specs.Sizes.{highBack}
-use Rattle.crc32_lemmas.specs.Fold.{left, sparser, mix, ring}
+use Rattle.crc32_lemmas.specs.Fold.{remainderFrom, sparser, mix, ring}
 use borrow.Author.Needs.{needs}
 use native.Mathlib.Omega.{arith}
-use Rattle.crc32_fold.proofs.Round.{Turned, turned-next}
+use Rattle.crc32_fold.proofs.Round.{RoundKept, round-kept-next}
 use Rattle.crc32_fold.proofs.turn_first.Statement.{statement}
 use Rattle.crc32_fold.proofs.turn_first.Tie as tie
 
 abbrev Inv-loop : tie.InvT-loop
-Inv-loop s at v₀ j₀ v j = (0 ≤ j) × (j ≤ highBack) × Turned s at v₀ 0 at v j
+Inv-loop s at v₀ j₀ v j = (0 ≤ j) × (j ≤ highBack) × RoundKept s at v₀ 0 at v j
 
 abbrev μ-loop : tie.MeasureT-loop
 μ-loop s at v₀ j₀ v j = highBack - j
@@ -20,7 +20,7 @@ loop-holds : tie.Need-loop-holds Inv-loop μ-loop
 loop-holds c =
     let a = c .before .args in
     let e : a .at + 0 ≡ a .at = omega arith in
-    (omega arith, omega arith, (ap (λ (i : ℕ). left (a .s .now) i (mix sparser 32 (ring (a .v .now) 0))) e, c .before .pre .1))
+    (omega arith, omega arith, (ap (λ (i : ℕ). remainderFrom (a .s .now) i (mix sparser 32 (ring (a .v .now) 0))) e, c .before .pre .1))
 
 turn-requires : tie.Need-turn-requires Inv-loop μ-loop
 turn-requires c κs = (omega arith, omega arith, omega arith, omega arith, c .before .before .loop .inv .2 .1)
@@ -29,7 +29,7 @@ loop-again : tie.Need-loop-again Inv-loop μ-loop
 loop-again c =
     let l = c .before .before .before .loop in
     let a = c .before .before .before .before .before .args in
-    (omega arith, omega arith, turned-next (a .s .now) (a .at) (a .v .now) 0 (a .at) (l .v) (c .turn .last .1 .1 .1 .1 .1 .0) (l .j) (c .turn .ensures) (l .inv .2))
+    (omega arith, omega arith, round-kept-next (a .s .now) (a .at) (a .v .now) 0 (a .at) (l .v) (c .turn .last .1 .1 .1 .1 .1 .0) (l .j) (c .turn .ensures) (l .inv .2))
 
 returns : tie.Need-returns Inv-loop μ-loop
 returns c =
@@ -38,7 +38,7 @@ returns c =
     let at = c .before .before .before .args .at in
     let e : highBack ≡ l .j = omega arith in
     let i : at + 4 * highBack ≡ at + l .j * 4 = omega arith in
-    (ap₂ (λ (m n : ℕ). left s m (mix sparser 32 (ring (l .v) n))) i e ∙ l .inv .2 .0, l .inv .2 .1)
+    (ap₂ (λ (m n : ℕ). remainderFrom s m (mix sparser 32 (ring (l .v) n))) i e ∙ l .inv .2 .0, l .inv .2 .1)
 
 pub turn-first-spec : {M : Type 1} → statement M
 turn-first-spec =

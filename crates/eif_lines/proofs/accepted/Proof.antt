@@ -9,7 +9,7 @@ use lib.ListN.{length, take}
 use Rattle.octets.proofs.Over.{over-joined}
 use Rattle.eif.specs.Numbers.{placeCount}
 use Rattle.eif_lines.specs.Lines.{headLine, rowLines, acceptedLines}
-use Rattle.eif_lines.proofs.Parts.{ends, filled, filled-counts}
+use Rattle.eif_lines.proofs.Parts.{ends, text-filled, text-counts}
 use Rattle.eif_lines.proofs.accepted.Statement.{statement}
 use Rattle.eif_lines.proofs.accepted.Tie as tie
 
@@ -28,7 +28,7 @@ returns c =
     let begun = p .0 ∙ sym (zero-add (length h)) in
     let put = over-joined _ 0 h t (p .1 .1) (q .1 .1) (sym begun) in
     let ended = ends 0 h t begun (q .0) ∙ zero-add (length (h ++ t)) in
-    (filled _ (h ++ t) _ _ e put ended (omega arith), filled-counts _ (h ++ t) _ _ e put ended (omega arith))
+    (text-filled _ (h ++ t) _ _ e put ended (omega arith), text-counts _ (h ++ t) _ _ e put ended (omega arith))
 
 pub accepted-spec : {M : Type 1} → statement M
 accepted-spec =

@@ -8,7 +8,7 @@ use borrow.Author.Needs.{needs}
 use denote.Ref.{now}
 use lib.ListN.{length}
 use Rattle.octets.proofs.Over.{over-joined}
-use Rattle.eif_lines.specs.Lines.{eifWord, numberThen, blank, lineFeed, headLine}
+use Rattle.eif_lines.specs.Lines.{eifWord, numberThen, space, lineFeed, headLine}
 use Rattle.eif_lines.proofs.Parts.{ends}
 use Rattle.eif_lines.proofs.put_head.Statement.{statement}
 use Rattle.eif_lines.proofs.put_head.Tie as tie
@@ -21,7 +21,7 @@ returns c =
     let x = y .before .before .before .before .before in
     let a = x .before .before .before .before .args in
     let d = now (a .out) in
-    let v : List ℕ = numberThen (a .version) blank in
+    let v : List ℕ = numberThen (a .version) space in
     let n : List ℕ = numberThen (a .count) lineFeed in
     let p = y .put-number .ensures in
     let q = z .put-number2 .ensures in (

@@ -8,7 +8,7 @@ use denote.Ref.{now}
 use lib.ListN.{length}
 use Rattle.octets.specs.Over.{over}
 use Rattle.octets.proofs.Over.{over-joined}
-use Rattle.eif_lines.specs.Lines.{numberThen, blank, lineFeed, tableOffset, rowLine}
+use Rattle.eif_lines.specs.Lines.{numberThen, space, lineFeed, tableOffset, rowLine}
 use Rattle.eif_lines.proofs.Parts.{ends}
 use Rattle.eif_lines.proofs.put_row.Statement.{statement}
 use Rattle.eif_lines.proofs.put_row.Tie as tie
@@ -24,15 +24,15 @@ returns c =
     let a = o .before .before .args in
     let s = a .section in
     let d = now (a .out) in
-    let i : List ℕ = numberThen (a .index) blank in
-    let k : List ℕ = numberThen (s .kind) blank in
-    let f : List ℕ = numberThen (tableOffset s) blank in
+    let i : List ℕ = numberThen (a .index) space in
+    let k : List ℕ = numberThen (s .kind) space in
+    let f : List ℕ = numberThen (tableOffset s) space in
     let n : List ℕ = numberThen (s .length .0) lineFeed in
     let p = w .put-number .ensures in
     let q = x .put-number2 .ensures in
     let r = y .put-number3 .ensures in
     let t = z .put-number4 .ensures in
-    let e = ap (λ (m : ℕ). numberThen m blank) (o .table-offset .ensures) in
+    let e = ap (λ (m : ℕ). numberThen m space) (o .table-offset .ensures) in
     let size : y .put-number3 .result ≡ x .put-number2 .result + length f = r .0 ∙ ap (λ (l : List ℕ). x .put-number2 .result + length l) e in (
       ends (a .at) i (k ++ (f ++ n)) (p .0) (ends _ k (f ++ n) (q .0) (ends _ f n size (t .0))),
       (

@@ -11,15 +11,15 @@ use Rattle.octets.specs.Over.{over}
 use Rattle.octets.proofs.Over.{length-over}
 use Rattle.eif.specs.Numbers.{placeCount}
 use Rattle.eif_lines.specs.Lines.{rowLines, longestLine}
-use Rattle.eif_lines.proofs.Parts.{rowAt, rest, rest-none, rest-size, rest-over, rest-done}
+use Rattle.eif_lines.proofs.Parts.{rowAt, rowsFrom, rows-none, rows-size, rows-over, rows-done}
 use Rattle.eif_lines.proofs.put_rows.Statement.{statement}
 use Rattle.eif_lines.proofs.put_rows.Tie as tie
 
 abbrev Inv-loop : tie.InvT-loop
 Inv-loop out₀ from counted sections count at₀ i₀ out at i =
     (i ≤ count) × (at ≤ from + longestLine * i) × (length out ≡ length out₀)
-    × (at + length (rest sections count i) ≡ from + length (rest sections count 0))
-    × (over out at (rest sections count i) ≡ over out₀ from (rest sections count 0))
+    × (at + length (rowsFrom sections count i) ≡ from + length (rowsFrom sections count 0))
+    × (over out at (rowsFrom sections count i) ≡ over out₀ from (rowsFrom sections count 0))
 
 abbrev μ-loop : tie.MeasureT-loop
 μ-loop out₀ from counted sections count at₀ i₀ out at i = count - i
@@ -38,14 +38,14 @@ loop-again c =
     let count = m .lesser .result in
     let places = size s in
     let few = m .lesser .ensures in
-    let e = rest-size all count (l .i) (omega arith) (omega arith) in
+    let e = rows-size all count (l .i) (omega arith) (omega arith) in
     rw add-one (
       omega arith,
       omega arith,
       ap length (p .1 .1) ∙ length-over (l .out) (l .at) (rowAt all (l .i)) ∙ l .inv .2,
       omega arith,
-      ap₂ (λ (d : List ℕ) (n : ℕ). over d n (rest all count (suc (l .i)))) (p .1 .1) (p .0)
-          ∙ rest-over all count (l .i) (omega arith) (omega arith) (l .out) (l .at) ∙ l .inv .4,
+      ap₂ (λ (d : List ℕ) (n : ℕ). over d n (rowsFrom all count (suc (l .i)))) (p .1 .1) (p .0)
+          ∙ rows-over all count (l .i) (omega arith) (omega arith) (l .out) (l .at) ∙ l .inv .4,
     )
 
 returns : tie.Need-returns Inv-loop μ-loop
@@ -57,13 +57,13 @@ returns c =
     let count = m .lesser .result in
     let places = size s in
     let few = m .lesser .ensures in
-    let none = ap length (rest-none all count (l .i) (omega arith) (omega arith)) in
+    let none = ap length (rows-none all count (l .i) (omega arith) (omega arith)) in
     let whole = ap (λ (n : ℕ). rowLines 0 (take n all)) few in
     let n = ap length whole in (
       omega arith,
       (
         omega arith,
-        sym (rest-done all count (l .i) (omega arith) (omega arith) (l .out) (l .at)) ∙ l .inv .4
+        sym (rows-done all count (l .i) (omega arith) (omega arith) (l .out) (l .at)) ∙ l .inv .4
             ∙ ap (over (now (s .args .out)) (s .args .from)) whole,
       ),
     )

@@ -3,7 +3,7 @@ use native.Mathlib.Omega.{arith}
 use borrow.Author.Needs.{needs}
 use denote.Ref.{now}
 use Rattle.eif_lines.specs.Lines.{refusalThen}
-use Rattle.eif_lines.proofs.Parts.{filled, filled-counts}
+use Rattle.eif_lines.proofs.Parts.{text-filled, text-counts}
 use Rattle.eif_lines.proofs.refused.Statement.{statement}
 use Rattle.eif_lines.proofs.refused.Tie as tie
 
@@ -15,7 +15,7 @@ returns c =
     let p = y .put-refusal .ensures in
     let t = refusalThen (a .r) (now (a .text)) in
     let e = x .empty .ensures in
-    (filled _ t _ _ e (p .1 .1) (p .0) (omega arith), filled-counts _ t _ _ e (p .1 .1) (p .0) (omega arith))
+    (text-filled _ t _ _ e (p .1 .1) (p .0) (omega arith), text-counts _ t _ _ e (p .1 .1) (p .0) (omega arith))
 
 pub refused-spec : {M : Type 1} → statement M
 refused-spec =

@@ -7,7 +7,7 @@ use native.Mathlib.Omega.{arith}
 use native.Mathlib.Numerals.{add-one}
 use lib.ListN.{set}
 use Rattle.eif.specs.Numbers.{placeCount}
-use Rattle.eif.specs.Plan.{packedAt, offsetsOf}
+use Rattle.eif.specs.Plan.{packedAt, offsetsOf, plannedSize}
 use Rattle.eif_lemmas.proofs.Table.{filled-more}
 use Rattle.plain_laws.proofs.Shape.{packed-suc, packed-zero}
 use Rattle.eif_writer.proofs.Pieces.{ends-inside}
@@ -21,7 +21,7 @@ abbrev μ-loop : tie.MeasureT-loop
 μ-loop count places table₀ at₀ i₀ table at i = count - i
 
 loop-holds : tie.Need-loop-holds Inv-loop μ-loop
-loop-holds c = (omega arith, sym (packed-zero (c .args .t1)), refl)
+loop-holds c = (omega arith, sym (packed-zero (plannedSize (c .args .t1))), refl)
 
 add-at : tie.Need-add-at Inv-loop μ-loop
 add-at c =
@@ -37,7 +37,7 @@ loop-again : tie.Need-loop-again Inv-loop μ-loop
 loop-again c =
     let f = packedAt (c .before .before .args .t1) in
     let l = c .before .loop in
-    let e = packed-suc (c .before .before .args .t1) (l .i) in
+    let e = packed-suc (plannedSize (c .before .before .args .t1)) (l .i) in
     rw add-one (
       omega arith,
       omega arith,

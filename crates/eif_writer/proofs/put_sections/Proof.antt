@@ -31,7 +31,7 @@ abbrev μ-loop : tie.MeasureT-loop
 loop-holds : tie.Need-loop-holds Inv-loop μ-loop
 loop-holds c =
     let l = c .before .before .args .t2 in
-    (omega arith, sym (packed-zero l), sym (before-zero l), refl, rw sub-zero refl)
+    (omega arith, sym (packed-zero (plannedSize l)), sym (before-zero l), refl, rw sub-zero refl)
 
 -- where section i ends, and the data that it takes
 module _ (c : tie.In-loop Inv-loop μ-loop) where
@@ -63,7 +63,7 @@ loop-again c =
     let t = x .before .before .before in
     let v = t .before .loop in
     let o = x .put-section-header .last .0 in
-    let h = packed-suc (l t) (i t) in
+    let h = packed-suc (plannedSize (l t)) (i t) in
     let k = before-suc (l t) (i t) in
     let n : v .from + plannedSize (l t) (i t) - v .from ≡ plannedSize (l t) (i t) = omega arith in
     let e : y .copy .last .0 ≡ over o (v .at + sectionHeaderSize) (pieceAt (l t) (lent t) (i t)) =

@@ -2,7 +2,7 @@
 use borrow.Author.Needs.{needs}
 use Prim.Native.Nat.{ℕ, _+_, _*_, _<_}
 use mathlib.Core.List.{List}
-use Rattle.json_machine.specs.Machine.{entryOf, afterOf}
+use Rattle.json_machine.specs.Machine.{classCount, entryOf, afterOf}
 use mathlib.Core.Path.{_≡_, _∙_, ap}
 use native.Mathlib.Omega.{arith}
 use lib.ListN.{getD}
@@ -16,11 +16,11 @@ module _ (c : tie.After-wide2) where
   class-is : c .wide2 .result ≡ getD classes (c .before .before .wide .result) 0
   class-is = c .wide2 .ensures ∙ ap (λ (l : List ℕ). getD l (c .before .before .wide .result) 0) (c .before .before .before .pre .0)
 
-  class-small : c .wide2 .result < 40
+  class-small : c .wide2 .result < classCount
   class-small = omega (arith, class-is, class-below (c .before .before .wide .result))
 
 module _ (c : tie.After-wide3) where
-  first-is : getD (c .before .before .before .before .args .next .now) (c .wide3 .result * 40 + c .before .wide2 .result) 0
+  first-is : getD (c .before .before .before .before .args .next .now) (c .wide3 .result * classCount + c .before .wide2 .result) 0
       ≡ entryOf (c .before .before .before .before .args .mode) (c .before .before .before .before .args .b)
   first-is =
       let s = c .before .before .before .before in

@@ -21,7 +21,7 @@ abbrev μ-loop : tie.MeasureT-loop
 μ-loop count places limit head left₀ i₀ left i = count - i
 
 loop-holds : tie.Need-loop-holds Inv-loop μ-loop
-loop-holds c = let z = packed-zero (c .args .t1) in (omega arith, omega arith)
+loop-holds c = let z = packed-zero (plannedSize (c .args .t1)) in (omega arith, omega arith)
 
 -- a section after place i is too much
 module _ (c : tie.In-loop Inv-loop μ-loop) where
@@ -29,7 +29,7 @@ module _ (c : tie.In-loop Inv-loop μ-loop) where
   too-long h =
       let l = c .before .before .args .t1 in
       let i = c .before .loop .i in
-      let e = packed-suc l i in
+      let e = packed-suc (plannedSize l) i in
       let m = packed-le l (suc i) (c .before .before .args .count) (omega arith) in
       limited-over (packedAt l (c .before .before .args .count)) (omega arith)
 
@@ -41,7 +41,7 @@ returns-2 c = too-long (c .before .before) (omega arith)
 
 loop-again : tie.Need-loop-again Inv-loop μ-loop
 loop-again c =
-    let e = packed-suc (c .before .before .before .before .args .t1) (c .before .before .before .loop .i) in
+    let e = packed-suc (plannedSize (c .before .before .before .before .args .t1)) (c .before .before .before .loop .i) in
     rw add-one (omega arith, omega arith)
 
 returns-3 : tie.Need-returns-3 Inv-loop μ-loop

@@ -1,4 +1,4 @@
--- `roll_cases::put_heads` is safe and ends: its index grows up to 32, and no position passes 340.
+-- `roll_cases::put_heads` is safe and ends: its index grows up to the number of places, and with it the position.
 -- Assumes nothing.
 use Prim.Native.Nat.{_-_, _≤_}
 use mathlib.Core.Path.{_≡_, refl, ap, _∙_}
@@ -6,14 +6,15 @@ use native.Mathlib.Omega.{arith}
 use borrow.Author.Needs.{needs}
 use lib.ListN.{length}
 use Rattle.octets.proofs.Over.{length-over}
+use Rattle.eif.specs.Numbers.{placeCount}
 use Rattle.roll_cases.proofs.put_heads.Statement.{statement}
 use Rattle.roll_cases.proofs.put_heads.Tie as tie
 
 abbrev Inv-loop : tie.InvT-loop
-Inv-loop roll₀ i₀ roll i = (i ≤ 32) × (length roll ≡ length roll₀)
+Inv-loop roll₀ i₀ roll i = (i ≤ placeCount) × (length roll ≡ length roll₀)
 
 abbrev μ-loop : tie.MeasureT-loop
-μ-loop roll₀ i₀ roll i = 32 - i
+μ-loop roll₀ i₀ roll i = placeCount - i
 
 loop-again : tie.Need-loop-again Inv-loop μ-loop
 loop-again c =
@@ -26,7 +27,6 @@ put-heads-spec =
     Inv-loop
     μ-loop
     (λ c. (omega arith, refl))
-    (λ c. omega arith)
     (λ c. omega arith)
     (λ c. omega arith)
     (λ c. omega arith)

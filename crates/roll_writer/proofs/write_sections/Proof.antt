@@ -1,6 +1,6 @@
 -- `roll_writer::write_sections` meets its contract: by the roll's size it gives one of the two answers. Assumes nothing.
 use Prim.Native.Nat.{ℕ, _+_}
-use mathlib.Core.Path.{_≡_, ap, _∙_}
+use mathlib.Core.Path.{_≡_, refl, ap, _∙_}
 use mathlib.Core.List.{List}
 use native.Mathlib.Omega.{arith}
 use borrow.Author.Needs.{needs}
@@ -8,13 +8,14 @@ use denote.Ref.{now}
 use lib.ListN.{length}
 use Rattle.octets.specs.Over.{over}
 use Rattle.octets.proofs.Over.{length-over}
+use Rattle.eif.specs.Output.{writtenFor}
 use Rattle.eif.specs.Roll.{flagsRecordSize, flagsRecord}
 use Rattle.eif.specs.declared.Section.{Section}
 use Rattle.eif.specs.declared.Verdict.the-variants.{Accepted}
+use Rattle.eif_lemmas.proofs.Room.{wrote-short, wrote-fine}
 use Rattle.staged.specs.View.{heldBy}
-use Rattle.roll_writer.specs.Write.{rollFor, sizeFor, sectionsRoll}
+use Rattle.roll_writer.specs.Write.{rollFor, sizeFor, sectionsRoll, roomAnswer, roomOutput}
 use Rattle.roll_writer.proofs.Steps.{size-is, roll-is}
-use Rattle.roll_writer.proofs.Answers.{written, short, fine}
 use Rattle.roll_writer.proofs.write_sections.Statement.{statement}
 use Rattle.roll_writer.proofs.write_sections.Tie as tie
 
@@ -42,11 +43,12 @@ add-size c =
     omega arith
 
 returns : tie.Need-returns
+unfolding roomAnswer roomOutput
 returns c =
     let start = c .before .before .before .before .before .before in
     let q = c .before .before .roll-size in
     let n = size start (q .result) (q .ensures) in
-    rw (c .refuse .ensures) (short (roll start) (room start) (rw n at (c .before .if1 .taken)))
+    rw (c .refuse .ensures) (wrote-short Accepted (length (roll start)) (roll start) (room start) refl (rw n at (c .before .if1 .taken)))
 
 put-roll-requires : tie.Need-put-roll-requires
 put-roll-requires c κs =
@@ -57,12 +59,13 @@ put-roll-requires c κs =
     (start .pre .0, omega arith)
 
 returns-2 : tie.Need-returns-2
+unfolding roomAnswer roomOutput
 returns-2 c =
     let start = c .before .before .before .before .before .before .before .before .before .before .before .before .before in
     let q = c .before .before .before .before .before .before .before .before .before .roll-size in
     let n = size start (q .result) (q .ensures) in
-    let f = fine (roll start) (room start) (rw n at (c .before .before .before .before .before .before .before .before .if1 .left)) in (
-      ap (written Accepted) n ∙ f .0,
+    let f = wrote-fine Accepted (length (roll start)) (roll start) (room start) refl (rw n at (c .before .before .before .before .before .before .before .before .if1 .left)) in (
+      ap (writtenFor Accepted) n ∙ f .0,
       c .before .before .put-roll .ensures
           ∙ ap (λ (o : List ℕ). over o flagsRecordSize (rollFor (held start) (all start))) (c .before .before .before .before .before .before .put-flags .ensures)
           ∙ roll-is (held start) (start .args .flags) (all start) (room start) ∙ f .1,

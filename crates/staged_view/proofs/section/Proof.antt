@@ -10,7 +10,7 @@ use Rattle.eif.specs.Reading.{blankSection, dataOf}
 use Rattle.eif.specs.declared.Section.{Section}
 use Rattle.eif.specs.declared.Verdict.the-variants.{Accepted}
 use Rattle.staged.specs.Staged.{stagedVerdict}
-use Rattle.staged.proofs.Shown.{shown-refused, shown-replaced, listed-kept, in-places, start-refused, start-replaced, start-kept}
+use Rattle.staged.proofs.Shown.{shown-refused, shown-replaced, listed-kept, place-in, start-refused, start-replaced, start-kept}
 use Rattle.staged_view.proofs.View.{view-verdict, view-sections}
 use Rattle.staged_view.proofs.section.Statement.{statement}
 use Rattle.staged_view.proofs.section.Tie as tie
@@ -65,11 +65,11 @@ returns-2 c =
 mul-x : tie.Need-mul-x
 mul-x c =
     let e = c .before in
-    let h = in-places (base (w e)) (given (w e)) (k (w e)) (j (w e)) (accepted e) in
+    let h = place-in (base (w e)) (length (given (w e))) (k (w e)) (j (w e)) (accepted e) in
     omega arith
 
 array-copy-out-x : tie.Need-array-copy-out-x
-array-copy-out-x c = let e = c .before in in-places (base (w e)) (given (w e)) (k (w e)) (j (w e)) (accepted e)
+array-copy-out-x c = let e = c .before in place-in (base (w e)) (length (given (w e))) (k (w e)) (j (w e)) (accepted e)
 
 returns-3 : tie.Need-returns-3
 returns-3 c =

@@ -5,14 +5,15 @@ use mathlib.Core.Bool.{true, not}
 use borrow.Author.Needs.{needs}
 use borrow.Author.Tests.{not-true, not-false}
 use Rattle.eif.specs.Rules.{bootType}
-use Rattle.stream_reader.proofs.Kept.{kept-other, kept-whole, kept-boot, kept-app}
+use Rattle.eif_lemmas.proofs.Types.{not-kept}
+use Rattle.stream_reader.proofs.Kept.{kept-whole, kept-boot, kept-app}
 use Rattle.stream_reader.proofs.is_kept.Statement.{statement}
 use Rattle.stream_reader.proofs.is_kept.Tie as tie
 
 returns : tie.Need-returns
 returns c =
     let a = c .before .before .args in
-    kept-other (a .kind) (a .before) (a .stream) (sym (c .before .is-boot .ensures) ∙ not-true _ (c .if1 .taken))
+    sym (not-kept (a .stream) (a .kind) (a .before) (sym (c .before .is-boot .ensures) ∙ not-true _ (c .if1 .taken)))
 
 module _ (c : tie.After-is-later) where
   boot : bootType (c .before .before .before .args .kind) ≡ true

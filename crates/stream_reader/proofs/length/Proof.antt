@@ -9,8 +9,8 @@ use Rattle.eif.specs.Stream.{listedBytes}
 use Rattle.eif.specs.declared.StreamLength.{StreamLength}
 use Rattle.eif.specs.declared.StreamSections.{StreamSections}
 use Rattle.eif.specs.declared.Verdict.{Verdict}
-use Rattle.eif_lemmas.proofs.Reading.{verdict-is}
-use Rattle.stream_reader.proofs.Answers.{accepted, stream-is, stream-fits, length-refused, length-accepted}
+use Rattle.eif_lemmas.proofs.Reading.{verdict-is, told-accepted}
+use Rattle.stream_reader.proofs.Answers.{stream-is, stream-fits, length-refused, length-accepted}
 use Rattle.stream_reader.proofs.length.Statement.{statement}
 use Rattle.stream_reader.proofs.length.Tie as tie
 
@@ -34,7 +34,7 @@ returns-2 c =
     let t = c .before .before .before .enum-told .given .1 in
     let s = now (a .image) in
     let n = c .total .ensures ∙ ap (λ (l : StreamSections). length (listedBytes s l)) (c .before .sections .ensures) ∙ ap length (stream-is s (w .read .result) (w .read .ensures) t (a .stream)) in
-    ap₂ (λ (v : Verdict) (m : ℕ). answer v m) t n ∙ length-accepted s (a .stream) (accepted s (w .read .result) (w .read .ensures) t (a .stream))
+    ap₂ (λ (v : Verdict) (m : ℕ). answer v m) t n ∙ length-accepted s (a .stream) (told-accepted s (w .read .result) (w .read .ensures) t)
   where
     answer : Verdict → ℕ → StreamLength
     answer v m = record { verdict = v; length = record { 0 = m } }

@@ -8,19 +8,19 @@ use native.Mathlib.Omega.{arith}
 use borrow.Author.Needs.{needs}
 use lib.ListN.{length, getD, set, length-append}
 use lib.Seq.{take-all}
+use Rattle.eif.specs.Table.{inTable}
 use Rattle.eif.specs.Numbers.{placeCount}
-use Rattle.eif.specs.Reading.{blankSection}
-use Rattle.eif.specs.Stream.{keeps, kept, sectionKind, inTable, sectionsAnswer}
+use Rattle.eif.specs.Reading.{blankSection, ramdisksIn, sectionKind}
+use Rattle.eif.specs.Stream.{keeps, kept, sectionsAnswer}
 use Rattle.eif.specs.declared.Section.{Section}
 use Rattle.eif.specs.declared.StreamSections.{StreamSections}
-use Rattle.stream_laws.specs.Sums.{ramdisksIn}
 use Rattle.stream_reader.proofs.Kept.{keptSoFar, ramdisksOf, kept-more, kept-same, ramdisks-next, kept-few, table-next}
 use Rattle.stream_reader.proofs.sections.Statement.{statement}
 use Rattle.stream_reader.proofs.sections.Tie as tie
 
 abbrev Inv-loop : tie.InvT-loop
 Inv-loop stream all list₀ count₀ before₀ i₀ list count before i =
-    (i ≤ placeCount) × (count ≡ length (keptSoFar stream all i)) × (list ≡ inTable (keptSoFar stream all i)) × (before ≡ ramdisksOf stream all i) × (before ≤ i)
+    (i ≤ placeCount) × (count ≡ length (keptSoFar stream all i)) × (list ≡ inTable blankSection (keptSoFar stream all i)) × (before ≡ ramdisksOf stream all i) × (before ≤ i)
 
 abbrev μ-loop : tie.MeasureT-loop
 μ-loop stream all list₀ count₀ before₀ i₀ list count before i = placeCount - i
@@ -63,7 +63,7 @@ loop-again c =
     let f = kept-few stream all (l .i) (omega arith) in (
       omega arith,
       w .3 ∙ ap (λ (n : ℕ). n + 1) (l .inv .1) ∙ sym m ∙ ap length (sym e),
-      w .2 ∙ ap₂ (λ (t : List Section) (n : ℕ). set t n x) (l .inv .2) (w .1 .ensures) ∙ table-next (keptSoFar stream all (l .i)) x (l .count) (l .inv .1) (omega arith) ∙ ap inTable (sym e),
+      w .2 ∙ ap₂ (λ (t : List Section) (n : ℕ). set t n x) (l .inv .2) (w .1 .ensures) ∙ table-next (keptSoFar stream all (l .i)) x (l .count) (l .inv .1) (omega arith) ∙ ap (inTable blankSection) (sym e),
       r,
       omega arith,
     ))
@@ -71,7 +71,7 @@ loop-again c =
     let e = kept-same stream all (l .i) h (k ∙ w .0 .left) in (
       omega arith,
       w .2 ∙ l .inv .1 ∙ ap length (sym e),
-      w .1 ∙ l .inv .2 ∙ ap inTable (sym e),
+      w .1 ∙ l .inv .2 ∙ ap (inTable blankSection) (sym e),
       r,
       omega arith,
     ))
@@ -85,7 +85,7 @@ returns c =
     let n = size s in
     let all = s .args .t1 in
     let e : keptSoFar (s .args .stream) all (l .i) ≡ kept (s .args .stream) sectionKind 0 all = ap (kept (s .args .stream) sectionKind 0) (take-all (l .i) all (omega arith)) in
-    ap₂ (λ (m : ℕ) (t : List Section). answer m t) (l .inv .1 ∙ ap length e) (l .inv .2 ∙ ap inTable e)
+    ap₂ (λ (m : ℕ) (t : List Section). answer m t) (l .inv .1 ∙ ap length e) (l .inv .2 ∙ ap (inTable blankSection) e)
   where
     answer : ℕ → List Section → StreamSections
     answer m t = record { count = m; sections = t }

@@ -1,11 +1,12 @@
 -- `stream_reader::total` meets its contract: the sum so far is the length of the data of the sections so far. Assumes nothing.
-use Prim.Native.Nat.{ℕ, _+_, _-_, _≤_}
+use Prim.Native.Nat.{ℕ, _+_, _-_, _≤_, _^_, _<_}
 use mathlib.Core.Path.{_≡_, refl, ap, _∙_}
 use mathlib.Core.List.{List, []}
 use native.Mathlib.Omega.{arith}
 use borrow.Author.Needs.{needs}
 use denote.Ref.{now}
 use lib.ListN.{length, getD, length-append, length-map}
+use Rattle.octets.specs.Lists.{joinedBy}
 use Rattle.eif.specs.Numbers.{placeCount}
 use Rattle.eif.specs.Reading.{blankSection, dataOf}
 use Rattle.eif.specs.Stream.{sectionsData, listedBytes}
@@ -48,7 +49,7 @@ module _ (c : tie.After-section-data Inv-loop μ-loop) where
       let m = ap length (c .section-data .ensures .0) in
       omega arith
 
-  fits : w .loop .sum + length (now (c .section-data .result)) ≤ 18446744073709551615
+  fits : w .loop .sum + length (now (c .section-data .result)) < 2 ^ 64
   fits =
       let a = w .before .before .before .before .args in
       let places = size (w .before .before .before .before) in
@@ -57,7 +58,7 @@ module _ (c : tie.After-section-data Inv-loop μ-loop) where
       omega (arith, next)
 
 none-passed : (s : List ℕ) → 0 ≡ length (sectionsData s [])
-unfolding sectionsData
+unfolding joinedBy
 none-passed s = refl
 
 add-sum : tie.Need-add-sum Inv-loop μ-loop

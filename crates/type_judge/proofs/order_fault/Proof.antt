@@ -3,7 +3,7 @@ use mathlib.Core.Path.{sym, _∙_}
 use borrow.Author.Needs.{needs}
 use lib.ListN.{length}
 use Rattle.type_judge.specs.Kinds.{listedKind}
-use Rattle.type_judge.proofs.Types.{after-kernel, before-kernel, repeated, not-repeated}
+use Rattle.type_judge.proofs.Types.{after-kernel, before-kernel, second-of-type, first-of-type}
 use Rattle.type_judge.proofs.order_fault.Statement.{statement}
 use Rattle.type_judge.proofs.order_fault.Tie as tie
 
@@ -20,12 +20,12 @@ returns-2 c =
 returns-3 : tie.Need-returns-3
 returns-3 c =
     let a = c .before .before .before .before .args in
-    repeated (listedKind (a .kinds .now)) (a .kind) (length (a .kinds .now)) (c .before .before .if1 .left) (sym (c .before .holds2 .ensures) ∙ c .if3 .taken)
+    second-of-type (listedKind (a .kinds .now)) (a .kind) (length (a .kinds .now)) (c .before .before .if1 .left) (sym (c .before .holds2 .ensures) ∙ c .if3 .taken)
 
 returns-4 : tie.Need-returns-4
 returns-4 c =
     let a = c .before .before .before .before .args in
-    not-repeated (listedKind (a .kinds .now)) (a .kind) (length (a .kinds .now)) (c .before .before .if1 .left) (sym (c .before .holds2 .ensures) ∙ c .if3 .left)
+    first-of-type (listedKind (a .kinds .now)) (a .kind) (length (a .kinds .now)) (c .before .before .if1 .left) (sym (c .before .holds2 .ensures) ∙ c .if3 .left)
 
 pub order-fault-spec : {M : Type 1} → statement M
 order-fault-spec =

@@ -179,17 +179,12 @@ impl<'a> Cursor<'a> {
 #[cfg(test)]
 mod tests {
     use super::*;
-    use eif_cases::cbor::{count_heads, encode, encode_with, numbers, Head as Form, Item};
+    use eif_cases::cbor::{
+        count_heads, encode, encode_with, numbers, signature_entry as map, Head as Form, Item,
+    };
 
     fn bytes(bytes: &[u8]) -> Item {
         Item::Bytes(bytes.to_vec())
-    }
-
-    fn map(certificate: Item, signature: Item) -> Item {
-        Item::Map(vec![
-            (Item::Text("signing_certificate"), certificate),
-            (Item::Text("signature"), signature),
-        ])
     }
 
     fn pair(certificate: &[u8], signature: &[u8]) -> Pair {

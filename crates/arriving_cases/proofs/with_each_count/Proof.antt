@@ -1,18 +1,18 @@
--- `arriving_cases::at_each_place` is safe and ends: the place stays within the table. Assumes nothing.
+-- `arriving_cases::with_each_count` is safe and ends: the place stays within the table. Assumes nothing.
 use Prim.Native.Nat.{_-_, _≤_}
 use native.Mathlib.Omega.{arith}
 use borrow.Author.Needs.{needs}
-use Rattle.arriving_cases.proofs.at_each_place.Statement.{statement}
-use Rattle.arriving_cases.proofs.at_each_place.Tie as tie
+use Rattle.arriving_cases.proofs.with_each_count.Statement.{statement}
+use Rattle.arriving_cases.proofs.with_each_count.Tie as tie
 
 abbrev Inv-loop : tie.InvT-loop
-Inv-loop image places i₀ i = i ≤ 8
+Inv-loop image counts i₀ i = i ≤ 8
 
 abbrev μ-loop : tie.MeasureT-loop
-μ-loop image places i₀ i = 8 - i
+μ-loop image counts i₀ i = 8 - i
 
-pub at-each-place-spec : {M : Type 1} → statement M
-at-each-place-spec =
+pub with-each-count-spec : {M : Type 1} → statement M
+with-each-count-spec =
     tie.close
     (tie.spec
     Inv-loop
