@@ -13,7 +13,7 @@ use Rattle.octets.specs.Over.{over}
 use Rattle.crc32.specs.Crc.{crcFrom}
 use Rattle.crc32.proofs.Linear.{crcFrom-append}
 use Rattle.eif.specs.Numbers.{placeCount}
-use Rattle.eif.specs.Layout.{headerSize, sectionHeaderSize, checksumAt}
+use Rattle.eif.specs.Layout.{sectionHeaderSize, checksumAt, checksumEnd}
 use Rattle.arriving.specs.State.{keptFrom, checkedAfter, countLimit}
 use Rattle.arriving.specs.Calls.{fedWith, keptOver, headersOver, grown, fed}
 use Rattle.arriving.specs.declared.Arriving.{Arriving}
@@ -52,19 +52,19 @@ headers-step header piece headers n i h =
 
 -- ---- the checksum
 
-pub sum-after : (c n : ℕ) (piece : List ℕ) → headerSize ≤ n → crcFrom c piece ≡ crcFrom c (checkedAfter n piece)
+pub sum-after : (c n : ℕ) (piece : List ℕ) → checksumEnd ≤ n → crcFrom c piece ≡ crcFrom c (checkedAfter n piece)
 sum-after c n piece h =
     let a : checksumAt - n ≡ 0 = omega arith in
-    let b : headerSize - n ≡ 0 = omega arith in
+    let b : checksumEnd - n ≡ 0 = omega arith in
     rw (a, b) refl
 
-pub sum-parts : (c n : ℕ) (piece : List ℕ) {end start : ℕ} → end ≡ min (checksumAt - n) (length piece) → start ≡ min (headerSize - n) (length piece)
+pub sum-parts : (c n : ℕ) (piece : List ℕ) {end start : ℕ} → end ≡ min (checksumAt - n) (length piece) → start ≡ min (checksumEnd - n) (length piece)
     → crcFrom (crcFrom c (take end piece)) (take (length piece - start) (drop start piece)) ≡ crcFrom c (checkedAfter n piece)
 sum-parts c n piece {end} {start} a b =
     ap₂ (λ (x y : List ℕ). crcFrom (crcFrom c x) y)
     (ap (λ (k : ℕ). take k piece) a ∙ take-min (checksumAt - n) piece)
-    (take-all (length piece - start) (drop start piece) (simp length-drop (omega arith)) ∙ ap (λ (k : ℕ). drop k piece) b ∙ drop-min (headerSize - n) piece)
-    ∙ sym (crcFrom-append c (take (checksumAt - n) piece) (drop (headerSize - n) piece))
+    (take-all (length piece - start) (drop start piece) (simp length-drop (omega arith)) ∙ ap (λ (k : ℕ). drop k piece) b ∙ drop-min (checksumEnd - n) piece)
+    ∙ sym (crcFrom-append c (take (checksumAt - n) piece) (drop (checksumEnd - n) piece))
 
 -- ---- the state
 

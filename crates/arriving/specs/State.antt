@@ -7,6 +7,7 @@ use Rattle.eif.specs.Table.{joinFrom}
 use Rattle.crc32.specs.Crc.{crcFrom, ones32}
 use Rattle.eif.specs.Numbers.{placeCount}
 use Rattle.eif.specs.Layout.{headerSize, sectionHeaderSize, checksumAt, checksumEnd, offsetAt}
+use Rattle.eif.specs.Reading.{checkedBytes}
 use Rattle.arriving.specs.declared.Arriving.{Arriving}
 
 -- the first n bytes of a string, and zeros where it has fewer
@@ -45,7 +46,7 @@ keptOf s =
       taken = length s;
       header = padded headerSize s;
       headers = headersOf (padded headerSize s) s;
-      checksum = crcFrom ones32 (checkedAfter 0 s);
+      checksum = crcFrom ones32 (checkedBytes s);
       ended = 0;
     }
 

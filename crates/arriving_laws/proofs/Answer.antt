@@ -10,11 +10,11 @@ use lib.Bits.{bitXor}
 use lib.ListN.{length, take, drop, length-take, length-drop}
 use lib.Seq.{take-all, drop-drop}
 use Rattle.octets.specs.Bytes.{field, beValue}
-use Rattle.octets.proofs.Over.{le-or-lt}
+use Rattle.octets.proofs.Logic.{le-or-lt}
 use Rattle.crc32.specs.Crc.{crc32, ones32}
 use Rattle.eif.specs.Numbers.{sizeLimit, placeCount, imageTooLong}
 use Rattle.eif.specs.Answers.{refuse}
-use Rattle.eif.specs.Layout.{headerSize, sectionHeaderSize, offsetsAt, viewOf, offsetAt}
+use Rattle.eif.specs.Layout.{headerSize, sectionHeaderSize, offsetsAt, viewOf, offsetAt, entrySize, entryAt, sectionFlagsAt, sectionSizeAt}
 use Rattle.eif.specs.Reading.{checksumOf, blankReading, readView, readImage}
 use Rattle.eif_lemmas.proofs.Reading.{read-too-long}
 use Rattle.eif_lemmas.proofs.Agree.{Agree, Lies, read-same}
@@ -37,7 +37,7 @@ module _ (s : List ℕ) where
       → field k (sectionHeaderSize * i + at) (headersOf header s) ≡ field k (offsetAt s i + at) s
   unfolding field headersOf keptFrom
   head-part i l k at g =
-      let e : offsetAt header i ≡ offsetAt s i = header-part (omega (arith, l .starts, l .ends)) 8 (offsetsAt + 8 * i) (omega (arith, l .place)) in
+      let e : offsetAt header i ≡ offsetAt s i = header-part (omega (arith, l .starts, l .ends)) entrySize (entryAt offsetsAt i) (omega (arith, l .place)) in
       let o : keptFrom header i ≡ offsetAt s i = omega (arith, e, l .starts) in
       let fits : at + k ≤ length (drop (offsetAt s i) s) = rw (length-drop (offsetAt s i) s) (omega (arith, l .ends)) in
       ap beValue
@@ -56,8 +56,8 @@ module _ (s : List ℕ) where
         kinds = λ i l.
             ap (λ (n : ℕ). field 2 n (headersOf header s)) (sym (add-zero (sectionHeaderSize * i)))
             ∙ head-part i l 2 0 (omega arith) ∙ ap (λ (n : ℕ). field 2 n s) (add-zero (offsetAt s i));
-        flags = λ i l. head-part i l 2 2 (omega arith);
-        ownSizes = λ i l. head-part i l 8 4 (omega arith);
+        flags = λ i l. head-part i l 2 sectionFlagsAt (omega arith);
+        ownSizes = λ i l. head-part i l 8 sectionSizeAt (omega arith);
       }
 
   sum-is : bitXor ones32 (keptOf s .checksum) ≡ checksumOf s

@@ -9,16 +9,16 @@ use lib.ListN.{length, take, drop, length-take, length-append, drop-of-length-le
 use Rattle.eif.specs.Table.{joinFrom}
 use Rattle.octets.proofs.Lists.{take-both}
 use Rattle.octets.specs.Over.{over}
-use Rattle.octets.proofs.Over.{le-or-lt}
+use Rattle.octets.proofs.Logic.{le-or-lt}
 use Rattle.crc32.specs.Crc.{crcFrom, ones32}
 use Rattle.crc32.proofs.Linear.{crcFrom-append}
 use Rattle.eif.specs.Numbers.{placeCount}
 use Rattle.eif.specs.Layout.{headerSize, sectionHeaderSize}
-use Rattle.plain_laws.proofs.Joined.{join-same}
 use Rattle.arriving.specs.State.{padded, keptFrom, headerIn, headersOf, checkedAfter, keptOf, stateOf, countLimit}
 use Rattle.arriving.specs.Calls.{keptOver, headersOver, grown}
 use Rattle.arriving.specs.declared.Arriving.{Arriving}
 use Rattle.arriving_laws.proofs.Padded.{checked-both, length-padded, padded-more, over-padded, over-from, over-behind, over-within}
+use Rattle.eif_lemmas.proofs.Table.{join-same}
 
 -- ---- the sections' own headers, by one file header
 

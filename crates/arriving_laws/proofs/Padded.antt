@@ -11,8 +11,9 @@ use lib.Seq.{take-nil, set-append-left, drop-append-le, take-append-le, drop-app
 use Rattle.eif.specs.Table.{joinFrom}
 use Rattle.octets.proofs.Lists.{take-both, drop-both}
 use Rattle.octets.specs.Over.{over}
-use Rattle.octets.proofs.Over.{le-or-lt, over-head, over-out}
-use Rattle.eif.specs.Layout.{headerSize, sectionHeaderSize, checksumAt}
+use Rattle.octets.proofs.Logic.{le-or-lt}
+use Rattle.octets.proofs.Over.{over-head, over-out}
+use Rattle.eif.specs.Layout.{sectionHeaderSize, checksumAt, checksumEnd}
 use Rattle.arriving.specs.State.{padded, checkedAfter}
 
 -- ---- of two parts
@@ -32,7 +33,7 @@ parts-both m n x y l =
 
 -- the bytes that the checksum is over
 pub checked-both : (x y : List ℕ) → checkedAfter 0 (x ++ y) ≡ checkedAfter 0 x ++ checkedAfter (length x) y
-checked-both x y = parts-both checksumAt headerSize x y (omega arith)
+checked-both x y = parts-both checksumAt checksumEnd x y (omega arith)
 
 -- ---- cut or filled
 

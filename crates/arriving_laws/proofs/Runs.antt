@@ -8,7 +8,7 @@ use mathlib.Core.List.{List, [], _∷_, _++_, append-assoc, append-nil}
 use native.Mathlib.Omega.{arith}
 use lib.ListN.{length, take, drop, length-take, length-drop, take-append-drop}
 use lib.Seq.{take-take}
-use Rattle.octets.proofs.Lists.{take-min}
+use Rattle.octets.proofs.Lists.{take-min, none-of}
 use Rattle.octets.specs.Lists.{All}
 use Rattle.eif.specs.Numbers.{sizeLimit, imageTooLong}
 use Rattle.eif.specs.Answers.{numberOf}
@@ -164,10 +164,6 @@ module _ (cs : List Call) where
 
 -- ---- a file handed over in turns
 
-nothing : (s : List ℕ) → length s ≤ 0 → s ≡ []
-nothing [] h = refl
-nothing (b ∷ s) h = absurd (omega arith)
-
 abbrev sending : List ℕ → List ℕ → Sending
 sending before left = record { state = stateOf before; left = left }
 
@@ -189,7 +185,7 @@ turn-takes before left t k e =
 ends-from : (before left : List ℕ) (ts : List Turn) → CanTake ts → length left ≤ length ts → turns (sending before left) ts ≡ sending (before ++ left) []
 unfolding All turns
 ends-from before left [] w h =
-    let e = nothing left h in
+    let e = none-of left (omega arith) in
     ap₂ sending (sym (append-nil before) ∙ ap (λ (l : List ℕ). before ++ l) (sym e)) e
 ends-from before left (t ∷ ts) w h =
     let k = min (t .allowance) (length (take (t .size) left)) in

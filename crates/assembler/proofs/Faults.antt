@@ -18,12 +18,18 @@ use Rattle.assembler.proofs.Form.{formed-piece}
 
 -- ---- rules on numbers, back to plain facts
 
-pub grid-in : (n start count : ℕ) → offGrid n start count ≡ false → (start < n) × (start % pieceSize ≡ 0) × (count ≡ pieceSizeAt n start)
+-- a start inside an image of n bytes and on its grid, and as many bytes as belong there
+pub record OnGrid (n start count : ℕ) : Type 0 where
+  pub inside : start < n
+  pub on-grid : start % pieceSize ≡ 0
+  pub sized : count ≡ pieceSizeAt n start
+
+pub grid-in : (n start count : ℕ) → offGrid n start count ≡ false → OnGrid n start count
 unfolding offGrid
 grid-in n start count e =
     let a = either-false _ _ e in
     let b = either-false _ _ (a .1) in
-    (leb-false _ _ (a .0), eqb-true _ _ (not-false _ (b .0)), eqb-true _ _ (not-false _ (b .1)))
+    record { inside = leb-false _ _ (a .0); on-grid = eqb-true _ _ (not-false _ (b .0)); sized = eqb-true _ _ (not-false _ (b .1)) }
 
 pub room-in : (n image marks : ℕ) → tooSmall n image marks ≡ false → (n ≤ image) × (piecesOf n ≤ marks)
 unfolding tooSmall
@@ -31,14 +37,20 @@ room-in n image marks e =
     let a = either-false _ _ e in
     (ltb-false _ _ (a .0), ltb-false _ _ (a .1))
 
-pub long-enough : (st : State) (image marks : ℕ) → shortFor st image marks ≡ false
-    → (st .length ≤ image) × (piecesOf (st .length) ≤ marks) × (st .room ≤ image) × (st .places ≤ marks)
+-- buffers of these lengths are long enough for what a state says
+pub record LongEnough (st : State) (image marks : ℕ) : Type 0 where
+  pub image-room : st .length ≤ image
+  pub mark-room : piecesOf (st .length) ≤ marks
+  pub image-kept : st .room ≤ image
+  pub marks-kept : st .places ≤ marks
+
+pub long-enough : (st : State) (image marks : ℕ) → shortFor st image marks ≡ false → LongEnough st image marks
 unfolding shorterThanAtOpen
 long-enough st image marks e =
     let a = either-false (shorterThanAtOpen st image marks) (tooSmall (st .length) image marks) e in
     let b = either-false (ltb image (st .room)) (ltb marks (st .places)) (a .0) in
     let c = room-in (st .length) image marks (a .1) in
-    (c .0, c .1, ltb-false _ _ (b .0), ltb-false _ _ (b .1))
+    record { image-room = c .0; mark-room = c .1; image-kept = ltb-false _ _ (b .0); marks-kept = ltb-false _ _ (b .1) }
 
 -- ---- one rule of a chain
 
@@ -87,20 +99,11 @@ pub record OpenTaken (st : State) (r x y : List ℕ) : Type 0 where
   pub image-room : numberIn r ≤ length x
   pub mark-room : piecesOf (numberIn r) ≤ length y
 
--- both buffers are long enough for what a state says
-pub record LongEnough (st : State) (x y : List ℕ) : Type 0 where
-  pub image-room : st .length ≤ length x
-  pub mark-room : piecesOf (st .length) ≤ length y
-  pub image-kept : st .room ≤ length x
-  pub marks-kept : st .places ≤ length y
-
 pub record PieceTaken (st : State) (r x y : List ℕ) : Type 0 where
   pub whole : dataAt ≤ length r
   pub open-now : isOpened st ≡ true
-  pub inside : numberIn r < st .length
-  pub on-grid : numberIn r % pieceSize ≡ 0
-  pub sized : length (dataIn r) ≡ pieceSizeAt (st .length) (numberIn r)
-  pub enough : LongEnough st x y
+  pub grid : OnGrid (st .length) (numberIn r) (length (dataIn r))
+  pub enough : LongEnough st (length x) (length y)
   pub agrees : heldWithOther r x y ≡ false
 
 pub record CloseTaken (st : State) (y : List ℕ) : Type 0 where
@@ -138,16 +141,12 @@ module _ (st : State) (r x y : List ℕ) (z : faultOf st r x y ≡ 0) where
       let short = shortFor st (length x) (length y) in
       let last = choose (heldWithOther r x y) pieceDiffers 0 in
       let f = choose-zero off _ (choose short bufferTooShort last) (fault-piece st r x y accepted-form k o ∙ z) in
-      let g = grid-in (st .length) (numberIn r) (length (dataIn r)) (f .0) in
       let h = choose-zero short _ last (f .1) in
-      let m = long-enough st (length x) (length y) (h .0) in
       record {
         whole = formed-piece r accepted-form k;
         open-now = o;
-        inside = g .0;
-        on-grid = g .1;
-        sized = g .2;
-        enough = record { image-room = m .0; mark-room = m .1; image-kept = m .2; marks-kept = m .3 };
+        grid = grid-in (st .length) (numberIn r) (length (dataIn r)) (f .0);
+        enough = long-enough st (length x) (length y) (h .0);
         agrees = choose-zero (heldWithOther r x y) _ 0 (h .1) .0;
       }
 

@@ -10,6 +10,7 @@ use Rattle.eif.specs.Answers.{refuse, wholeVerdict}
 use Rattle.eif.specs.Order.{firstThatApplies}
 use Rattle.eif.specs.declared.Verdict.{Verdict}
 use Rattle.eif.specs.declared.Verdict.the-variants.{Accepted}
+use Rattle.eif.specs.Numbers.{imageTooLong, pieceRecordWrong, pieceOutOfTurn, bufferTooShort, pieceDiffers, pieceMissing}
 use Rattle.assembler.specs.Records.{numberIn, isOpen, isPiece, formed}
 use Rattle.assembler.specs.Rules.{outOfTurn, misplaced, tooLong, tooShort, differs, lacksPiece, faultOf}
 use Rattle.assembler.specs.Order.{stepRules}
@@ -18,8 +19,8 @@ use Rattle.assembler.specs.declared.State.{State}
 use Rattle.assembler.specs.declared.Stepped.{Stepped}
 
 seven : (a b c d e f g : Bool)
-    → wholeVerdict (choose a 22 (choose b 23 (choose c 22 (choose d 1 (choose e 24 (choose f 25 (choose g 26 0)))))))
-    ≡ choose a (refuse 22 0) (choose b (refuse 23 0) (choose c (refuse 22 0) (choose d (refuse 1 0) (choose e (refuse 24 0) (choose f (refuse 25 0) (choose g (refuse 26 0) Accepted))))))
+    → wholeVerdict (choose a pieceRecordWrong (choose b pieceOutOfTurn (choose c pieceRecordWrong (choose d imageTooLong (choose e bufferTooShort (choose f pieceDiffers (choose g pieceMissing 0)))))))
+    ≡ choose a (refuse pieceRecordWrong 0) (choose b (refuse pieceOutOfTurn 0) (choose c (refuse pieceRecordWrong 0) (choose d (refuse imageTooLong 0) (choose e (refuse bufferTooShort 0) (choose f (refuse pieceDiffers 0) (choose g (refuse pieceMissing 0) Accepted))))))
 seven true b c d e f g = refl
 seven false true c d e f g = refl
 seven false false true d e f g = refl

@@ -1,6 +1,6 @@
 -- The tests of the assembler, each from plain facts: a row of marks one place at a time, and a piece on the grid. Assumes nothing.
 use Prim.Native.Nat.{ℕ, _+_, _-_, _%_, _<_, _≤_, min}
-use mathlib.Core.Path.{_≡_, refl, sym, ap, _∙_}
+use mathlib.Core.Path.{_≡_, refl}
 use mathlib.Core.Bool.{Bool, true, false, not}
 use mathlib.Core.List.{List}
 use native.Mathlib.Numerals.{add-one}
@@ -16,15 +16,15 @@ use Rattle.assembler.specs.Rules.{allHeld}
 
 module _ (y : List ℕ) (k : ℕ) where
   module _ (h : k < length y) where
-    held-here : allHeld (drop k y) ≡ both (not (eqb (getD y k 0) 0)) (allHeld (drop (k + 1) y))
+    held-by : (t : Bool) → eqb (getD y k 0) 0 ≡ t → both (not t) (allHeld (drop (k + 1) y)) ≡ allHeld (drop k y)
     unfolding allHeld
-    held-here = rw (add-one, drop-cons y k 0 h) refl
+    held-by t e = rw (add-one, drop-cons y k 0 h, e) refl
 
     pub held-step : (getD y k 0 ≡ 0 → ⊥) → allHeld (drop (k + 1) y) ≡ allHeld (drop k y)
-    held-step e = sym (held-here ∙ ap (λ (t : Bool). both (not t) (allHeld (drop (k + 1) y))) (ne-eqb _ _ e))
+    held-step e = held-by false (ne-eqb _ _ e)
 
     pub held-gap : getD y k 0 ≡ 0 → false ≡ allHeld (drop k y)
-    held-gap e = sym (held-here ∙ ap (λ (t : Bool). both (not t) (allHeld (drop (k + 1) y))) (eq-eqb _ _ e))
+    held-gap e = held-by true (eq-eqb _ _ e)
 
   pub held-end : length y ≤ k → true ≡ allHeld (drop k y)
   unfolding allHeld

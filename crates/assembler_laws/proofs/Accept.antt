@@ -1,21 +1,24 @@
 -- From plain facts to no fault: when an open, a piece and a close are taken, and when a close is not. Assumes nothing.
-use Prim.Native.Nat.{ℕ, _%_, _<_, _≤_}
+use Prim.Native.Nat.{ℕ, _≤_}
 use mathlib.Core.Path.{_≡_, sym, ap, ap₂, _∙_}
 use mathlib.Core.Bool.{true, false, not}
 use mathlib.Core.List.{List}
+use native.Mathlib.Omega.{arith}
 use borrow.Author.Tests.{lt-leb, le-ltb, eq-eqb}
 use lib.ListN.{length, take}
 use Rattle.eif.specs.Numbers.{sizeLimit, pieceMissing}
 use Rattle.octets.specs.Logic.{either, choose}
-use Rattle.assembler.specs.Records.{pieceSize, openKind, pieceKind, closeKind, kindIn, numberIn, dataIn, formed, piecesOf, pieceSizeAt, offGrid}
+use Rattle.assembler.specs.Records.{numberIn, dataIn, piecesOf, offGrid}
 use Rattle.assembler.specs.Rules.{allHeld, heldWithOther, tooSmall, shorterThanAtOpen, shortFor, faultOf, isOpened}
 use Rattle.assembler.specs.ByKind.{openFault, pieceFault, closeFault}
+use Rattle.assembler.specs.Step.{openState}
 use Rattle.assembler.specs.declared.State.{State}
 use Rattle.assembler.proofs.Faults.{pick-yes, pick-no, fault-open, fault-piece, fault-close, LongEnough}
+use Rattle.assembler_laws.specs.Run.{Announces, PieceFor, Close}
 
-grid-fine : (n start count : ℕ) → start < n → start % pieceSize ≡ 0 → count ≡ pieceSizeAt n start → offGrid n start count ≡ false
+grid-fine : (n : ℕ) (r : List ℕ) → PieceFor n r → offGrid n (numberIn r) (length (dataIn r)) ≡ false
 unfolding offGrid
-grid-fine n start count a b c = simp (lt-leb _ _ a, eq-eqb _ _ b, eq-eqb _ _ c)
+grid-fine n r p = simp (lt-leb _ _ (p .inside), eq-eqb _ _ (p .on-grid), eq-eqb _ _ (p .bytes-are))
 
 room-fine : (n image marks : ℕ) → n ≤ image → piecesOf n ≤ marks → tooSmall n image marks ≡ false
 unfolding tooSmall
@@ -25,35 +28,34 @@ kept-fine : (st : State) (image marks : ℕ) → st .room ≤ image → st .plac
 unfolding shorterThanAtOpen
 kept-fine st image marks a b = simp (le-ltb _ _ a, le-ltb _ _ b)
 
--- buffers of the same lengths are so too
-pub still-enough : {st : State} {x y a b : List ℕ} → length a ≡ length x → length b ≡ length y → LongEnough st x y → LongEnough st a b
-still-enough i j e =
-    record { image-room = rw i (e .image-room); mark-room = rw j (e .mark-room); image-kept = rw i (e .image-kept); marks-kept = rw j (e .marks-kept) }
+not-short : (st : State) (image marks : ℕ) → LongEnough st image marks → shortFor st image marks ≡ false
+not-short st image marks h = ap₂ either (kept-fine st image marks (h .image-kept) (h .marks-kept)) (room-fine (st .length) image marks (h .image-room) (h .mark-room))
 
-not-short : (st : State) (x y : List ℕ) → LongEnough st x y → shortFor st (length x) (length y) ≡ false
-not-short st x y h =
-    ap₂ either (kept-fine st (length x) (length y) (h .image-kept) (h .marks-kept)) (room-fine (st .length) (length x) (length y) (h .image-room) (h .mark-room))
+-- buffers with room for an image are long enough for the state that an open leaves
+pub open-enough : (n image marks : ℕ) → n ≤ image → piecesOf n ≤ marks → LongEnough (openState n image marks) image marks
+open-enough n image marks a b = record { image-room = a; mark-room = b; image-kept = omega arith; marks-kept = omega arith }
 
-module _ (st : State) (r x y : List ℕ) (ok : formed r ≡ true) where
-  pub open-fine : kindIn r ≡ openKind → isOpened st ≡ false → numberIn r ≤ sizeLimit → numberIn r ≤ length x → piecesOf (numberIn r) ≤ length y
-      → faultOf st r x y ≡ 0
+module _ (st : State) (r x y : List ℕ) where
+  pub open-fine : (n : ℕ) → Announces n r → isOpened st ≡ false → n ≤ sizeLimit → n ≤ length x → piecesOf n ≤ length y → faultOf st r x y ≡ 0
   unfolding openFault
-  open-fine k c a b p =
-      sym (pick-no _ _ _ (room-fine (numberIn r) (length x) (length y) b p) ∙ pick-no _ _ _ (le-ltb sizeLimit (numberIn r) a) ∙ fault-open st r x y ok k c)
+  open-fine n o c a b p =
+      sym
+      (pick-no _ _ _ (room-fine n (length x) (length y) b p) ∙ pick-no _ _ _ (le-ltb sizeLimit n a)
+      ∙ sym (ap (λ (k : ℕ). openFault k (length x) (length y)) (o .announced)) ∙ fault-open st r x y (o .form) (o .kind) c)
 
-  module _ (open-now : isOpened st ≡ true) (enough : LongEnough st x y) where
-    pub piece-fine : kindIn r ≡ pieceKind → numberIn r < st .length → numberIn r % pieceSize ≡ 0 → length (dataIn r) ≡ pieceSizeAt (st .length) (numberIn r)
-        → heldWithOther r x y ≡ false → faultOf st r x y ≡ 0
+  module _ (open-now : isOpened st ≡ true) (enough : LongEnough st (length x) (length y)) where
+    pub piece-fine : PieceFor (st .length) r → heldWithOther r x y ≡ false → faultOf st r x y ≡ 0
     unfolding pieceFault
-    piece-fine k a b c d =
+    piece-fine p d =
         sym
-        (pick-no _ _ _ d ∙ pick-no _ _ _ (not-short st x y enough)
-        ∙ pick-no _ _ _ (grid-fine (st .length) (numberIn r) (length (dataIn r)) a b c) ∙ fault-piece st r x y ok k open-now)
+        (pick-no _ _ _ d ∙ pick-no _ _ _ (not-short st (length x) (length y) enough)
+        ∙ pick-no _ _ _ (grid-fine (st .length) r p)
+        ∙ fault-piece st r x y (p .form) (p .kind) open-now)
 
-    module _ (k : kindIn r ≡ closeKind) where
+    module _ (c : Close r) where
       at-close : choose (not (allHeld (take (piecesOf (st .length)) y))) pieceMissing 0 ≡ faultOf st r x y
       unfolding closeFault
-      at-close = pick-no _ _ _ (not-short st x y enough) ∙ fault-close st r x y ok k open-now
+      at-close = pick-no _ _ _ (not-short st (length x) (length y) enough) ∙ fault-close st r x y (c .form) (c .kind) open-now
 
       pub close-fine : allHeld (take (piecesOf (st .length)) y) ≡ true → faultOf st r x y ≡ 0
       close-fine h = sym (pick-no _ _ _ (ap not h) ∙ at-close)

@@ -1,24 +1,25 @@
 -- A complete set of pieces that do not disagree is the set of pieces of one image, the pieces joined in the order of their starts;
 -- so what is promised: any order and any repeats of the set give that image at close. Assumes nothing.
-use Prim.Native.Nat.{ℕ, zero, suc, _+_, _*_, _-_, _/_, _%_, _<_}
+use Prim.Native.Nat.{ℕ, suc, _+_, _*_, _/_, _%_, _<_}
 use mathlib.Core.Path.{_≡_, refl, sym, ap, ap₂, subst, _∙_}
 use mathlib.Core.Bool.{Bool, true, false}
 use mathlib.Core.List.{List, [], _∷_, _++_}
-use mathlib.Core.Logic.{_⊎_, inl, inr, ⊎-elim}
+use mathlib.Core.Logic.{inl, inr, ⊎-elim}
 use native.Mathlib.Omega.{arith}
 use borrow.Author.Tests.{eqb-true, eqb-false}
 use lib.Dec.{eqb}
 use lib.ListN.{length, take, drop, getD, length-take, length-drop, take-append-drop, drop-of-length-le}
-use lib.Seq.{getD-take, getD-drop, drop-drop, ext-getD}
+use lib.Seq.{drop-drop, ext-getD}
 use Rattle.octets.specs.Lists.{All}
 use Rattle.octets.specs.Logic.{choose}
+use Rattle.octets.proofs.Fields.{part-byte}
+use Rattle.octets.proofs.Lists.{all-map}
 use Rattle.eif.specs.Table.{filled}
-use Rattle.eif.specs.Table.{joinFrom}
-use Rattle.eif_lemmas.proofs.Table.{filled-at, length-filled}
+use Rattle.eif_lemmas.proofs.Table.{filled-at, length-filled, join-split}
 use Rattle.assembler.specs.Records.{pieceSize, numberIn, dataIn, piecesOf, placeIn}
-use Rattle.assembler_laws.specs.Run.{Memory, run, PieceOf, Sent, Pieces, Transfer, Assembled}
-use Rattle.assembler_laws.specs.Set.{PieceFor, In, CompleteSet, bytesFor, joinedPieces, AnyOrder, SetTransfer}
-use Rattle.assembler_laws.proofs.Transfer.{assembled}
+use Rattle.assembler_laws.specs.Run.{Memory, run, PieceFor, PieceOf, Sent, Pieces, TransferOf, Assembled, Transfer}
+use Rattle.assembler_laws.specs.Set.{In, CompleteSet, bytesFor, joinedPieces, AnyOrder, SetTransfer}
+use Rattle.assembler_laws.proofs.Transfer.{assembled, same-memory}
 
 -- ---- the first record of a place
 
@@ -85,7 +86,7 @@ module _ (n : ℕ) (ps : List (List ℕ)) (all : CompleteSet n ps) where
 
     bytes-are : dataIn r ≡ take pieceSize (drop (numberIn r) content)
     bytes-are =
-        let s = fit .sized in
+        let s = fit .bytes-are in
         let i = fit .inside in
         let o = fit .on-grid in
         let l = content-length in
@@ -96,7 +97,7 @@ module _ (n : ℕ) (ps : List (List ℕ)) (all : CompleteSet n ps) where
         let p : (numberIn r + j) / pieceSize ≡ placeIn r = omega arith in
         let q : (numberIn r + j) % pieceSize ≡ j = omega arith in
         sym
-        (getD-take pieceSize (drop (numberIn r) content) j 0 (omega arith) ∙ getD-drop (numberIn r) content j 0
+        (part-byte pieceSize (numberIn r) j content (omega arith)
         ∙ content-at (numberIn r + j) (omega arith)
         ∙ ap₂ (λ (a b : ℕ). getD (bytesFor ps a) b 0) p q
         ∙ ap (λ (b : List ℕ). getD b j 0) bytes-here))
@@ -117,25 +118,24 @@ module _ (n : ℕ) (ps : List (List ℕ)) (all : CompleteSet n ps) where
       let e : numberIn (f .sent) ≡ k * pieceSize = omega arith in
       f .bytes ∙ bytes-are (f .sent) (f .member) ∙ ap (λ (i : ℕ). take pieceSize (drop i content)) e
 
-  joined-is : (count k : ℕ) → k + count ≡ piecesOf n → joinFrom (bytesFor ps) count k ≡ drop (k * pieceSize) content
-  unfolding joinFrom
-  joined-is zero k e = let l = content-length in sym (drop-of-length-le content {i = k * pieceSize} (omega arith))
-  joined-is (suc count) k e =
+  -- it stands before what follows it
+  piece-stands : (k : ℕ) → k < piecesOf n → drop (k * pieceSize) content ≡ bytesFor ps k ++ drop (suc k * pieceSize) content
+  piece-stands k h =
       let s : k * pieceSize + pieceSize ≡ suc k * pieceSize = omega arith in
-      ap₂ (λ (a b : List ℕ). a ++ b) (bytes-of k (omega arith)) (joined-is count (suc k) (omega arith) ∙ sym (ap (λ (i : ℕ). drop i content) s) ∙ sym (drop-drop pieceSize (k * pieceSize) content))
-      ∙ take-append-drop pieceSize (drop (k * pieceSize) content)
+      sym (take-append-drop pieceSize (drop (k * pieceSize) content))
+      ∙ ap₂ (λ (a b : List ℕ). a ++ b) (sym (bytes-of k h)) (drop-drop pieceSize (k * pieceSize) content ∙ ap (λ (i : ℕ). drop i content) s)
 
   -- the pieces joined
   image-is : content ≡ joinedPieces n ps
-  image-is = sym (joined-is (piecesOf n) 0 (omega arith))
+  image-is =
+      let l = content-length in
+      join-split (bytesFor ps) (λ k. k * pieceSize) (piecesOf n) content piece-stands (drop-of-length-le content {i = piecesOf n * pieceSize} (omega arith)) (piecesOf n) 0 (omega arith)
 
   pub image-length : length (joinedPieces n ps) ≡ n
   image-length = sym (ap length image-is) ∙ content-length
 
   every-piece : (rs : List (List ℕ)) → All (In ps) rs → All (PieceOf (joinedPieces n ps)) rs
-  unfolding All
-  every-piece [] h = tt
-  every-piece (r ∷ rs) h = (subst (λ (l : List ℕ). PieceOf l r) image-is (piece-of r (h .0)), every-piece rs (h .1))
+  every-piece = all-map (In ps) (PieceOf (joinedPieces n ps)) (λ r h. subst (λ (l : List ℕ). PieceOf l r) image-is (piece-of r h))
 
   pub pieces-of : (rs : List (List ℕ)) → AnyOrder n ps rs → Pieces (joinedPieces n ps) rs
   pieces-of rs h = record { agree = every-piece rs (h .from-set); cover = λ k b. h .cover k (rw image-length at b) }
@@ -144,16 +144,16 @@ module _ (n : ℕ) (ps : List (List ℕ)) (all : CompleteSet n ps) where
   module _ (w : Memory) (o : List ℕ) (rs : List (List ℕ)) (c : List ℕ) (t : SetTransfer n ps w o rs c) where
     transfer : Transfer (joinedPieces n ps) w o rs c
     transfer =
-        let e = image-length in
-        record {
+        subst (λ (j : ℕ). TransferOf j (Pieces (joinedPieces n ps)) w o rs c) (sym image-length)
+        (record {
           closed = t .closed;
-          small = rw e (t .small);
-          image-room = rw e (t .image-room);
-          mark-room = rw e (t .mark-room);
-          opens = record { form = t .open-form; kind = t .open-kind; announced = t .announced ∙ sym e };
-          pieces = pieces-of rs (t .order);
+          small = t .small;
+          image-room = t .image-room;
+          mark-room = t .mark-room;
+          opens = t .opens;
+          pieces = pieces-of rs (t .pieces);
           closes = t .closes;
-        }
+        })
 
     pub any-order : Assembled (joinedPieces n ps) w o rs c
     any-order = assembled (joinedPieces n ps) w o rs c transfer
@@ -161,4 +161,4 @@ module _ (n : ℕ) (ps : List (List ℕ)) (all : CompleteSet n ps) where
 -- two such transfers over the same buffers leave the same, byte for byte
 pub order-free : (n : ℕ) (ps : List (List ℕ)) → CompleteSet n ps → (w : Memory) (o p : List ℕ) (rs ss : List (List ℕ)) (c d : List ℕ)
     → SetTransfer n ps w o rs c → SetTransfer n ps w p ss d → run w (o ∷ (rs ++ (c ∷ []))) ≡ run w (p ∷ (ss ++ (d ∷ [])))
-order-free n ps all w o p rs ss c d s t = any-order n ps all w o rs c s .left ∙ sym (any-order n ps all w p ss d t .left)
+order-free n ps all w o p rs ss c d s t = same-memory (joinedPieces n ps) w o p rs ss c d (transfer n ps all w o rs c s) (transfer n ps all w p ss d t)

@@ -11,10 +11,11 @@ use borrow.Author.Tests.{eq-eqb, ne-eqb}
 use lib.Dec.{eqb}
 use lib.ListN.{length, take, drop, getD, set, length-set, length-append, length-drop, List·getD-append}
 use lib.Seq.{getD-set-same, getD-set-other, getD-append-add, getD-drop, ext-getD}
-use Rattle.octets.proofs.Logic.{both-none}
+use Rattle.octets.proofs.Logic.{both-none, not-both, le-or-lt}
 use Rattle.octets.specs.Over.{over}
-use Rattle.octets.proofs.Over.{le-or-lt}
 use Rattle.octets.specs.Logic.{both}
+use Rattle.octets.proofs.Fields.{part-byte}
+use Rattle.octets.proofs.Value.{field-length}
 use Rattle.assembler.specs.Rules.{allHeld}
 
 -- ---- over, place by place
@@ -36,6 +37,13 @@ over-in d at (b ∷ bs) (suc j) h f =
     let e : at + suc j ≡ at + 1 + j = omega arith in
     ap (λ (n : ℕ). getD (over (set d at b) (at + 1) bs) n 0) e
     ∙ over-in (set d at b) (at + 1) bs j (omega arith) (rw length-set (omega arith))
+
+-- a part of l is bs, seen place by place
+pub part-is : (l : List ℕ) (at : ℕ) (bs : List ℕ) → at + length bs ≤ length l → ((j : ℕ) → j < length bs → getD l (at + j) 0 ≡ getD bs j 0)
+    → take (length bs) (drop at l) ≡ bs
+part-is l at bs h f =
+    let n = field-length (length bs) at l h in
+    ext-getD 0 (take (length bs) (drop at l)) bs n (λ j b. let c : j < length bs = omega arith in part-byte (length bs) at j l c ∙ f j c)
 
 -- a list that starts with a and goes on as x
 pub starts-with : (l a x : List ℕ) → length l ≡ length x → length a ≤ length x
@@ -68,3 +76,6 @@ gap-found [] (suc p) k a b e = absurd (omega arith)
 gap-found (m ∷ y) (suc p) zero a b e = ap (λ (t : Bool). both (not t) (allHeld (take p y))) (eq-eqb m 0 e)
 gap-found (m ∷ y) (suc p) (suc k) a b e =
     ap (both (not (eqb m 0))) (gap-found y p k (omega arith) (omega arith) e) ∙ both-none (not (eqb m 0))
+
+pub no-gap : (y : List ℕ) (p k : ℕ) → allHeld (take p y) ≡ true → k < p → p ≤ length y → getD y k 0 ≡ 0 → ⊥
+no-gap y p k all h b e = not-both (sym (gap-found y p k h (omega arith) e) ∙ all)

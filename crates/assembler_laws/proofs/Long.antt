@@ -40,6 +40,9 @@ module _ (st : State) (r x y : List ℕ) (long : LongRecord r) where
   form-by : sizeFits (kindIn r) (sizeIn r) ≡ formed r
   form-by = let l = long .longer in formed-fits r (omega arith) (sizeIn r) refl (long .whole) (kindIn r) refl
 
+  long-by : (t : Bool) → eqb (kindIn r) pieceKind ≡ t → choose (both t (not (isOpened st))) pieceOutOfTurn pieceRecordWrong ≡ longFault st (kindIn r)
+  long-by t e = sym (ap (λ (t : Bool). choose (both t (not (isOpened st))) pieceOutOfTurn pieceRecordWrong) e)
+
   not-piece : (kindIn r ≡ pieceKind → ⊥) → faultOf st r x y ≡ longFault st (kindIn r)
   not-piece h =
       let l = long .longer in
@@ -47,8 +50,7 @@ module _ (st : State) (r x y : List ℕ) (long : LongRecord r) where
       let a : sizeIn r ≡ numberSize → ⊥ = λ e. omega arith in
       let b : sizeIn r ≡ 0 → ⊥ = λ e. omega arith in
       let f : sizeFits (kindIn r) (sizeIn r) ≡ false = rw (ne-eqb _ _ h, ne-eqb _ _ a, ne-eqb _ _ b) (neither (eqb (kindIn r) openKind) (eqb (kindIn r) closeKind)) in
-      sym (fault-form st r x y (sym form-by ∙ f))
-      ∙ sym (ap (λ (t : Bool). choose (both t (not (isOpened st))) pieceOutOfTurn pieceRecordWrong) (ne-eqb _ _ h))
+      sym (fault-form st r x y (sym form-by ∙ f)) ∙ long-by false (ne-eqb _ _ h)
 
   module _ (k : kindIn r ≡ pieceKind) where
     ok : formed r ≡ true
@@ -67,9 +69,7 @@ module _ (st : State) (r x y : List ℕ) (long : LongRecord r) where
         sym (pick-yes _ _ _ (long-off-grid (st .length) (numberIn r) (length (dataIn r)) (omega arith)) ∙ fault-piece st r x y ok k o)
 
     is-piece : faultOf st r x y ≡ longFault st (kindIn r)
-    is-piece =
-        by-turn (isOpened st) refl
-        ∙ sym (ap (λ (t : Bool). choose (both t (not (isOpened st))) pieceOutOfTurn pieceRecordWrong) (eq-eqb _ _ k))
+    is-piece = by-turn (isOpened st) refl ∙ long-by true (eq-eqb _ _ k)
 
   pub long-fault : faultOf st r x y ≡ longFault st (kindIn r)
   long-fault = ⊎-elim is-piece not-piece (equal-or-not (kindIn r) pieceKind)

@@ -4,20 +4,19 @@ use Prim.Native.Nat.{ℕ, zero, suc, _+_, _*_, _-_, _^_, _<_, _≤_}
 use mathlib.Core.Path.{_≡_, refl, sym, ap, _∙_}
 use mathlib.Core.Bool.{true}
 use mathlib.Core.List.{List, [], _++_}
-use mathlib.Core.Logic.{_⊎_, inl, inr, ⊎-elim}
+use mathlib.Core.Logic.{inl, inr, ⊎-elim}
 use native.Mathlib.Omega.{arith}
-use native.Mathlib.Nat.{lt-of-le-of-lt}
+use native.Mathlib.Nat.{lt-of-le-of-lt, eq-or-lt-of-le}
 use borrow.Author.Tests.{le-leb}
 use lib.Dec.{lit<}
-use lib.ListN.{length, take, drop, length-take}
+use lib.ListN.{length, take, drop, length-take, length-append}
 use Rattle.octets.specs.Lists.{All}
 use Rattle.octets.specs.Bytes.{leBytes, leField}
-use Rattle.octets.proofs.Value.{leField-at, length-leBytes}
-use Rattle.octets.proofs.Over.{le-or-lt}
+use Rattle.octets.proofs.Value.{leField-at}
 use Rattle.eif.specs.Numbers.{sizeLimit}
 use Rattle.eif.specs.Roll.{recordHeadSize, headOf}
-use Rattle.octets.proofs.Logic.{equal-or-not}
-use Rattle.assembler.specs.Records.{pieceSize, numberSize, openKind, pieceKind, sizeIn, kindIn, numberIn, dataIn, sizeFits, formed, piecesOf, placeIn}
+use Rattle.eif_lemmas.proofs.Head.{length-head, head-size, head-kind}
+use Rattle.assembler.specs.Records.{pieceSize, numberSize, openKind, pieceKind, numberIn, dataIn, sizeFits, formed, piecesOf, placeIn}
 use Rattle.assembler.specs.Step.{freshState}
 use Rattle.assembler.proofs.Form.{formed-fits}
 use Rattle.assembler_laws.specs.Run.{memory, OpenFor, PieceOf, Close, Sent, Pieces, Transfer}
@@ -25,27 +24,16 @@ use Rattle.assembler_laws.specs.Made.{openRecord, closeRecord, pieceReco
 
 -- ---- what the fields say
 
-module _ (size kind : ℕ) (rest : List ℕ) (a : size < 256 ^ 8) (b : kind < 256 ^ 2) where
-  size-in : sizeIn (headOf size kind ++ rest) ≡ size
-  unfolding headOf
-  size-in = leField-at 8 size 0 [] (leBytes 2 kind ++ rest) refl a
-
-  kind-in : kindIn (headOf size kind ++ rest) ≡ kind
-  unfolding headOf
-  kind-in = leField-at 2 kind 8 (leBytes 8 size) rest (length-leBytes 8 size) b
-
-  length-is : length (headOf size kind ++ rest) ≡ recordHeadSize + length rest
-  unfolding headOf
-  length-is = omega arith
-
-  form-is : size ≡ length rest → sizeFits kind size ≡ true → formed (headOf size kind ++ rest) ≡ true
-  form-is e f =
-      let n = length-is in
-      sym (formed-fits (headOf size kind ++ rest) (omega arith) size (sym size-in) (omega arith) kind (sym kind-in)) ∙ f
+form-is : (size kind : ℕ) (rest : List ℕ) → size < 2 ^ 64 → kind < 2 ^ 16 → size ≡ length rest → sizeFits kind size ≡ true
+    → formed (headOf size kind ++ rest) ≡ true
+form-is size kind rest a b e f =
+    let n = length-append (headOf size kind) rest in
+    let m = length-head size kind in
+    sym (formed-fits (headOf size kind ++ rest) (omega arith) size (sym (head-size size kind rest a)) (omega arith) kind (sym (head-kind size kind rest b)))
+    ∙ f
 
 number-in : (size kind n : ℕ) (rest : List ℕ) → n < 256 ^ numberSize → numberIn (headOf size kind ++ (leBytes numberSize n ++ rest)) ≡ n
-unfolding headOf
-number-in size kind n rest a = leField-at numberSize n recordHeadSize (headOf size kind) rest refl a
+number-in size kind n rest a = leField-at numberSize n recordHeadSize (headOf size kind) rest (length-head size kind) a
 
 bytes-in : (size kind n : ℕ) (rest : List ℕ) → dataIn (headOf size kind ++ (leBytes numberSize n ++ rest)) ≡ rest
 unfolding headOf
@@ -65,7 +53,7 @@ made-open m h =
     let rest = leBytes numberSize (length m) in
     record {
       form = form-is numberSize openKind rest (lit< tt) (lit< tt) refl refl;
-      kind = kind-in numberSize openKind rest (lit< tt) (lit< tt);
+      kind = head-kind numberSize openKind rest (lit< tt);
       announced = number-in numberSize openKind (length m) [] (small (length m) (omega arith));
     }
 
@@ -84,7 +72,7 @@ module _ (m : List ℕ) (h : length m ≤ sizeLimit) (k : ℕ) (b : k < piecesOf
       let s = small size part-size in
       record {
         form = form-is size pieceKind rest s (lit< tt) (rest-size) (le-leb numberSize size (omega arith));
-        kind = kind-in size pieceKind rest s (lit< tt);
+        kind = head-kind size pieceKind rest (lit< tt);
         inside = omega arith;
         on-grid = omega arith;
         bytes-are = bytes-in size pieceKind (k * pieceSize) part ∙ sym (ap (λ (i : ℕ). take pieceSize (drop i m)) n);
@@ -110,10 +98,10 @@ module _ (m : List ℕ) (h : length m ≤ sizeLimit) where
   unfolding Sent piecesFrom
   sent-made zero k j b c d = absurd (omega arith)
   sent-made (suc count) k j b c d =
-      ⊎-elim (λ e. inl (made-place m h k (omega arith) ∙ e)) (λ e. inr (sent-made count (suc k) j (omega arith) (later e) (omega arith))) (equal-or-not k j)
-    where
-      later : (k ≡ j → ⊥) → suc k ≤ j
-      later e = ⊎-elim (λ a. a) (λ a. absurd (e (omega arith))) (le-or-lt (suc k) j)
+      ⊎-elim
+      (λ (e : k ≡ j). inl (made-place m h k (omega arith) ∙ e))
+      (λ (e : k < j). inr (sent-made count (suc k) j (omega arith) e (omega arith)))
+      (eq-or-lt-of-le c)
 
   pub made-pieces : Pieces m (allPieces m)
   made-pieces =

@@ -5,12 +5,10 @@ use mathlib.Core.Path.{_≡_, refl, sym, ap, _∙_}
 use mathlib.Core.List.{List, [], _∷_, _++_}
 use mathlib.Core.Logic.{⊎-elim}
 use borrow.Author.Tests.{eq-eqb, ne-eqb}
-use lib.ListN.{length, drop, replicate}
-use Rattle.octets.proofs.Logic.{zero-or}
+use lib.ListN.{length}
+use Rattle.octets.proofs.Logic.{equal-or-not}
 use Rattle.eif.specs.declared.Verdict.the-variants.{Accepted}
-use Rattle.assembler.specs.Records.{piecesOf}
-use Rattle.assembler.specs.Step.{freshState}
-use Rattle.assembler_laws.specs.Run.{Memory, memory, answerTo, memoryAfter, faultAt, run, takenOf, AllAccepted}
+use Rattle.assembler_laws.specs.Run.{Memory, answerTo, memoryAfter, faultAt, run, takenOf, AllAccepted, EachCall, holding}
 use Rattle.assembler_laws.specs.Set.{CompleteSet, joinedPieces, SetTransfer}
 use Rattle.assembler_laws.proofs.Calls.{refused-keeps}
 use Rattle.assembler_laws.proofs.Transfer.{run-append}
@@ -27,10 +25,10 @@ run-taken (r ∷ rs) w =
     run-taken rs (memoryAfter w r)
     ∙ ap (λ (v : Memory). run v (takenOf (memoryAfter w r) rs)) (refused-keeps w r h .1)
     ∙ rw (ne-eqb (faultAt w r) 0 h) refl)
-    (zero-or (faultAt w r))
+    (equal-or-not (faultAt w r) 0)
 
 last-accepted : (rs : List (List ℕ)) (w : Memory) (c : List ℕ) → AllAccepted w (rs ++ (c ∷ [])) → answerTo (run w rs) c .verdict ≡ Accepted
-unfolding AllAccepted run
+unfolding EachCall run
 last-accepted [] w c a = a .0
 last-accepted (r ∷ rs) w c a = last-accepted rs (memoryAfter w r) c (a .1)
 
@@ -55,11 +53,9 @@ module _ (n : ℕ) (ps : List (List ℕ)) (all : CompleteSet n ps) (w : Memory) 
         ap (λ (v : Memory). answerTo v c .length) (sym full-is)
         ∙ any-order n ps all w o (takenOf (memoryAfter w o) rs) c t .reported ∙ image-length n ps all
 
-    pub close-leaves-all : memoryAfter (run (memoryAfter w o) rs) c
-        ≡ memory freshState (joinedPieces n ps ++ drop (length (joinedPieces n ps)) (w .image))
-        (replicate (piecesOf (length (joinedPieces n ps))) 1 ++ drop (piecesOf (length (joinedPieces n ps))) (w .marks))
+    pub close-leaves-all : memoryAfter (run (memoryAfter w o) rs) c ≡ holding (joinedPieces n ps) (w .image) (w .marks)
     unfolding run
     close-leaves-all =
         ap (λ (v : Memory). memoryAfter v c) (sym full-is)
-        ∙ sym (run-append (o ∷ takenOf (memoryAfter w o) rs) w (c ∷ []))
+        ∙ sym (run-append w (o ∷ takenOf (memoryAfter w o) rs) (c ∷ []))
         ∙ any-order n ps all w o (takenOf (memoryAfter w o) rs) c t .left

@@ -2,33 +2,30 @@
 -- order and with any repeats, is taken, and a close then reports the image's length and leaves the image. Assumes nothing.
 use Prim.Native.Nat.{ℕ, _+_, _-_, _/_, _<_, _≤_, min}
 use mathlib.Core.Path.{_≡_, refl, sym, ap, subst, _∙_}
-use mathlib.Core.Bool.{Bool, true, false, not}
+use mathlib.Core.Bool.{true, false}
 use mathlib.Core.List.{List, [], _∷_, _++_}
 use mathlib.Core.Logic.{_⊎_, inl, inr, ⊎-elim}
 use native.Mathlib.Omega.{arith}
-use native.Mathlib.Nat.{zero-add}
 use lib.ListN.{length, take, drop, getD, replicate, length-take, length-drop, length-set, length-replicate, getD-replicate}
-use lib.Seq.{getD-take, getD-drop, getD-set-same, getD-set-other, ext-getD, take-at}
+use lib.Seq.{getD-set-same, getD-set-other, take-at}
 use Rattle.assembler.proofs.Faults.{LongEnough}
 use Rattle.octets.specs.Lists.{All}
-use Rattle.octets.specs.Over.{over}
-use Rattle.octets.proofs.Over.{length-over, le-or-lt}
+use Rattle.octets.proofs.Lists.{taken-append}
+use Rattle.octets.proofs.Over.{length-over}
 use Rattle.eif.specs.Numbers.{sizeLimit}
-use Rattle.octets.specs.Logic.{both}
 use Rattle.eif.specs.declared.Verdict.the-variants.{Accepted}
-use Rattle.octets.proofs.Logic.{both-none, equal-or-not}
+use Rattle.octets.proofs.Logic.{equal-or-not, not-both}
+use Rattle.octets.proofs.Fields.{part-byte}
 use Rattle.assembler.specs.Records.{pieceSize, closeKind, kindIn, numberIn, dataIn, piecesOf, pieceSizeAt, placeIn}
-use Rattle.assembler.specs.Rules.{allHeld, isHeld, standing, heldWithOther, faultOf, isOpened}
+use Rattle.assembler.specs.Rules.{allHeld, isHeld, standing, heldWithOther, isOpened}
 use Rattle.assembler.specs.Step.{openState, freshState, stepped}
 use Rattle.assembler.specs.declared.State.{State}
 use Rattle.assembler.specs.declared.Stepped.{Stepped}
-use Rattle.assembler.proofs.Piece.{place-in, piece-in, held-yes, held-no, not-held}
-use Rattle.assembler.proofs.Steps.{step-opened, step-taken, step-closed}
-use Rattle.assembler_laws.specs.Run.{Memory, memory, answerTo, memoryAfter, run, AllAccepted, OpenFor, PieceOf, Close, Sent, Pieces, Transfer, Assembled}
-use Rattle.octets.proofs.Same.{equal-same}
-use Rattle.assembler_laws.proofs.Lists.{over-other, over-in, starts-with, all-held}
-use Rattle.assembler_laws.proofs.Accept.{open-fine, piece-fine, close-fine}
-use Rattle.assembler_laws.proofs.Calls.{called, repeat-keeps, piecePut, put-left}
+use Rattle.assembler.proofs.Piece.{place-in, piece-in, held-no, not-held, same-agrees}
+use Rattle.assembler_laws.specs.Run.{Memory, memory, answerTo, memoryAfter, run, AllAccepted, OpenFor, PieceOf, Close, Sent, Pieces, Transfer, Assembled, EachCall, Outside, faultAt, holding, PieceFor}
+use Rattle.assembler_laws.proofs.Lists.{over-other, over-in, starts-with, all-held, part-is}
+use Rattle.assembler_laws.proofs.Accept.{open-fine, piece-fine, close-fine, open-enough}
+use Rattle.assembler_laws.proofs.Calls.{taken-accepts, piecePut, image-elsewhere, marks-elsewhere, lengths-kept, opened-state, opened-marks, out-or-in, close-ends, equal-parts, after-taken, opened-accepts}
 
 -- ---- while a transfer of m is open, over buffers that first held x and y
 
@@ -50,13 +47,12 @@ pub record PieceAdded (m x y : List ℕ) (w : Memory) (place : ℕ) (v : Memory)
 
 -- ---- calls in turn
 
-pub run-append : (rs : List (List ℕ)) (w : Memory) (ss : List (List ℕ)) → run w (rs ++ ss) ≡ run (run w rs) ss
+pub run-append : (w : Memory) (rs ss : List (List ℕ)) → run w (rs ++ ss) ≡ run (run w rs) ss
 unfolding run
-run-append [] w ss = refl
-run-append (r ∷ rs) w ss = run-append rs (memoryAfter w r) ss
+run-append w rs ss = taken-append run (λ v. refl) (λ v r l. refl) w rs ss
 
 accepted-append : (rs : List (List ℕ)) (w : Memory) (ss : List (List ℕ)) → AllAccepted w rs → AllAccepted (run w rs) ss → AllAccepted w (rs ++ ss)
-unfolding AllAccepted run
+unfolding EachCall run
 accepted-append [] w ss a b = b
 accepted-append (r ∷ rs) w ss a b = (a .0, accepted-append rs (memoryAfter w r) ss (a .1) b)
 
@@ -70,19 +66,8 @@ module _ (m x y : List ℕ) (image-room : length m ≤ length x) (mark-room : pi
     pub open-now : isOpened (w .state) ≡ true
     open-now = ap (λ (s : State). isOpened s) (g .state-is)
 
-    long-enough : LongEnough (w .state) (w .image) (w .marks)
-    long-enough =
-        let a = size-is in
-        let b : w .state .room ≡ length x = ap (λ (s : State). s .room) (g .state-is) in
-        let c : w .state .places ≡ length y = ap (λ (s : State). s .places) (g .state-is) in
-        let d = g .image-length in
-        let e = g .marks-length in
-        record {
-          image-room = omega arith;
-          mark-room = rw a (omega arith);
-          image-kept = omega arith;
-          marks-kept = omega arith;
-        }
+    long-enough : LongEnough (w .state) (length (w .image)) (length (w .marks))
+    long-enough = rw (g .state-is, g .image-length, g .marks-length) (open-enough (length m) (length x) (length y) image-room mark-room)
 
     module _ (r : List ℕ) (p : PieceOf m r) where
       count-is : length (dataIn r) ≡ pieceSizeAt (length m) (numberIn r)
@@ -97,8 +82,7 @@ module _ (m x y : List ℕ) (image-room : length m ≤ length x) (mark-room : pi
       byte-is : (j : ℕ) → j < length (dataIn r) → getD (dataIn r) j 0 ≡ getD m (numberIn r + j) 0
       byte-is j h =
           let c = count-is in
-          ap (λ (l : List ℕ). getD l j 0) (p .bytes-are)
-          ∙ getD-take pieceSize (drop (numberIn r) m) j 0 (omega arith) ∙ getD-drop (numberIn r) m j 0
+          ap (λ (l : List ℕ). getD l j 0) (p .bytes-are) ∙ part-byte pieceSize (numberIn r) j m (omega arith)
 
       -- a byte of the piece has the piece's mark
       mark-is : (j : ℕ) → j < length (dataIn r) → (numberIn r + j) / pieceSize ≡ placeIn r
@@ -107,132 +91,98 @@ module _ (m x y : List ℕ) (image-room : length m ≤ length x) (mark-room : pi
           let o = p .on-grid in
           omega arith
 
-      module _ (no-other : heldWithOther r (w .image) (w .marks) ≡ false) where
-        taken : faultOf (w .state) r (w .image) (w .marks) ≡ 0
-        taken =
-            let s = size-is in
-            let i = p .inside in
-            piece-fine (w .state) r (w .image) (w .marks) (p .form) open-now long-enough (p .kind) (omega arith) (p .on-grid)
-            (count-is ∙ ap (λ (n : ℕ). pieceSizeAt n (numberIn r)) (sym s)) no-other
+      -- held already, it stands there
+      stands : getD (w .marks) (placeIn r) 0 ≡ 1 → standing r (w .image) ≡ dataIn r
+      stands e =
+          let f = fits in
+          let n = g .image-length in
+          part-is (w .image) (numberIn r) (dataIn r) (omega arith)
+          (λ j h. g .right (numberIn r + j) (omega arith) (ap (λ (k : ℕ). getD (w .marks) k 0) (mark-is j h) ∙ e) ∙ sym (byte-is j h))
 
-        accepts : answerTo w r .verdict ≡ Accepted
-        accepts = sym (ap (λ (a : Stepped). a .verdict) (step-taken (w .state) r (w .image) (w .marks) taken (p .kind) .0))
+      free : getD (w .marks) (placeIn r) 0 ≡ 0 → isHeld r (w .marks) ≡ false
+      free e = held-no r (w .marks) (numberIn r) refl e
 
-      -- held already
-      module _ (e : getD (w .marks) (placeIn r) 0 ≡ 1) where
-        held-now : isHeld r (w .marks) ≡ true
-        held-now = held-yes r (w .marks) (numberIn r) refl (λ z. omega arith)
+      agrees : heldWithOther r (w .image) (w .marks) ≡ false
+      agrees =
+          ⊎-elim (λ e. sym (not-held r (w .marks) (w .image) (free e))) (λ e. same-agrees r (w .marks) (w .image) (stands e)) (g .zero-or-one (placeIn r) place-is)
 
-        stands : standing r (w .image) ≡ dataIn r
-        stands =
-            let f = fits in
-            let n = g .image-length in
-            let d = length-drop (numberIn r) (w .image) in
-            let t = length-take (length (dataIn r)) (drop (numberIn r) (w .image)) in
-            let c : length (standing r (w .image)) ≡ length (dataIn r) = omega arith in
-            ext-getD 0 (standing r (w .image)) (dataIn r) c
-            (λ j h.
-            let b : j < length (dataIn r) = omega arith in
-            getD-take (length (dataIn r)) (drop (numberIn r) (w .image)) j 0 b ∙ getD-drop (numberIn r) (w .image) j 0
-            ∙ g .right (numberIn r + j) (omega arith) (ap (λ (k : ℕ). getD (w .marks) k 0) (mark-is j b) ∙ e)
-            ∙ sym (byte-is j b))
+      taken : faultAt w r ≡ 0
+      taken =
+          piece-fine (w .state) r (w .image) (w .marks) open-now long-enough
+          (subst (λ (n : ℕ). PieceFor n r) (sym size-is) (record { form = p .form; kind = p .kind; inside = p .inside; on-grid = p .on-grid; bytes-are = count-is }))
+          agrees
 
-        agrees : heldWithOther r (w .image) (w .marks) ≡ false
-        agrees =
-            ap (λ (t : Bool). both (isHeld r (w .marks)) (not t)) (equal-same (standing r (w .image)) (dataIn r) stands)
-            ∙ both-none (isHeld r (w .marks))
+      next-held : isHeld r (w .marks) ≡ true → PieceAdded m x y w (placeIn r) w
+      next-held h =
+          record {
+            open-still = g;
+            here = ⊎-elim (λ e. not-both (sym (free e) ∙ h)) (λ e. e) (g .zero-or-one (placeIn r) place-is);
+            still = λ k e. e;
+          }
 
-        stays : memoryAfter w r ≡ w
-        stays = repeat-keeps w r (taken agrees) (p .kind) held-now .1
+      -- not held yet, it is put
+      abbrev put : Memory
+      put = piecePut w r
 
-        next-held : PieceAdded m x y w (placeIn r) (memoryAfter w r)
-        next-held = subst (PieceAdded m x y w (placeIn r)) (sym stays) (record { open-still = g; here = e; still = λ k h. h })
+      set-here : (k : ℕ) → k ≡ placeIn r → getD (put .marks) k 0 ≡ 1
+      set-here k z =
+          let n = g .marks-length in
+          let q = place-is in
+          ap (λ (n : ℕ). getD (put .marks) n 0) z ∙ getD-set-same (w .marks) (placeIn r) 1 0 (omega arith)
 
-      -- not held yet
-      module _ (e : getD (w .marks) (placeIn r) 0 ≡ 0) where
-        free : isHeld r (w .marks) ≡ false
-        free = held-no r (w .marks) (numberIn r) refl e
+      set-other : (k : ℕ) → (k ≡ placeIn r → ⊥) → getD (put .marks) k 0 ≡ getD (w .marks) k 0
+      set-other k h = getD-set-other (w .marks) (placeIn r) k 1 0 h
 
-        passes : heldWithOther r (w .image) (w .marks) ≡ false
-        passes = sym (not-held r (w .marks) (w .image) free)
+      outside : (i : ℕ) → i < length m → Outside i r → i / pieceSize ≡ placeIn r → ⊥
+      outside i h o q =
+          let c = count-is in
+          let n = p .on-grid in
+          ⊎-elim (λ a. omega arith) (λ a. omega arith) o
 
-        abbrev put : Memory
-        put = piecePut w r (taken passes) (p .kind)
+      right-outside : (i : ℕ) → i < length m → getD (put .marks) (i / pieceSize) 0 ≡ 1 → Outside i r → getD (put .image) i 0 ≡ getD m i 0
+      right-outside i h q o =
+          over-other (w .image) (numberIn r) (dataIn r) i o ∙ g .right i h (sym (set-other (i / pieceSize) (outside i h o)) ∙ q)
 
-        writes : memoryAfter w r ≡ put
-        writes = put-left w r (taken passes) (p .kind) free
+      right-inside : (i : ℕ) → numberIn r ≤ i → i < numberIn r + length (dataIn r) → getD (put .image) i 0 ≡ getD m i 0
+      right-inside i a b =
+          let f = fits in
+          let n = g .image-length in
+          let j : numberIn r + (i - numberIn r) ≡ i = omega arith in
+          sym (ap (λ (k : ℕ). getD (put .image) k 0) j)
+          ∙ over-in (w .image) (numberIn r) (dataIn r) (i - numberIn r) (omega arith) (omega arith)
+          ∙ byte-is (i - numberIn r) (omega arith) ∙ ap (λ (k : ℕ). getD m k 0) j
 
-        set-here : getD (put .marks) (placeIn r) 0 ≡ 1
-        set-here =
-            let n = g .marks-length in
-            let q = place-is in
-            getD-set-same (w .marks) (placeIn r) 1 0 (omega arith)
+      next-put : PieceAdded m x y w (placeIn r) put
+      next-put =
+          record {
+            open-still =
+                record {
+                  state-is = g .state-is;
+                  image-length = length-over (w .image) (numberIn r) (dataIn r) ∙ g .image-length;
+                  marks-length = length-set (w .marks) (placeIn r) 1 ∙ g .marks-length;
+                  right = λ i h q. ⊎-elim (λ a. right-outside i h q a) (λ a. right-inside i (a .0) (a .1)) (out-or-in i r);
+                  zero-or-one = zero-or-one-put;
+                  image-rest = λ i h. let f = fits in over-other (w .image) (numberIn r) (dataIn r) i (inr (omega arith)) ∙ g .image-rest i h;
+                  marks-rest = λ k h. let q = place-is in set-other k (λ z. omega arith) ∙ g .marks-rest k h;
+                };
+            here = set-here (placeIn r) refl;
+            still = still-put;
+          }
+        where
+          zero-or-one-put : (k : ℕ) → k < piecesOf (length m) → (getD (put .marks) k 0 ≡ 0) ⊎ (getD (put .marks) k 0 ≡ 1)
+          zero-or-one-put k h =
+              ⊎-elim (λ z. inr (set-here k z))
+              (λ z. ⊎-elim (λ q. inl (set-other k z ∙ q)) (λ q. inr (set-other k z ∙ q)) (g .zero-or-one k h))
+              (equal-or-not k (placeIn r))
 
-        set-other : (k : ℕ) → (k ≡ placeIn r → ⊥) → getD (put .marks) k 0 ≡ getD (w .marks) k 0
-        set-other k h = getD-set-other (w .marks) (placeIn r) k 1 0 h
-
-        outside : (i : ℕ) → i < length m → (i < numberIn r) ⊎ (numberIn r + length (dataIn r) ≤ i) → i / pieceSize ≡ placeIn r → ⊥
-        outside i h o q =
-            let c = count-is in
-            let n = p .on-grid in
-            ⊎-elim (λ a. omega arith) (λ a. omega arith) o
-
-        right-outside : (i : ℕ) → i < length m → getD (put .marks) (i / pieceSize) 0 ≡ 1
-            → (i < numberIn r) ⊎ (numberIn r + length (dataIn r) ≤ i) → getD (put .image) i 0 ≡ getD m i 0
-        right-outside i h q o =
-            over-other (w .image) (numberIn r) (dataIn r) i o ∙ g .right i h (sym (set-other (i / pieceSize) (outside i h o)) ∙ q)
-
-        right-inside : (i : ℕ) → numberIn r ≤ i → i < numberIn r + length (dataIn r) → getD (put .image) i 0 ≡ getD m i 0
-        right-inside i a b =
-            let f = fits in
-            let n = g .image-length in
-            let j : numberIn r + (i - numberIn r) ≡ i = omega arith in
-            sym (ap (λ (k : ℕ). getD (put .image) k 0) j)
-            ∙ over-in (w .image) (numberIn r) (dataIn r) (i - numberIn r) (omega arith) (omega arith)
-            ∙ byte-is (i - numberIn r) (omega arith) ∙ ap (λ (k : ℕ). getD m k 0) j
-
-        next-put : PieceAdded m x y w (placeIn r) put
-        next-put =
-            record {
-              open-still =
-                  record {
-                    state-is = g .state-is;
-                    image-length = length-over (w .image) (numberIn r) (dataIn r) ∙ g .image-length;
-                    marks-length = length-set (w .marks) (placeIn r) 1 ∙ g .marks-length;
-                    right =
-                        λ i h q.
-                        ⊎-elim
-                        (λ a. ⊎-elim (λ b. right-outside i h q (inr b)) (λ b. right-inside i a b) (le-or-lt (numberIn r + length (dataIn r)) i))
-                        (λ a. right-outside i h q (inl a))
-                        (le-or-lt (numberIn r) i);
-                    zero-or-one = zero-or-one-put;
-                    image-rest = λ i h. let f = fits in over-other (w .image) (numberIn r) (dataIn r) i (inr (omega arith)) ∙ g .image-rest i h;
-                    marks-rest = λ k h. let q = place-is in set-other k (λ z. omega arith) ∙ g .marks-rest k h;
-                  };
-              here = set-here;
-              still = still-put;
-            }
-          where
-            zero-or-one-put : (k : ℕ) → k < piecesOf (length m) → (getD (put .marks) k 0 ≡ 0) ⊎ (getD (put .marks) k 0 ≡ 1)
-            zero-or-one-put k h =
-                ⊎-elim (λ z. inr (ap (λ (n : ℕ). getD (put .marks) n 0) z ∙ set-here))
-                (λ z. ⊎-elim (λ q. inl (set-other k z ∙ q)) (λ q. inr (set-other k z ∙ q)) (g .zero-or-one k h))
-                (equal-or-not k (placeIn r))
-
-            still-put : (k : ℕ) → getD (w .marks) k 0 ≡ 1 → getD (put .marks) k 0 ≡ 1
-            still-put k q =
-                ⊎-elim (λ z. ap (λ (n : ℕ). getD (put .marks) n 0) z ∙ set-here) (λ z. set-other k z ∙ q) (equal-or-not k (placeIn r))
-
-        next-free : PieceAdded m x y w (placeIn r) (memoryAfter w r)
-        next-free = subst (PieceAdded m x y w (placeIn r)) (sym writes) next-put
+          still-put : (k : ℕ) → getD (w .marks) k 0 ≡ 1 → getD (put .marks) k 0 ≡ 1
+          still-put k q =
+              ⊎-elim (λ z. set-here k z) (λ z. set-other k z ∙ q) (equal-or-not k (placeIn r))
 
       -- either way
       pub one-piece : (answerTo w r .verdict ≡ Accepted) × PieceAdded m x y w (placeIn r) (memoryAfter w r)
       one-piece =
-          ⊎-elim
-          (λ e. (accepts (passes e), next-free e))
-          (λ e. (accepts (agrees e), next-held e))
-          (g .zero-or-one (placeIn r) place-is)
+          (taken-accepts w r taken (p .kind), after-taken w r taken (p .kind) (PieceAdded m x y w (placeIn r)) next-held (λ h. next-put))
 
   -- ---- any number of pieces
 
@@ -243,7 +193,7 @@ module _ (m x y : List ℕ) (image-room : length m ≤ length x) (mark-room : pi
     still : (k : ℕ) → getD (w .marks) k 0 ≡ 1 → getD (run w rs .marks) k 0 ≡ 1
 
   through : (rs : List (List ℕ)) (w : Memory) → InProgress m x y w → All (PieceOf m) rs → Through w rs
-  unfolding AllAccepted run Sent All
+  unfolding EachCall run Sent All
   through [] w g a = record { accepted = tt; open-still = g; held-all = λ k s. absurd s; still = λ k h. h }
   through (r ∷ rs) w g a =
       let o = one-piece w g r (a .0) in
@@ -260,7 +210,7 @@ module _ (m x y : List ℕ) (image-room : length m ≤ length x) (mark-room : pi
   -- ---- a close that is taken when every piece is held
 
   module _ (full : Memory) (g : InProgress m x y full) (complete : (k : ℕ) → k < piecesOf (length m) → getD (full .marks) k 0 ≡ 1)
-      (c : List ℕ) (taken : faultOf (full .state) c (full .image) (full .marks) ≡ 0) (kind : kindIn c ≡ closeKind) where
+      (c : List ℕ) (taken : faultAt full c ≡ 0) (kind : kindIn c ≡ closeKind) where
     image-is : full .image ≡ m ++ drop (length m) x
     image-is =
         starts-with (full .image) m x (g .image-length) image-room
@@ -277,14 +227,10 @@ module _ (m x y : List ℕ) (image-room : length m ≤ length x) (mark-room : pi
         ∙ ap (λ (j : ℕ). ones ++ drop j y) n
 
     pub close-answer : answerTo full c ≡ stepped Accepted freshState (length m)
-    close-answer =
-        sym (step-closed (full .state) c (full .image) (full .marks) taken kind .0) ∙ ap (λ (n : ℕ). stepped Accepted freshState n) (size-is full g)
+    close-answer = close-ends full c taken kind .0 ∙ ap (λ (n : ℕ). stepped Accepted freshState n) (size-is full g)
 
-    pub close-leaves : memoryAfter full c ≡ memory freshState (m ++ drop (length m) x) (replicate (piecesOf (length m)) 1 ++ drop (piecesOf (length m)) y)
-    close-leaves =
-        called full c _ _ _ (step-closed (full .state) c (full .image) (full .marks) taken kind)
-        ∙ ap (λ (l : List ℕ). memory freshState l (full .marks)) image-is
-        ∙ ap (λ (l : List ℕ). memory freshState (m ++ drop (length m) x) l) marks-are
+    pub close-leaves : memoryAfter full c ≡ holding m x y
+    close-leaves = close-ends full c taken kind .1 ∙ equal-parts refl image-is marks-are
 
   -- ---- the open
 
@@ -292,44 +238,24 @@ module _ (m x y : List ℕ) (image-room : length m ≤ length x) (mark-room : pi
     abbrev pub begun : Memory
     begun = memory st x y
 
-    open-taken : faultOf st o x y ≡ 0
-    open-taken =
-        let n = opens .announced in
-        open-fine st o x y (opens .form) (opens .kind) closed (rw n small) (rw n image-room) (rw n mark-room)
+    open-taken : faultAt begun o ≡ 0
+    open-taken = open-fine st o x y (length m) opens closed small image-room mark-room
 
-    open-accepts : answerTo begun o .verdict ≡ Accepted
-    open-accepts = sym (ap (λ (a : Stepped). a .verdict) (step-opened st o x y open-taken (opens .kind) .0))
-
-    abbrev cleared : List ℕ
-    cleared = over y 0 (replicate (piecesOf (length m)) 0)
-
-    opened-memory : memoryAfter begun o ≡ memory (openState (length m) (length x) (length y)) x cleared
-    opened-memory =
-        called begun o _ _ _ (step-opened st o x y open-taken (opens .kind))
-        ∙ ap (λ (n : ℕ). memory (openState n (length x) (length y)) x (over y 0 (replicate (piecesOf n) 0))) (opens .announced)
-
-    cleared-at : (k : ℕ) → k < piecesOf (length m) → getD cleared k 0 ≡ 0
-    cleared-at k h =
-        let n = length-replicate {A = ℕ} (piecesOf (length m)) 0 in
-        sym (ap (λ (j : ℕ). getD cleared j 0) (zero-add k))
-        ∙ over-in y 0 (replicate (piecesOf (length m)) 0) k (omega arith) (omega arith)
-        ∙ getD-replicate (piecesOf (length m)) k 0 0 h
+    cleared : (k : ℕ) → k < piecesOf (length m) → getD (memoryAfter begun o .marks) k 0 ≡ 0
+    cleared k h = opened-marks begun o open-taken (opens .kind) k (rw (opens .announced) h)
 
     pub starts : InProgress m x y (memoryAfter begun o)
     starts =
-        subst (InProgress m x y) (sym opened-memory)
-        (record {
-          state-is = refl;
-          image-length = refl;
-          marks-length = length-over y 0 (replicate (piecesOf (length m)) 0);
-          right = λ i h q. let z = cleared-at (i / pieceSize) (place-in (length m) i h) in absurd (omega arith);
-          zero-or-one = λ k h. inl (cleared-at k h);
-          image-rest = λ i h. refl;
-          marks-rest =
-              λ k h.
-              let n = length-replicate {A = ℕ} (piecesOf (length m)) 0 in
-              over-other y 0 (replicate (piecesOf (length m)) 0) k (inr (omega arith));
-        })
+        let kind = opens .kind in
+        record {
+          state-is = opened-state begun o open-taken kind ∙ ap (λ (n : ℕ). openState n (length x) (length y)) (opens .announced);
+          image-length = lengths-kept begun o .0;
+          marks-length = lengths-kept begun o .1;
+          right = λ i h q. let z = cleared (i / pieceSize) (place-in (length m) i h) in absurd (omega arith);
+          zero-or-one = λ k h. inl (cleared k h);
+          image-rest = λ i h. image-elsewhere begun o i (λ a e. absurd (omega arith));
+          marks-rest = λ k h. marks-elsewhere begun o k (λ e. rw (opens .announced) h, λ e i. omega arith);
+        }
 
     -- ---- the close
 
@@ -346,10 +272,10 @@ module _ (m x y : List ℕ) (image-room : length m ≤ length x) (mark-room : pi
       complete : (k : ℕ) → k < piecesOf (length m) → getD (full .marks) k 0 ≡ 1
       complete k h = t .held-all k (pieces .cover k h)
 
-      close-taken : faultOf (full .state) c (full .image) (full .marks) ≡ 0
+      close-taken : faultAt full c ≡ 0
       close-taken =
           let n = g .marks-length in
-          close-fine (full .state) c (full .image) (full .marks) (closes .form) (open-now full g) (long-enough full g) (closes .kind)
+          close-fine (full .state) c (full .image) (full .marks) (open-now full g) (long-enough full g) closes
           (ap (λ (k : ℕ). allHeld (take (piecesOf k) (full .marks))) (size-is full g)
           ∙ all-held (full .marks) (piecesOf (length m)) (omega arith) (λ k h z. let e = complete k h in omega arith))
 
@@ -357,12 +283,12 @@ module _ (m x y : List ℕ) (image-room : length m ≤ length x) (mark-room : pi
       answer-is = close-answer full g complete c close-taken (closes .kind)
 
       pub ends : Assembled m begun o rs c
-      unfolding AllAccepted run
+      unfolding EachCall run
       ends =
           record {
-            accepted = (open-accepts, accepted-append rs (memoryAfter begun o) (c ∷ []) (t .accepted) (ap (λ (a : Stepped). a .verdict) answer-is, tt));
+            accepted = (opened-accepts begun o open-taken (opens .kind), accepted-append rs (memoryAfter begun o) (c ∷ []) (t .accepted) (ap (λ (a : Stepped). a .verdict) answer-is, tt));
             reported = ap (λ (a : Stepped). a .length) answer-is;
-            left = run-append rs (memoryAfter begun o) (c ∷ []) ∙ close-leaves full g complete c close-taken (closes .kind);
+            left = run-append (memoryAfter begun o) rs (c ∷ []) ∙ close-leaves full g complete c close-taken (closes .kind);
           }
 
 -- every transfer of m, whatever the order of its pieces and however often each comes

@@ -5,8 +5,7 @@ use mathlib.Core.List.{List}
 use lib.ListN.{length}
 use Rattle.octets.specs.Bytes.{beBytes}
 use Rattle.octets.specs.Over.{over}
-use Rattle.eif.specs.Layout.{magicNumber, sectionHeaderSize, sectionFlagsAt, sectionSizeAt, magicAt, versionAt, headerFlagsAt, countAt, offsetsAt, sizesAt, checksumAt, entrySize, entryAt}
-use Rattle.eif.specs.Reading.{checksumOf}
+use Rattle.eif.specs.Layout.{magicNumber, sectionHeaderSize, sectionFlagsAt, sectionSizeAt, magicAt, versionAt, headerFlagsAt, countAt, offsetsAt, sizesAt, entrySize, entryAt}
 use Rattle.eif.specs.declared.Place.{Place}
 
 abbrev pub withHeader : List ℕ → ℕ → ℕ → ℕ → List ℕ
@@ -22,10 +21,6 @@ withOwnHeader s at kind flags size = over (over (over s at (beBytes 2 kind)) (at
 abbrev pub withSection : List ℕ → ℕ → ℕ → ℕ → ℕ → List ℕ → List ℕ
 withSection s i at kind flags bytes =
     over (withOwnHeader (withEntry s i at (length bytes)) at kind flags (length bytes)) (at + sectionHeaderSize) bytes
-
--- with the right checksum of the whole buffer
-abbrev pub withOwnChecksum : List ℕ → List ℕ
-withOwnChecksum s = over s checksumAt (beBytes 4 (checksumOf s))
 
 -- a place of a plan
 abbrev pub placeWith : ℕ → ℕ → ℕ → Place

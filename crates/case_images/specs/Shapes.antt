@@ -3,10 +3,8 @@
 use Prim.Native.Nat.{ℕ, zero, suc, _+_, _*_, _-_, min}
 use mathlib.Core.List.{List}
 use lib.ListN.{length, take, drop, getD, replicate}
-use Rattle.octets.specs.Bytes.{beBytes}
-use Rattle.octets.specs.Over.{over}
 use Rattle.eif.specs.Layout.{headerSize, sectionHeaderSize, checksumAt}
-use Rattle.eif.specs.Reading.{checksumOf}
+use Rattle.eif_checksum.specs.Put.{withChecksum}
 use Rattle.case_images.specs.Build.{withHeader, withSection}
 use Rattle.case_images.specs.declared.Shape.{Shape}
 
@@ -55,6 +53,4 @@ withoutChecksum s shape bytes =
 
 -- these and the checksum of the image, which is the first bytes of the buffer
 abbrev pub withImage : List ℕ → Shape → List ℕ → List ℕ
-withImage s shape bytes =
-    over (withoutChecksum s shape bytes) checksumAt
-    (beBytes 4 (checksumOf (take (min (endOf shape (length bytes)) (length s)) (withoutChecksum s shape bytes))))
+withImage s shape bytes = withChecksum (withoutChecksum s shape bytes) (min (endOf shape (length bytes)) (length s)) checksumAt

@@ -59,10 +59,7 @@ pub fn hex(bytes: &[u8]) {
 }
 
 pub fn say(verdict: Verdict) {
-    let said = answer(verdict);
-    let bytes = said.bytes;
-    let length = said.length;
-    text(&bytes[..length]);
+    eif_print::print(answer(verdict));
 }
 
 // Without the position, for calls whose refusals have none.

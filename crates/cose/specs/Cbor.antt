@@ -6,6 +6,7 @@ use lib.Dec.{ltb}
 use lib.ListN.{length}
 use Rattle.octets.specs.Bytes.{beBytes}
 use Rattle.octets.specs.Logic.{choose}
+use Rattle.octets.specs.Lists.{joinedBy}
 
 -- ---- major types (RFC 8949, 3.1)
 
@@ -67,6 +68,5 @@ unfoldable pub stringBytes : ℕ → List ℕ → List ℕ
 stringBytes major s = headBytes major (length s) ++ s
 
 -- unsigned numbers, one after the other
-unfoldable pub numbersBytes : List ℕ → List ℕ
-numbersBytes [] = []
-numbersBytes (x ∷ xs) = headBytes unsigned x ++ numbersBytes xs
+abbrev pub numbersBytes : List ℕ → List ℕ
+numbersBytes l = joinedBy (headBytes unsigned) l

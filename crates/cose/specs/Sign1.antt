@@ -8,12 +8,13 @@ use lib.Dec.{ltb, eqb}
 use lib.ListN.{length}
 use Rattle.octets.specs.Bytes.{AreBytes}
 use Rattle.octets.specs.Logic.{choose, both}
+use Rattle.sha384_block.specs.Fips.{digestSize}
 use Rattle.cose.specs.Cbor.{unsigned, negative, byteString, textString, elements, pairs, headBytes, stringBytes, numbersBytes}
 use Rattle.cose.specs.declared.Claim.{Claim}
 
--- the bytes of a register's value
+-- the bytes of a register's value, which is a SHA-384 digest
 abbrev pub registerSize : ℕ
-registerSize = 48
+registerSize = digestSize
 
 -- no COSE_Sign1 of this form is longer: `no-longer` of cose_laws/proofs/Places.antt
 abbrev pub longest : ℕ

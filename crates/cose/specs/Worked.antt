@@ -6,7 +6,7 @@ use lib.ListN.{length, replicate}
 use Rattle.eif.specs.Answers.{refuse}
 use Rattle.cose.specs.Write.{sign1Verdict}
 use Rattle.cose.specs.Read.{readSign1, sign1Formed, refusedSign1, signatureStart, algorithmOf, valueStart, indexStart, numberEnd, numberWidth, bytesEnd, byteEnd}
-use Rattle.cose.specs.Cbor.{unsigned, negative, headBytes, stringBytes, numbersBytes}
+use Rattle.cose.specs.Cbor.{unsigned, negative, headBytes, stringBytes}
 use Rattle.cose.specs.Sign1.{longest, es256, es384, es512, signatureSize, protectedBytes, indexPair, valuePair, payloadBytes, sign1Bytes, signatureFits}
 use Rattle.cose.specs.declared.Claim.{Claim}
 
@@ -51,12 +51,12 @@ worked-bytes : sign1Bytes workedClaim (replicate 96 0x5a)
     ++ (replicate 46 0x17 ++ ((0x18 ∷ 0x18 ∷ 0x18 ∷ 0xff ∷ [])
     -- a byte string of 96
     ++ (0x58 ∷ 0x60 ∷ replicate 96 0x5a)))))
-unfolding sign1Bytes protectedBytes payloadBytes indexPair valuePair stringBytes numbersBytes headBytes
+unfolding sign1Bytes protectedBytes payloadBytes indexPair valuePair stringBytes headBytes
 worked-bytes = refl
 
 -- the longest there is
 longest-there : length (sign1Bytes (record { algorithm = es512; «register_index» = 18446744073709551615; «register_value» = replicate 48 255 }) (replicate 132 0)) ≡ longest
-unfolding sign1Bytes protectedBytes payloadBytes indexPair valuePair stringBytes numbersBytes headBytes
+unfolding sign1Bytes protectedBytes payloadBytes indexPair valuePair stringBytes headBytes
 longest-there = refl
 
 -- no bytes, and a claim whose signature is a byte too long; 28 and 14 are written out, as FORMAT.md prints them
@@ -65,5 +65,5 @@ unfolding readSign1 sign1Formed refusedSign1 signatureStart algorithmOf valueSta
 not-read = refl
 
 pub not-written : sign1Verdict workedClaim (replicate 97 0x5a) 300 ∷ sign1Verdict workedClaim (replicate 96 0x5a) 0 ∷ [] ≡ refuse 28 0 ∷ refuse 14 0 ∷ []
-unfolding sign1Verdict signatureFits signatureSize sign1Bytes protectedBytes payloadBytes indexPair valuePair stringBytes numbersBytes headBytes
+unfolding sign1Verdict signatureFits signatureSize sign1Bytes protectedBytes payloadBytes indexPair valuePair stringBytes headBytes
 not-written = refl

@@ -5,9 +5,10 @@ ghost use mathlib.Core.Path.{_≡_};
 ghost use Rattle.cose.specs.Sign1.{longest};
 use eif::DataLength;
 use eif::Verdict;
+use sha384_block::DIGEST_SIZE;
 
-// The bytes of a register's value.
-pub const REGISTER_SIZE: usize = 48;
+// The bytes of a register's value, which is a SHA-384 digest.
+pub const REGISTER_SIZE: usize = DIGEST_SIZE;
 
 // The longest COSE_Sign1 of this form, in bytes: a buffer of this size has room for any claim, and no shorter one has. As a constant for
 // array types, and as a function, whose contract says that it is the definition's number.

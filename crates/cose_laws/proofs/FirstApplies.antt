@@ -23,7 +23,7 @@ pub sign1-write-first : (c : Claim) (signature : List ℕ) (room : ℕ) → sign
 unfolding sign1Answer sign1Verdict sign1WriteRules firstThatApplies
 sign1-write-first c signature room =
     then-choose (not (signatureFits (c .algorithm) (length signature))) (record { number = notSign1; index = 0; position = 0 })
-    (roomVerdict room (length (sign1Bytes c signature)))
+    Accepted (roomVerdict room (length (sign1Bytes c signature)))
 
 -- reading: 28
 read-by : (c : Claim) (position size : ℕ) (b : Bool) → choose b (acceptedSign1 c position size) refusedSign1 .verdict ≡ choose (not b) (refuse notSign1 0) Accepted

@@ -9,7 +9,7 @@ use lib.ListN.{length, getD, length-append}
 use lib.Seq.{getD-at, getD-append-add}
 use Rattle.octets.specs.Bytes.{AreBytes, beBytes, field}
 use Rattle.octets.proofs.Value.{field-at, field-past}
-use Rattle.octets.proofs.Over.{le-or-lt}
+use Rattle.octets.proofs.Logic.{le-or-lt}
 use Rattle.cose.specs.Cbor.{unsigned, inOneByte, inTwoBytes, inFourBytes, inEightBytes, oneByteLimit, twoByteLimit, fourByteLimit, headBytes, numbersBytes}
 use Rattle.cose.specs.Read.{numberWidth, numberAt, numberEnd, byteAt, byteEnd, bytesFrom, bytesEnd}
 use Rattle.cose_lemmas.proofs.Head.{own-one, own-two, head-three, head-five, head-nine, size-one, size-two, size-three, size-five, size-nine}
@@ -97,7 +97,6 @@ module _ (p r : List ℕ) (at : ℕ) (e : length p ≡ at) where
 module _ (r : List ℕ) where
   -- the first number apart, and the first number with what stands before it
   apart : (p : List ℕ) (x : ℕ) (xs : List ℕ) → p ++ (numbersBytes (x ∷ xs) ++ r) ≡ p ++ (headBytes unsigned x ++ (numbersBytes xs ++ r))
-  unfolding numbersBytes
   apart p x xs = ap (λ (l : List ℕ). p ++ l) (append-assoc (headBytes unsigned x) (numbersBytes xs) r)
 
   behind : (p : List ℕ) (x : ℕ) (xs : List ℕ) → p ++ (numbersBytes (x ∷ xs) ++ r) ≡ (p ++ headBytes unsigned x) ++ (numbersBytes xs ++ r)
@@ -105,7 +104,7 @@ module _ (r : List ℕ) where
 
   pub row-back : (v : List ℕ) → AreBytes v → (p : List ℕ) (at : ℕ) → length p ≡ at
       → (bytesFrom (p ++ (numbersBytes v ++ r)) (length v) at ≡ v) × (bytesEnd (p ++ (numbersBytes v ++ r)) (length v) at ≡ at + length (numbersBytes v))
-  unfolding bytesFrom bytesEnd numbersBytes
+  unfolding bytesFrom bytesEnd
   row-back [] a p at e = (refl, let z : at ≡ at + 0 = omega arith in z)
   row-back (x ∷ xs) a p at e =
       let h = headBytes unsigned x in

@@ -10,7 +10,7 @@ use borrow.Author.Tests.{ne-eqb}
 use lib.ListN.{length, length-append}
 use Rattle.cose_lemmas.specs.Opening.{opening}
 use Rattle.cose.specs.Cbor.{unsigned, byteString, inOneByte, oneByteLimit, headBytes, stringBytes, numbersBytes}
-use Rattle.cose.specs.Sign1.{es256, es384, es512, shortestSignature, longestSignature, signatureSize, indexName, valueName, protectedBytes, indexPair, valuePair, payloadBytes, sign1Bytes}
+use Rattle.cose.specs.Sign1.{es256, es384, es512, shortestSignature, longestSignature, signatureSize, indexName, valueName, protectedBytes, indexPair, valuePair, payloadBytes, sign1Bytes, registerSize}
 use Rattle.cose.specs.declared.Claim.{Claim}
 use Rattle.cose_lemmas.proofs.Head.{head-two}
 
@@ -85,7 +85,7 @@ abbrev pub beforeIndex : List ℕ
 beforeIndex = 162 ∷ 110 ∷ indexName
 
 abbrev pub beforeValue : List ℕ
-beforeValue = 110 ∷ (valueName ++ (152 ∷ 48 ∷ []))
+beforeValue = 110 ∷ (valueName ++ (152 ∷ registerSize ∷ []))
 
 pub payload-parts : (index : ℕ) (value : List ℕ)
     → payloadBytes index value ≡ beforeIndex ++ (headBytes unsigned index ++ (beforeValue ++ numbersBytes value))

@@ -10,7 +10,8 @@ use borrow.Author.Tests.{eq-eqb, ne-eqb}
 use lib.Dec.{eqb}
 use lib.ListN.{length, getD, take, drop, length-drop}
 use lib.Seq.{take-at, take-all}
-use Rattle.octets.proofs.Over.{le-or-lt, over-start}
+use Rattle.octets.proofs.Logic.{le-or-lt}
+use Rattle.octets.proofs.Over.{over-start}
 use Rattle.octets.specs.Logic.{choose}
 use Rattle.octets.specs.Same.{sameBytes}
 use Rattle.octets.proofs.Same.{not-same}

@@ -9,6 +9,7 @@ use lib.Pow.{pow-pos, split}
 use lib.Bits.{bitXor, differ, xor-zero-r, xor-comm, xor-shifted, shifted-half, shifted-even}
 use lib.ListN.{length}
 use Rattle.octets.specs.Bytes.{AreBytes, leValue}
+use Rattle.octets.proofs.Lists.{taken-append}
 use Rattle.crc32.specs.Crc.{poly, shiftBit, shiftBits, crcFrom}
 use Rattle.crc32.proofs.Xor.{xor-assoc, xor-swap, xor-half, xor-odd, bit-lt, too-big}
 
@@ -49,8 +50,7 @@ shiftBits-split k c =
 
 pub crcFrom-append : (c : ℕ) (s t : List ℕ) → crcFrom c (s ++ t) ≡ crcFrom (crcFrom c s) t
 unfolding crcFrom
-crcFrom-append c [] t = refl
-crcFrom-append c (b ∷ bs) t = crcFrom-append (shiftBits 8 (bitXor c b)) bs t
+crcFrom-append c s t = taken-append crcFrom (λ a. refl) (λ a b l. refl) c s t
 
 pub shiftBits-add : (j k c : ℕ) → shiftBits k (shiftBits j c) ≡ shiftBits (j + k) c
 unfolding shiftBits

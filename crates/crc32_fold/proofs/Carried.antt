@@ -1,7 +1,7 @@
 -- What five numbers carry, in turns: each turn is one word further, and the remainder stays.
 -- Assumes nothing.
 use Prim.Native.Nat.{ℕ, _+_, _-_, _*_, _%_, _^_, _<_, _≤_}
-use mathlib.Core.Path.{_≡_, ap, ap₂, _∙_}
+use mathlib.Core.Path.{_≡_, sym, ap, ap₂, _∙_}
 use mathlib.Core.List.{List, [], _∷_}
 use native.Mathlib.Omega.{arith}
 use lib.ListN.{length, getD}
@@ -11,6 +11,7 @@ use Rattle.crc32_lemmas.specs.Fold.{down, sparse, spread, num, remainderFrom, p
 use Rattle.crc32_lemmas.specs.Sizes.{wordAndCarry}
 use Rattle.crc32_lemmas.proofs.Sparse.{down-add, bits-spread}
 use Rattle.crc32_lemmas.proofs.Remainder.{At, remainder-fold, xor-last}
+use Rattle.crc32_lemmas.proofs.FoldWords.{down-on}
 use Rattle.crc32_lemmas.proofs.Joined.{up-zero, num-low}
 use Rattle.crc32_fold.specs.declared.Carry.{Carry}
 use Rattle.crc32_fold.specs.Carried.{carried}
@@ -30,7 +31,7 @@ module _ (n : Carry) (l : n .a < 2 ^ 64) (s : List ℕ) (i w : ℕ) (h : At s i 
       ∙ ap (λ (x : ℕ). remainderFrom s (i + 8) (bitXor (down 64 (carried n)) (spread sparse 1 pastWord (bitXor x w)))) carried-low
 
   -- with y added too, which moves on
-  pub bits-turn-under : (y : ℕ) → remainderFrom s i (bitXor (carried n) y)
+  bits-turn-under : (y : ℕ) → remainderFrom s i (bitXor (carried n) y)
       ≡ remainderFrom s (i + 8) (bitXor (bitXor (down 64 (carried n)) (spread sparse 1 pastWord (bitXor (n .a) (bitXor (y % 2 ^ 64) w)))) (down 64 y))
   bits-turn-under y =
       let x : ℕ = carried n in
@@ -39,10 +40,35 @@ module _ (n : Carry) (l : n .a < 2 ^ 64) (s : List ℕ) (i w : ℕ) (h : At s i 
       remainder-fold sparse 1 8 pastWord bits-spread s i w (bitXor x y) h enough
       ∙ ap (remainderFrom s (i + 8)) (ap₂ (λ (p q : ℕ). bitXor p (spread sparse 1 pastWord q)) (down-add 64 x y) lo ∙ xor-last (down 64 x) (down 64 y) (spread sparse 1 pastWord (bitXor (n .a) (bitXor (y % 2 ^ 64) w))))
 
--- ---- a number alone, and nothing
+-- ---- a number alone
 pub carried-one : (x : ℕ) → carried (record { a = x; b = 0; c = 0; d = 0; e = 0 }) ≡ x
 unfolding carried num
 carried-one x = simp (up-zero, xor-zero-r, xor-zero-l)
 
-pub carried-none : carried (record { a = 0; b = 0; c = 0; d = 0; e = 0 }) ≡ 0
-carried-none = carried-one 0
+-- ---- what a window adds is emptied: the bytes under it are folded as bits, eight at a time, with what it adds to them
+
+-- y is what the window adds from `at` on; p bytes further, n carries what they left, the rest of y is still to be added, and the remainder stays
+abbrev pub Emptied : List ℕ → ℕ → ℕ → Carry → ℕ → Type 0
+Emptied s at y n p = remainderFrom s (at + p) (bitXor (carried n) (down (8 * p) y)) ≡ remainderFrom s at y
+
+module _ (s : List ℕ) (at y : ℕ) where
+  pub emptied-start : Emptied s at y (record { a = 0; b = 0; c = 0; d = 0; e = 0 }) 0
+  unfolding down
+  emptied-start =
+      let e : at + 0 ≡ at = omega arith in
+      let z : down 0 y ≡ y = omega arith in
+      ap₂ (remainderFrom s) e (ap₂ bitXor (carried-one 0) z ∙ xor-zero-l y)
+
+  -- eight bytes more, the word w; x is what the window adds to them, and m what is carried then
+  pub emptied-next : (n m : Carry) (p w x : ℕ) → n .a < 2 ^ 64 → At s (at + p) 8 w → at + p + wordAndCarry ≤ length s → x ≡ down (8 * p) y % 2 ^ 64
+      → carried m ≡ bitXor (down 64 (carried n)) (spread sparse 1 pastWord (bitXor (n .a) (bitXor x w))) → Emptied s at y n p → Emptied s at y m (p + 8)
+  emptied-next n m p w x l h k adds folded so-far =
+      let e : at + (p + 8) ≡ at + p + 8 = omega arith in
+      let u = folded ∙ ap (λ (z : ℕ). bitXor (down 64 (carried n)) (spread sparse 1 pastWord (bitXor (n .a) (bitXor z w)))) adds in
+      ap₂ (remainderFrom s) e (ap₂ bitXor u (sym (down-on 8 8 y p))) ∙ sym (bits-turn-under n l s (at + p) w h k (down (8 * p) y)) ∙ so-far
+
+  -- and nothing of the window is left
+  pub emptied-end : (n : Carry) (p end : ℕ) → p ≡ end → down (8 * end) y ≡ 0 → Emptied s at y n p → remainderFrom s (at + end) (carried n) ≡ remainderFrom s at y
+  emptied-end n p end e none so-far =
+      let z = ap (λ (q : ℕ). down (8 * q) y) e ∙ none in
+      ap₂ (λ (q : ℕ) (x : ℕ). remainderFrom s (at + q) x) (sym e) (sym (ap (bitXor (carried n)) z ∙ xor-zero-r (carried n))) ∙ so-far

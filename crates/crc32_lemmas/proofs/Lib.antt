@@ -1,4 +1,3 @@
-pub mod Tabulate
 pub mod Sparse
 pub mod Steps
 pub mod Remainder

@@ -7,14 +7,13 @@ use native.Mathlib.Omega.{arith}
 use native.Mathlib.Nat.{mod-lt, add-zero, zero-mul, one-mul}
 use lib.Arith.{lt-one}
 use lib.Pow.{pow-pos, split, shr-lt}
-use lib.ListN.{getD}
 use lib.Bits.{bitXor, xor-mod, xor-block, xor-shifted}
 use Rattle.crc32.specs.Crc.{shiftBit, shiftBits}
 use Rattle.crc32_lemmas.specs.Fold.{taps, down, up, up64, inverse, powers}
 use Rattle.crc32.proofs.Xor.{too-big}
 use Rattle.crc32.proofs.Linear.{shiftBits-linear, shiftBits-high, shiftBits-add, shiftBits-split}
-use Rattle.crc32_lemmas.proofs.Tabulate.{tabulate, tabulated}
 use Rattle.crc32_lemmas.proofs.Sparse.{Add, add-taps, zero-of, down-add}
+use Rattle.octets.proofs.Lists.{valuesBelow, each-below}
 
 pub up-add : (k : ℕ) → Add (up k)
 unfolding up
@@ -55,7 +54,7 @@ byQuotient-add a b =
     ∙ add-taps down down-add powers (down 32 (taps up64 inverse a)) (down 32 (taps up64 inverse b))
 
 abbrev atPowers : (ℕ → ℕ) → List ℕ
-atPowers f = tabulate (λ (i : ℕ). f (2 ^ i)) 64 0
+atPowers f = valuesBelow 64 (λ i. f (2 ^ i))
 
 computed : atPowers byQuotient ≡ atPowers (shiftBits 64)
 unfolding taps down up64 shiftBits shiftBit
@@ -64,7 +63,7 @@ computed = refl
 pub steps-64 : (x : ℕ) → x < 2 ^ 64 → taps down powers (down 32 (taps up64 inverse x)) ≡ shiftBits 64 x
 steps-64 =
     same-at-powers byQuotient (shiftBits 64) byQuotient-add (shiftBits-linear 64) 64
-    (λ i h. sym (tabulated (λ (j : ℕ). byQuotient (2 ^ j)) 64 i h) ∙ ap (λ (l : List ℕ). getD l i 0) computed ∙ tabulated (λ (j : ℕ). shiftBits 64 (2 ^ j)) 64 i h)
+    (each-below 0 (λ j. byQuotient (2 ^ j)) (λ j. shiftBits 64 (2 ^ j)) 64 computed)
 
 -- ---- 32 steps and 8 steps by 64
 pub steps-32 : (x : ℕ) → shiftBits 64 (x * 2 ^ 32) ≡ shiftBits 32 x

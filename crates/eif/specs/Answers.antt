@@ -40,9 +40,13 @@ abbrev pub andThen : Verdict → Verdict → Verdict
 andThen Accepted next = next
 andThen (Refused r) next = Refused r
 
--- a number that is about no one section, with a position; 0: none applies
+-- a number at an index and a position; 0: none applies
+abbrev pub verdictAt : ℕ → ℕ → ℕ → Verdict
+verdictAt number index position = choose (eqb number 0) Accepted (refuseAt number index position)
+
+-- one that is about no one section, with a position
 abbrev pub wholeAt : ℕ → ℕ → Verdict
-wholeAt number position = choose (eqb number 0) Accepted (refuseAt number 0 position)
+wholeAt number position = verdictAt number 0 position
 
 abbrev pub wholeVerdict : ℕ → Verdict
 wholeVerdict number = wholeAt number 0

@@ -3,7 +3,7 @@
 -- Assumes nothing.
 use Prim.Native.Nat.{ℕ, zero, suc, _+_, _<_, _≤_}
 use mathlib.Core.Bool.{not}
-use mathlib.Core.List.{List, [], _++_, map}
+use mathlib.Core.List.{List, _++_, map}
 use mathlib.Core.Path.{_≡_}
 use lib.Dec.{ltb, eqb}
 use lib.ListN.{length, take, drop, getD}
@@ -111,13 +111,13 @@ pieceAt l given i = take (plannedSize l i) (drop (dataBefore l i) given)
 unfoldable pub sectionHeader : Place → List ℕ
 sectionHeader x = beBytes 2 (x .kind) ++ (beBytes 2 (x .flags) ++ beBytes 8 (x .length .0))
 
--- n sections from section i on
-unfoldable pub sectionBytes : List Place → List ℕ → ℕ → ℕ → List ℕ
-sectionBytes l given zero i = []
-sectionBytes l given (suc n) i = sectionHeader (placeAt l i) ++ (pieceAt l given i ++ sectionBytes l given n (suc i))
+-- section i: its own header and its data
+abbrev pub sectionBytes : List Place → List ℕ → ℕ → List ℕ
+sectionBytes l given i = sectionHeader (placeAt l i) ++ pieceAt l given i
 
+-- the sections in plan order
 abbrev pub bodyBytes : Plan → List ℕ → List ℕ
-bodyBytes p given = sectionBytes (p .places) given (p .count) 0
+bodyBytes p given = joinFrom (sectionBytes (p .places) given) (p .count) 0
 
 -- the header, the checksum of all other bytes, the sections
 unfoldable pub plainImage : Plan → List ℕ → List ℕ

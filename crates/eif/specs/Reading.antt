@@ -7,6 +7,7 @@ use lib.Dec.{ltb, leb, eqb}
 use lib.ListN.{replicate, take, drop, getD}
 use Rattle.crc32.specs.Crc.{crc32}
 use Rattle.eif.specs.Numbers.{sizeLimit, placeCount, ramdisk, imageTooLong, imageTooShort, wrongMagic, wrongVersion, wrongCount, startsEarly, endsLate, sizesDiffer, typeNotAllowed, sectionMissing, checksumDiffers, notPacked}
+use Rattle.octets.specs.Lists.{sumBy}
 use Rattle.octets.specs.Logic.{either, choose}
 use Rattle.eif.specs.Answers.{refuseAt, andThen, wholeAt, wholeVerdict}
 use Rattle.eif.specs.Rules.{fieldFault, allowedIn, orderFault, missing, firstFault}
@@ -150,9 +151,8 @@ markOf [] = 0
 markOf (x ∷ xs) = ramdiskBit x + 2 * markOf xs
 
 -- how many ramdisks are in a list whose elements have types
-unfoldable pub ramdisksIn : {A : Type 0} → (A → ℕ) → List A → ℕ
-ramdisksIn kindOf [] = 0
-ramdisksIn kindOf (x ∷ xs) = ramdiskIn (kindOf x) + ramdisksIn kindOf xs
+abbrev pub ramdisksIn : {A : Type 0} → (A → ℕ) → List A → ℕ
+ramdisksIn kindOf l = sumBy (λ x. ramdiskIn (kindOf x)) l
 
 abbrev pub sectionKind : Section → ℕ
 sectionKind x = x .kind

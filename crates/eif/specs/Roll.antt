@@ -2,7 +2,7 @@
 -- Assumes nothing.
 use Prim.Native.Nat.{ℕ, zero, suc, _+_, _≤_}
 use mathlib.Core.Bool.{Bool, not}
-use mathlib.Core.List.{List, [], _∷_, _++_}
+use mathlib.Core.List.{List, [], _∷_, _++_, map}
 use mathlib.Core.Path.{_≡_}
 use lib.Dec.{ltb, leb, eqb}
 use lib.ListN.{length, replicate, take, drop}
@@ -67,16 +67,20 @@ rollOf (r ∷ rs) = headOf (length (r .bytes)) (r .kind) ++ (r .bytes ++ rollOf 
 
 -- ---- the roll of an image
 
+-- the sections of type kernel, command line or ramdisk, in file order; the stream Whole has them too: `whole-kept` of eif_lemmas/proofs/Types.antt
+unfoldable pub measuredIn : List Section → List Section
+measuredIn [] = []
+measuredIn (x ∷ xs) =
+    let rest = measuredIn xs in
+    choose (bootType (x .kind)) (x ∷ rest) rest
+
 -- what a section's data is, is given by a function
 abbrev pub recordFor : (Section → List ℕ) → Section → Record
 recordFor held x = record { kind = x .kind; bytes = held x }
 
--- the type and the data of every kernel, command line and ramdisk, in file order
-unfoldable pub recordsBy : (Section → List ℕ) → List Section → List Record
-recordsBy held [] = []
-recordsBy held (x ∷ xs) =
-    let rest = recordsBy held xs in
-    choose (bootType (x .kind)) (recordFor held x ∷ rest) rest
+-- the type and the data of each of those sections
+abbrev pub recordsBy : (Section → List ℕ) → List Section → List Record
+recordsBy held l = map (recordFor held) (measuredIn l)
 
 abbrev pub recordsOf : List ℕ → List Record
 recordsOf s = recordsBy (dataOf s) (sectionsOf s)

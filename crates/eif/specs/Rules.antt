@@ -5,7 +5,7 @@ use mathlib.Core.Bool.{Bool, false, not}
 use lib.Dec.{leb, eqb}
 use Rattle.eif.specs.Numbers.{signatureVersion, metadataVersion, oldestVersion, newestVersion, fewestSections, placeCount, kernel, commandLine, ramdisk, signature, metadata, wrongVersion, wrongCount, typeNotAllowed, ramdiskBeforeKernel, typeRepeated}
 use Rattle.octets.specs.Logic.{both, either, choose}
-use Rattle.eif.specs.Answers.{refuse}
+use Rattle.eif.specs.Answers.{verdictAt, andThen}
 use Rattle.eif.specs.declared.Verdict.{Verdict}
 use Rattle.eif.specs.declared.Verdict.the-variants.{Accepted}
 
@@ -60,8 +60,11 @@ bootMissing kinds n = either (not (seen kinds kernel n)) (not (seen kinds comman
 unfoldable pub missing : (ℕ → ℕ) → ℕ → ℕ → Bool
 missing kinds version n = either (bootMissing kinds n) (both (eqb version metadataVersion) (not (seen kinds metadata n)))
 
--- the first of the n places from i on that has a fault, where the faults are given by place (0: none)
-unfoldable pub firstFault : (ℕ → ℕ) → ℕ → ℕ → Verdict
-firstFault fault zero i = Accepted
-firstFault fault (suc n) i =
-    choose (eqb (fault i) 0) (firstFault fault n (suc i)) (refuse (fault i) i)
+-- the first refusal at the n places from i on, where the verdicts are given by place
+unfoldable pub firstRefusal : (ℕ → Verdict) → ℕ → ℕ → Verdict
+firstRefusal verdict zero i = Accepted
+firstRefusal verdict (suc n) i = andThen (verdict i) (firstRefusal verdict n (suc i))
+
+-- the first of them that has a fault, where the faults are given by place (0: none)
+abbrev pub firstFault : (ℕ → ℕ) → ℕ → ℕ → Verdict
+firstFault fault n i = firstRefusal (λ j. verdictAt (fault j) j 0) n i

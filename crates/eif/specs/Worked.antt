@@ -6,19 +6,18 @@ use Prim.Native.Nat.{ℕ}
 use mathlib.Core.Path.{_≡_, refl, ap}
 use mathlib.Core.List.{List, [], _∷_, _++_, map}
 use lib.ListN.{length, replicate, take}
-use Rattle.eif.specs.Table.{inTable}
+use Rattle.eif.specs.Table.{inTable, joinFrom}
 use Rattle.eif.specs.Output.{roomVerdict}
-use Rattle.octets.specs.Lists.{joinedBy}
 use Rattle.octets.specs.Bytes.{beValue, field}
 use Rattle.octets.specs.Over.{over}
 use Rattle.crc32.specs.Crc.{crc32, crcFrom, shiftBits, shiftBit}
 use Rattle.eif.specs.Numbers.{kernel, commandLine, ramdisk, signature}
-use Rattle.eif.specs.Rules.{allowedIn, seen, orderFault, typeFault, missing, firstFault, fieldFault}
+use Rattle.eif.specs.Rules.{allowedIn, seen, orderFault, typeFault, missing, firstRefusal, fieldFault}
 use Rattle.eif.specs.Answers.{refuse, refuseAt, andThen}
 use Rattle.eif.specs.Layout.{viewOf, offsetAt, packedBy}
 use Rattle.eif.specs.Reading.{headerFault, entryFault, sectionFault, missingFault, tailFault, checksumFault, positionIn, judged, early, verdictIn, checksumOf, verdictOf, blankSection, sectionsOf, readingOf, markOf}
-use Rattle.eif.specs.Plan.{blankPlace, planFault, planVerdict, dataBefore, fixedFields, offsetTable, sizeTable, headerBytes, sectionHeader, sectionBytes, plainImage, writeVerdict, sizeFault, placeAt}
-use Rattle.eif.specs.Roll.{headOf, flagsRecord, rollOf, recordsBy, rollBytes, rollVerdict}
+use Rattle.eif.specs.Plan.{blankPlace, planFault, planVerdict, dataBefore, fixedFields, offsetTable, sizeTable, headerBytes, sectionHeader, plainImage, writeVerdict, sizeFault, placeAt}
+use Rattle.eif.specs.Roll.{headOf, flagsRecord, rollOf, measuredIn, rollBytes, rollVerdict}
 use Rattle.eif.specs.Stream.{keeps, kept, streamSections, copyVerdict, streamOf, pastEnd}
 use Rattle.eif.specs.Rows.{workedRoll}
 use Rattle.eif.specs.declared.Place.{Place}
@@ -63,7 +62,7 @@ workedImage =
     ++ 0 ∷ 3 ∷ replicate 10 0
 
 pub worked-plain : plainImage workedPlan (0x4b ∷ 0x61 ∷ []) ≡ workedImage
-unfolding inTable crc32 crcFrom shiftBits shiftBit plainImage headerBytes fixedFields offsetTable sizeTable packedBy sectionBytes sectionHeader dataBefore
+unfolding inTable crc32 crcFrom shiftBits shiftBit plainImage headerBytes fixedFields offsetTable sizeTable packedBy joinFrom sectionHeader dataBefore
 worked-plain = refl
 
 pub worked-length : length workedImage ≡ 586
@@ -78,13 +77,13 @@ unfolding checksumOf crc32 crcFrom shiftBits shiftBit
 worked-checksum = refl
 
 pub worked-accepted : verdictOf workedImage ≡ Accepted
-unfolding verdictIn early judged headerFault fieldFault firstFault sectionFault entryFault allowedIn orderFault seen missingFault tailFault missing checksumFault field beValue
+unfolding verdictIn early judged headerFault fieldFault firstRefusal sectionFault entryFault allowedIn orderFault seen missingFault tailFault missing checksumFault field beValue
 worked-accepted = ap (verdictIn (viewOf workedImage)) worked-checksum
 
 -- a byte after the last section is told after 12 and before 13
 
 pub tail-before-checksum : verdictOf (workedImage ++ 0 ∷ []) ≡ refuseAt 20 0 586
-unfolding verdictIn early judged headerFault fieldFault firstFault sectionFault entryFault allowedIn orderFault seen missingFault tailFault missing checksumFault field beValue
+unfolding verdictIn early judged headerFault fieldFault firstRefusal sectionFault entryFault allowedIn orderFault seen missingFault tailFault missing checksumFault field beValue
 tail-before-checksum = refl
 
 -- version 3 with a kernel and a signature, and no command line
@@ -92,12 +91,12 @@ abbrev incompletePlan : Plan
 incompletePlan = planOver 3 (workedPlace kernel 1 ∷ workedPlace signature 1 ∷ [])
 
 pub missing-before-tail : verdictOf (plainImage incompletePlan (0x4b ∷ 0x61 ∷ []) ++ 0 ∷ []) ≡ refuseAt 12 0 26
-unfolding verdictIn early judged positionIn headerFault fieldFault firstFault sectionFault entryFault allowedIn orderFault seen missingFault tailFault missing checksumFault field beValue plainImage headerBytes fixedFields offsetTable sizeTable packedBy sectionBytes sectionHeader dataBefore inTable
+unfolding verdictIn early judged positionIn headerFault fieldFault firstRefusal sectionFault entryFault allowedIn orderFault seen missingFault tailFault missing checksumFault field beValue plainImage headerBytes fixedFields offsetTable sizeTable packedBy joinFrom sectionHeader dataBefore inTable
 missing-before-tail = refl
 
 -- the plan alone is at fault, and a plan has no position
 pub incomplete-plan : planVerdict incompletePlan 2 ≡ refuse 12 0
-unfolding planVerdict fieldFault firstFault typeFault allowedIn orderFault seen planFault missing inTable
+unfolding planVerdict fieldFault firstRefusal typeFault allowedIn orderFault seen planFault missing inTable
 incomplete-plan = refl
 
 -- ---- what is refused, and where: some bytes of the image are others, from a position on
@@ -139,7 +138,7 @@ abbrev pub refusedImages : List RefusedImage
 refusedImages = judgedBefore13 ++ refusedImage otherChecksum (refuseAt 13 0 544) ∷ []
 
 pub refusals-hold : map (λ (r : RefusedImage). verdictOf (r .image)) refusedImages ≡ map (λ (r : RefusedImage). r .verdict) refusedImages
-unfolding over verdictIn early judged positionIn headerFault fieldFault firstFault sectionFault entryFault allowedIn orderFault seen missingFault tailFault missing checksumFault field beValue checksumOf
+unfolding over verdictIn early judged positionIn headerFault fieldFault firstRefusal sectionFault entryFault allowedIn orderFault seen missingFault tailFault missing checksumFault field beValue checksumOf
 refusals-hold = ap (λ (sum : ℕ). map (λ (r : RefusedImage). verdictOf (r .image)) judgedBefore13 ++ verdictIn (viewOf otherChecksum) sum ∷ []) worked-checksum
 
 abbrev pub workedSection : ℕ → ℕ → ℕ → Section
@@ -150,7 +149,7 @@ unfolding field beValue
 worked-sections = refl
 
 pub worked-roll : rollBytes workedImage ≡ workedRoll
-unfolding rollBytes flagsRecord rollOf headOf recordsBy field beValue
+unfolding rollBytes flagsRecord rollOf headOf measuredIn field beValue
 worked-roll = refl
 
 -- ---- streams in file order: of kernel, two ramdisks and then the command line
@@ -175,15 +174,15 @@ longPlan = planOver 2 (workedPlace kernel 1073741253 ∷ workedPlace commandLine
 pub writes-refused :
     writeVerdict workedPlan 2 585 ∷ writeVerdict workedPlan 3 586 ∷ writeVerdict workedPlan 3 0 ∷ writeVerdict longPlan 0 0 ∷ []
     ≡ refuse 14 0 ∷ refuse 15 0 ∷ refuse 15 0 ∷ refuse 1 0 ∷ []
-unfolding inTable writeVerdict planVerdict fieldFault firstFault typeFault allowedIn orderFault seen planFault sizeFault missing packedBy dataBefore
+unfolding inTable writeVerdict planVerdict fieldFault firstRefusal typeFault allowedIn orderFault seen planFault sizeFault missing packedBy dataBefore
 writes-refused = refl
 
 pub roll-refused : rollVerdict workedImage 53 ≡ refuse 14 0
-unfolding rollVerdict rollBytes flagsRecord rollOf headOf recordsBy field beValue
+unfolding rollVerdict rollBytes flagsRecord rollOf headOf measuredIn field beValue
 roll-refused = ap (λ (v : Verdict). andThen v (roomVerdict 53 (length (rollBytes workedImage)))) worked-accepted
 
 pub copy-refused : copyVerdict workedImage Whole 3 ≡ refuse 19 0
-unfolding copyVerdict streamOf kept keeps joinedBy field beValue
+unfolding copyVerdict streamOf kept keeps field beValue
 copy-refused = ap (λ (v : Verdict). andThen v (pastEnd (streamOf workedImage Whole) 3)) worked-accepted
 
 -- ---- the fields that no rule judges: each has another value, so that none is taken for another, and every flag but the architecture's is set

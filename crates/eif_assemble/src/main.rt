@@ -13,7 +13,6 @@ use assembler::PieceRecord;
 use assembler::State;
 use assembler::Stepped;
 use eif::RecordHead;
-use eif::Refusal;
 use eif::Verdict;
 
 // The longest image, and with it the marks.
@@ -96,30 +95,17 @@ fn read_record(sent: &mut [u8]) -> Came
 
 // ---- one record
 
-fn show(image: &[u8]) {
-    let text = eif_lines::lines(eif_reader::read(image));
-    let bytes = text.bytes;
-    let length = text.length;
-    io::write_all(libc::STDOUT_FILENO, &bytes[..length]);
-}
-
-fn refuse(r: Refusal) {
-    let text = eif_lines::refusal(r);
-    let bytes = text.bytes;
-    let length = text.length;
-    io::write_all(libc::STDOUT_FILENO, &bytes[..length]);
-}
-
 // An accepted record after which no transfer is open was a close.
 fn say(answer: Stepped, image: &[u8]) {
     let verdict = answer.verdict;
     match verdict {
         Verdict::Accepted => {
             if answer.state.opened == 0 {
-                show(&image[..octets::lesser(answer.length as usize, image.len())]);
+                let end = octets::lesser(answer.length as usize, image.len());
+                eif_print::print(eif_lines::lines(eif_reader::read(&image[..end])));
             }
         }
-        Verdict::Refused(r) => refuse(r),
+        Verdict::Refused(r) => eif_print::print(eif_lines::refusal(r)),
     }
 }
 

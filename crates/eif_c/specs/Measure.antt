@@ -1,11 +1,8 @@
 -- The flat answers of the digest and of the registers.
 -- Assumes nothing.
-use Prim.Native.Nat.{ℕ}
-use mathlib.Core.List.{List}
 use lib.ListN.{replicate}
 use Rattle.eif.specs.Answers.{numberOf, indexOf, positionOf}
 use Rattle.sha384.specs.declared.Updated.{Updated}
-use Rattle.eif_registers.specs.declared.Digest.{Digest}
 use Rattle.eif_registers.specs.declared.Measurement.{Measurement}
 use Rattle.eif_c.specs.declared.measure.EifSha384Fed.{EifSha384Fed}
 use Rattle.eif_c.specs.declared.measure.EifRegisters.{EifRegisters}
@@ -13,9 +10,6 @@ use Rattle.eif_c.specs.declared.measure.EifRegisters.{EifRegisters}
 abbrev pub flatFed : Updated → EifSha384Fed
 flatFed u =
     record { number = numberOf (u .verdict); reserved = replicate 7 0; index = indexOf (u .verdict); position = positionOf (u .verdict); state = u .state }
-
-abbrev pub flatDigest : List ℕ → Digest
-flatDigest bytes = record { 0 = bytes }
 
 abbrev pub flatRegisters : Measurement → EifRegisters
 flatRegisters m =

@@ -1,8 +1,8 @@
 // SHA-384 fed in pieces, and the three registers of an image, for programs in C and Rust. A state is a value that the caller keeps.
 ghost use mathlib.Core.Path.{_≡_};
 ghost use Rattle.sha384.specs.State.{initialState, updated, digestFrom};
-ghost use Rattle.eif_registers.specs.Registers.{registersAnswer};
-ghost use Rattle.eif_c.specs.Measure.{flatFed, flatDigest, flatRegisters};
+ghost use Rattle.eif_registers.specs.Registers.{asDigest, registersAnswer};
+ghost use Rattle.eif_c.specs.Measure.{flatFed, flatRegisters};
 use eif_registers::Digest;
 use eif_registers::Measurement;
 use sha384::State;
@@ -53,7 +53,7 @@ pub extern "C" fn eif_sha384_update(state: State, piece: &[u8]) -> EifSha384Fed
 
 #[no_mangle]
 pub extern "C" fn eif_sha384_finish(state: State) -> Digest
-    ensures { λ r. ⌜ r ≡ flatDigest (digestFrom state) ⌝ }
+    ensures { λ r. ⌜ r ≡ asDigest (digestFrom state) ⌝ }
 {
     let digest = sha384::finish(state);
     Digest(digest)

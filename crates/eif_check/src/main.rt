@@ -1,7 +1,6 @@
 // Checks an image of any size that comes over standard input, by the reader that is handed pieces: the rows and refusal lines of
 // eif_show, with a buffer of 32 KiB and a state of less than one.
 use arriving::Arriving;
-use eif::Reading;
 
 const PIECE: usize = 32768;
 
@@ -42,15 +41,8 @@ fn arrived() -> Arriving {
     state
 }
 
-fn show(reading: Reading) {
-    let text = eif_lines::lines(reading);
-    let bytes = text.bytes;
-    let length = text.length;
-    io::write_all(libc::STDOUT_FILENO, &bytes[..length]);
-}
-
 fn main() {
     let finished = arriving::finish(arrived());
     let reading = finished.reading;
-    show(reading);
+    eif_print::print(eif_lines::lines(reading));
 }

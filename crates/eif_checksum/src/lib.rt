@@ -5,6 +5,7 @@ ghost use Prim.Native.Nat.{_+_, min};
 ghost use lib.ListN.{length, take, drop};
 ghost use Rattle.eif.specs.Layout.{checksumEnd, checksumAt};
 ghost use Rattle.eif.specs.Reading.{checksumOf};
+ghost use Rattle.eif_checksum.specs.Put.{withChecksum};
 use eif::Header;
 
 // The bytes before the checksum's place, or those that there are.
@@ -34,4 +35,13 @@ pub fn checksum(image: &[u8]) -> u32
 {
     let before = crc32_fold::update(crc32_fold::START, front(image));
     crc32_fold::finish(crc32_fold::update(before, back(image)))
+}
+
+// The checksum of the image that the first bytes are, put at a position; Header::CHECKSUM_AT is its place.
+pub fn put(image: &mut [u8], size: usize, at: usize)
+    ensures { λ _. ⌜ now (image .exit) ≡ withChecksum (now (image .entry)) size at ⌝ }
+{
+    let end = octets::lesser(size, image.len());
+    let sum = checksum(&image[..end]);
+    octets::put_be32(image, at, sum);
 }

@@ -36,4 +36,4 @@ by-own v e = simp (e, eq-eqb (checksum v) (checksum v) refl)
 pub sections-lie : (v : View) → early v ≡ Accepted → (count v ≤ placeCount) × ((k : ℕ) → k < count v → end v k ≤ v .size)
 sections-lie v e =
     let p = accepted→ v (checksum v) (by-own v e) in
-    (p .head .few, λ k h. sound-of v k (p .sections k h) .ends)
+    (p .head .fields .few, λ k h. sound-of v k (p .sections k h) .ends)

@@ -155,8 +155,8 @@ module _ (s : List ℕ) where
         not-too-long = h .small;
         not-too-short = h .whole;
         right-magic = h .magic;
-        known-version = (h .low, h .high);
-        known-count = (h .some, h .few);
+        known-version = (h .fields .low, h .fields .high);
+        known-count = (h .fields .some, h .fields .few);
         starts = λ i l. sound-at s e i l .starts;
         file-ends = file-ends s e;
         in-file = λ i l. sound-at s e i l .ends;
@@ -191,10 +191,7 @@ module _ (s : List ℕ) where
               small = m .not-too-long;
               whole = m .not-too-short;
               magic = m .right-magic;
-              low = m .known-version .0;
-              high = m .known-version .1;
-              some = m .known-count .0;
-              few = m .known-count .1;
+              fields = record { low = m .known-version .0; high = m .known-version .1; some = m .known-count .0; few = m .known-count .1 };
             };
         sections = section;
         complete = →complete (kindAt s) (versionOf s) (countOf s) complete;

@@ -4,13 +4,14 @@ use Prim.Native.Nat.{ℕ, _+_, _-_, _≤_, min}
 use mathlib.Core.Path.{_≡_, sym, ap, ap₂, _∙_}
 use mathlib.Core.List.{List, _++_}
 use native.Mathlib.Omega.{arith}
-use lib.ListN.{length, take, drop, length-take, length-drop, length-append, take-append-drop}
-use lib.Seq.{take-at, drop-at, drop-drop}
+use lib.ListN.{length, take, drop, length-take, length-drop, length-append}
+use lib.Seq.{take-at, drop-at}
 use Rattle.octets.specs.Bytes.{AreBytes, beValue, beBytes, field}
-use Rattle.octets.proofs.Value.{bytes-append, bytes-take, bytes-drop, beBytes-beValue, field-length}
+use Rattle.octets.proofs.Value.{bytes-append, bytes-take, bytes-drop, beBytes-beValue, field-length, bytes-part}
+use Rattle.octets.proofs.Over.{in-three}
 use Rattle.crc32.specs.Crc.{crc32}
 use Rattle.crc32.proofs.Burst.{burst}
-use Rattle.eif.specs.Layout.{headerSize, checksumAt}
+use Rattle.eif.specs.Layout.{headerSize, checksumAt, checksumEnd}
 use Rattle.eif.specs.Reading.{checkedBytes, checksumOf, verdictOf}
 use Rattle.eif.specs.Acceptance.{MeetsRules}
 use Rattle.eif.specs.Burst.{SameBut, DifferWithin}
@@ -18,11 +19,6 @@ use Rattle.eif.specs.declared.Verdict.the-variants.{Accepted}
 use Rattle.eif_laws.proofs.Acceptance.{accepted-exactly-when}
 
 -- ---- byte strings
-
-in-three : (at : ℕ) (s : List ℕ) → take at s ++ (take 4 (drop at s) ++ drop (at + 4) s) ≡ s
-in-three at s =
-    ap (λ (r : List ℕ). take at s ++ r) (ap (λ (r : List ℕ). take 4 (drop at s) ++ r) (sym (drop-drop 4 at s)) ∙ take-append-drop 4 (drop at s))
-    ∙ take-append-drop at s
 
 -- of one length and one checksum, different at most within four bytes
 module _ (at : ℕ) (a b : List ℕ) (wa : AreBytes a) (wb : AreBytes b) (n : length a ≡ length b) where
@@ -32,12 +28,12 @@ module _ (at : ℕ) (a b : List ℕ) (wa : AreBytes a) (wb : AreBytes b) (n : le
       let x : List ℕ = take 4 (drop at a) in
       let y : List ℕ = take 4 (drop at b) in
       let q : List ℕ = drop (at + 4) a in
-      let ea : p ++ (x ++ q) ≡ a = in-three at a in
-      let eb : p ++ (y ++ q) ≡ b = ap₂ (λ (u v : List ℕ). u ++ (y ++ v)) (h .0) (h .1) ∙ in-three at b in
+      let ea : p ++ (x ++ q) ≡ a = in-three a at 4 in
+      let eb : p ++ (y ++ q) ≡ b = ap₂ (λ (u v : List ℕ). u ++ (y ++ v)) (h .0) (h .1) ∙ in-three b at 4 in
       let l : length x ≡ length y = simp (length-take, length-drop) (ap (λ (m : ℕ). min 4 (m - at)) n) in
       let k : length x ≤ 4 = simp length-take (omega arith) in
       let z : x ≡ y =
-      burst p x y q (bytes-take at a wa) (bytes-take 4 (drop at a) (bytes-drop at a wa)) (bytes-take 4 (drop at b) (bytes-drop at b wb)) (bytes-drop (at + 4) a wa) l k
+      burst p x y q (bytes-take at a wa) (bytes-part 4 at a wa) (bytes-part 4 at b wb) (bytes-drop (at + 4) a wa) l k
       (ap crc32 ea ∙ e ∙ sym (ap crc32 eb)) in
       sym ea ∙ ap (λ (u : List ℕ). p ++ (u ++ q)) z ∙ eb
 
@@ -47,9 +43,9 @@ abbrev fieldBytes : List ℕ → List ℕ
 fieldBytes s = take 4 (drop checksumAt s)
 
 bytes-checked : (s : List ℕ) → AreBytes s → AreBytes (checkedBytes s)
-bytes-checked s w = bytes-append (take checksumAt s) (drop headerSize s) (bytes-take checksumAt s w) (bytes-drop headerSize s w)
+bytes-checked s w = bytes-append (take checksumAt s) (drop checksumEnd s) (bytes-take checksumAt s w) (bytes-drop checksumEnd s w)
 
-checked-length : (s : List ℕ) → length (checkedBytes s) ≡ min checksumAt (length s) + (length s - headerSize)
+checked-length : (s : List ℕ) → length (checkedBytes s) ≡ min checksumAt (length s) + (length s - checksumEnd)
 checked-length s = simp (length-append, length-take, length-drop)
 
 module _ (a b : List ℕ) (wa : AreBytes a) (wb : AreBytes b) (aa : verdictOf a ≡ Accepted) (ab : verdictOf b ≡ Accepted) where
@@ -66,13 +62,13 @@ module _ (a b : List ℕ) (wa : AreBytes a) (wb : AreBytes b) (aa : verdictOf a 
       let la : length (take checksumAt a) ≡ checksumAt = simp length-take (omega arith) in
       let lb : length (take checksumAt b) ≡ checksumAt = simp length-take (omega arith) in
       let t : take checksumAt a ≡ take checksumAt b =
-      sym (take-at (take checksumAt a) (drop headerSize a) checksumAt la) ∙ ap (take checksumAt) c ∙ take-at (take checksumAt b) (drop headerSize b) checksumAt lb in
-      let r : drop headerSize a ≡ drop headerSize b =
-      sym (drop-at (take checksumAt a) (drop headerSize a) checksumAt la) ∙ ap (drop checksumAt) c ∙ drop-at (take checksumAt b) (drop headerSize b) checksumAt lb in
-      sym (in-three checksumAt a)
+      sym (take-at (take checksumAt a) (drop checksumEnd a) checksumAt la) ∙ ap (take checksumAt) c ∙ take-at (take checksumAt b) (drop checksumEnd b) checksumAt lb in
+      let r : drop checksumEnd a ≡ drop checksumEnd b =
+      sym (drop-at (take checksumAt a) (drop checksumEnd a) checksumAt la) ∙ ap (drop checksumAt) c ∙ drop-at (take checksumAt b) (drop checksumEnd b) checksumAt lb in
+      sym (in-three a checksumAt 4)
       ∙ ap₂ (λ (u v : List ℕ). u ++ (fieldBytes a ++ v)) t r
-      ∙ ap (λ (u : List ℕ). take checksumAt b ++ (u ++ drop headerSize b)) f
-      ∙ in-three checksumAt b
+      ∙ ap (λ (u : List ℕ). take checksumAt b ++ (u ++ drop checksumEnd b)) f
+      ∙ in-three b checksumAt 4
 
   -- damage within four neighbouring bytes of those that are checked, 543 and 548 being neighbours, is seen
   pub burst-seen : length a ≡ length b → take 4 (drop checksumAt a) ≡ take 4 (drop checksumAt b) → DifferWithin 4 (checkedBytes a) (checkedBytes b) → a ≡ b
@@ -80,7 +76,7 @@ module _ (a b : List ℕ) (wa : AreBytes a) (wb : AreBytes b) (aa : verdictOf a 
   burst-seen n f d =
       let e : crc32 (checkedBytes a) ≡ crc32 (checkedBytes b) = sym (ma .right-checksum) ∙ ap beValue f ∙ mb .right-checksum in
       let l : length (checkedBytes a) ≡ length (checkedBytes b) =
-      checked-length a ∙ ap (λ (m : ℕ). min checksumAt m + (m - headerSize)) n ∙ sym (checked-length b) in
+      checked-length a ∙ ap (λ (m : ℕ). min checksumAt m + (m - checksumEnd)) n ∙ sym (checked-length b) in
       same-file (same-bytes (d .0) (checkedBytes a) (checkedBytes b) (bytes-checked a wa) (bytes-checked b wb) l (d .1) e) f
 
   -- damage to the four bytes of the checksum alone is seen
@@ -95,5 +91,5 @@ module _ (a b : List ℕ) (wa : AreBytes a) (wb : AreBytes b) (aa : verdictOf a 
       let l : length fa ≡ length fb = field-length 4 checksumAt a (omega arith) ∙ sym (field-length 4 checksumAt b (omega arith)) in
       let e : beValue fa ≡ beValue fb = ma .right-checksum ∙ ap crc32 c ∙ sym (mb .right-checksum) in
       same-file c
-      (sym (beBytes-beValue fa (bytes-take 4 (drop checksumAt a) (bytes-drop checksumAt a wa))) ∙ ap₂ beBytes l e
-      ∙ beBytes-beValue fb (bytes-take 4 (drop checksumAt b) (bytes-drop checksumAt b wb)))
+      (sym (beBytes-beValue fa (bytes-part 4 checksumAt a wa)) ∙ ap₂ beBytes l e
+      ∙ beBytes-beValue fb (bytes-part 4 checksumAt b wb))

@@ -12,8 +12,8 @@ use Rattle.eif.specs.Table.{joinFrom}
 use Rattle.octets.specs.Bytes.{leField}
 use Rattle.eif.specs.Numbers.{sizeLimit, placeCount, kernel, ramdisk, sectionMissing, checksumDiffers, notPacked, outputTooShort, pastStreamEnd, imageTooLong, imageTooShort, wrongMagic, wrongVersion, wrongCount, startsEarly, endsLate, sizesDiffer, typeNotAllowed, ramdiskBeforeKernel, typeRepeated, dataLengthDiffers, recordCut, recordTypeWrong, bytesAfterEnd}
 use Rattle.octets.specs.Logic.{both, either, choose}
-use Rattle.eif.specs.Answers.{refuse, refuseAt, andThen, wholeAt, wholeVerdict}
-use Rattle.eif.specs.Rules.{versionKnown, countKnown, allowedIn, seen, orderFault, typeFault, bootMissing, missing, firstFault, fieldFault}
+use Rattle.eif.specs.Answers.{refuse, refuseAt, verdictAt, andThen, wholeAt, wholeVerdict}
+use Rattle.eif.specs.Rules.{versionKnown, countKnown, allowedIn, seen, orderFault, typeFault, bootMissing, missing, firstFault, firstRefusal, fieldFault}
 use Rattle.eif.specs.Layout.{magicNumber, headerSize, offsetsAt, versionAt, countAt, checksumAt, View, viewOf, magic, version, count, offsetEntry, entryAt, offset, tableSize, checksum, end, start}
 use Rattle.eif.specs.Reading.{headerFault, entryFault, sectionFault, hasTail, missingFault, tailFault, checksumFault, positionIn, located, judged, early, verdictIn, checksumOf, verdictOf}
 use Rattle.eif.specs.Plan.{plannedKind, plainSize, dataBefore, sizeFault, planFault, planVerdict, writeVerdict, planLength}
@@ -26,40 +26,27 @@ use Rattle.eif.specs.declared.Stream.{Stream}
 use Rattle.eif.specs.declared.StreamSections.{StreamSections}
 use Rattle.eif.specs.declared.Verdict.{Verdict}
 use Rattle.eif.specs.declared.Verdict.the-variants.{Accepted, Refused}
-use Rattle.eif_lemmas.proofs.Verdicts.{then-none}
+use Rattle.eif_lemmas.proofs.Verdicts.{then-assoc, then-choose, at-choose, then-none}
 
 -- ---- lists of rules, one after the other
-
-then-choose : (b : Bool) (n i p : ℕ) (v w : Verdict) → andThen (choose b (refuseAt n i p) v) w ≡ choose b (refuseAt n i p) (andThen v w)
-then-choose true n i p v w = refl
-then-choose false n i p v w = refl
 
 pub first-append : (a b : List Rule) → firstThatApplies (a ++ b) ≡ andThen (firstThatApplies a) (firstThatApplies b)
 unfolding firstThatApplies
 first-append [] b = refl
 first-append (r ∷ rs) b =
     ap (choose (r .applies) (refuseAt (r .number) (r .index) (r .position))) (first-append rs b)
-    ∙ sym (then-choose (r .applies) (r .number) (r .index) (r .position) (firstThatApplies rs) (firstThatApplies b))
-
--- a number at a place, with a position; 0: none applies
-abbrev at : ℕ → ℕ → ℕ → Verdict
-at number i position = choose (eqb number 0) Accepted (refuseAt number i position)
-
-then-at : (n i : ℕ) (b : Bool) (w : Verdict) → andThen (choose b Accepted (refuse n i)) w ≡ choose b w (refuse n i)
-then-at n i true w = refl
-then-at n i false w = refl
+    ∙ sym (then-choose (r .applies) _ (firstThatApplies rs) (firstThatApplies b))
 
 -- rules at each place answer as the walk over the places does, as it is or with the positions
-walk-first : (f : Verdict → Verdict) → f Accepted ≡ Accepted → ((v w : Verdict) → f (andThen v w) ≡ andThen (f v) (f w))
-    → (rules : ℕ → List Rule) (fault : ℕ → ℕ) → ((i : ℕ) → firstThatApplies (rules i) ≡ f (at (fault i) i 0))
-    → (n i : ℕ) → firstThatApplies (joinFrom rules n i) ≡ f (firstFault fault n i)
-unfolding joinFrom firstFault firstThatApplies
-walk-first f none split rules fault h zero i = sym none
-walk-first f none split rules fault h (suc n) i =
+pub walk-first : (f : Verdict → Verdict) → f Accepted ≡ Accepted → ((v w : Verdict) → f (andThen v w) ≡ andThen (f v) (f w))
+    → (rules : ℕ → List Rule) (verdict : ℕ → Verdict) → ((i : ℕ) → firstThatApplies (rules i) ≡ f (verdict i))
+    → (n i : ℕ) → firstThatApplies (joinFrom rules n i) ≡ f (firstRefusal verdict n i)
+unfolding joinFrom firstRefusal firstThatApplies
+walk-first f none split rules verdict h zero i = sym none
+walk-first f none split rules verdict h (suc n) i =
     first-append (rules i) (joinFrom rules n (suc i))
-    ∙ ap₂ andThen (h i) (walk-first f none split rules fault h n (suc i))
-    ∙ sym (split (at (fault i) i 0) (firstFault fault n (suc i)))
-    ∙ ap f (then-at (fault i) i (eqb (fault i) 0) (firstFault fault n (suc i)))
+    ∙ ap₂ andThen (h i) (walk-first f none split rules verdict h n (suc i))
+    ∙ sym (split (verdict i) (firstRefusal verdict n (suc i)))
 
 -- ---- the rules on types
 
@@ -68,25 +55,21 @@ abbrev order : Bool → Bool → Bool → ℕ
 order r k t = choose r (choose k 0 ramdiskBeforeKernel) (choose t typeRepeated 0)
 
 order-by : (r k t : Bool) (i p : ℕ)
-    → choose (both r (not k)) (refuseAt ramdiskBeforeKernel i p) (choose (both (not r) t) (refuseAt typeRepeated i p) Accepted) ≡ at (order r k t) i p
+    → choose (both r (not k)) (refuseAt ramdiskBeforeKernel i p) (choose (both (not r) t) (refuseAt typeRepeated i p) Accepted) ≡ verdictAt (order r k t) i p
 order-by true true t i p = refl
 order-by true false t i p = refl
 order-by false k true i p = refl
 order-by false k false i p = refl
 
-order-first : (kinds : ℕ → ℕ) (i index p : ℕ) → firstThatApplies (orderRules kinds i index p) ≡ at (orderFault kinds (kinds i) i) index p
+order-first : (kinds : ℕ → ℕ) (i index p : ℕ) → firstThatApplies (orderRules kinds i index p) ≡ verdictAt (orderFault kinds (kinds i) i) index p
 unfolding firstThatApplies orderRules orderFault
 order-first kinds i index p = order-by (eqb (kinds i) ramdisk) (seen kinds kernel i) (seen kinds (kinds i) i) index p
 
-type-by : (d : Bool) (fault i p : ℕ) → choose d (refuseAt typeNotAllowed i p) (at fault i p) ≡ at (choose d typeNotAllowed fault) i p
-type-by true fault i p = refl
-type-by false fault i p = refl
-
-type-first : (version : ℕ) (kinds : ℕ → ℕ) (i p : ℕ) → firstThatApplies (typeRules version kinds i p) ≡ at (typeFault version kinds i) i p
+type-first : (version : ℕ) (kinds : ℕ → ℕ) (i p : ℕ) → firstThatApplies (typeRules version kinds i p) ≡ verdictAt (typeFault version kinds i) i p
 unfolding firstThatApplies typeRules typeFault
 type-first version kinds i p =
     ap (choose (not (allowedIn version (kinds i))) (refuseAt typeNotAllowed i p)) (order-first kinds i i p)
-    ∙ type-by (not (allowedIn version (kinds i))) (orderFault kinds (kinds i) i) i p
+    ∙ at-choose (not (allowedIn version (kinds i))) typeNotAllowed (orderFault kinds (kinds i) i) i p refl
 
 -- ---- reading an image
 
@@ -107,7 +90,7 @@ module _ (h : ℕ → ℕ → ℕ) where
   five false false false false false = refl
 
   -- the rules 10 and 11 give the section's own header
-  order-own : (r k t : Bool) (i : ℕ) → at (order r k t) i (offsetEntry h i) ≡ located h (at (order r k t) i 0)
+  order-own : (r k t : Bool) (i : ℕ) → verdictAt (order r k t) i (offsetEntry h i) ≡ located h (verdictAt (order r k t) i 0)
   unfolding positionIn
   order-own true true t i = refl
   order-own true false t i = refl
@@ -118,9 +101,9 @@ module _ (h : ℕ → ℕ → ℕ) where
   abbrev entry : Bool → Bool → Bool → Bool → Bool → ℕ
   entry a p b c d = choose a startsEarly (choose p notPacked (choose b endsLate (choose c sizesDiffer (choose d typeNotAllowed 0))))
 
-  entry-by : (a p b c d : Bool) (fault i : ℕ) → at fault i (offsetEntry h i) ≡ located h (at fault i 0)
-      → choose a (refuseAt startsEarly i (entryAt offsetsAt i)) (choose p (refuseAt notPacked i (entryAt offsetsAt i)) (choose b (refuseAt endsLate i (entryAt offsetsAt i)) (choose c (refuseAt sizesDiffer i (offsetEntry h i)) (at (choose d typeNotAllowed fault) i (offsetEntry h i)))))
-      ≡ located h (at (choose (eqb (entry a p b c d) 0) fault (entry a p b c d)) i 0)
+  entry-by : (a p b c d : Bool) (fault i : ℕ) → verdictAt fault i (offsetEntry h i) ≡ located h (verdictAt fault i 0)
+      → choose a (refuseAt startsEarly i (entryAt offsetsAt i)) (choose p (refuseAt notPacked i (entryAt offsetsAt i)) (choose b (refuseAt endsLate i (entryAt offsetsAt i)) (choose c (refuseAt sizesDiffer i (offsetEntry h i)) (verdictAt (choose d typeNotAllowed fault) i (offsetEntry h i)))))
+      ≡ located h (verdictAt (choose (eqb (entry a p b c d) 0) fault (entry a p b c d)) i 0)
   unfolding positionIn
   entry-by true p b c d fault i e = refl
   entry-by false true b c d fault i e = refl
@@ -143,7 +126,7 @@ unfolding firstThatApplies headerRules headerFault fieldFault
 header-first v =
     five (v .header) (ltb sizeLimit (v .size)) (ltb (v .size) headerSize) (not (eqb (magic v) magicNumber)) (not (versionKnown (version v))) (not (countKnown (count v)))
 
-section-first : (v : View) (i : ℕ) → firstThatApplies (sectionRules v i) ≡ located (v .header) (at (sectionFault v i) i 0)
+section-first : (v : View) (i : ℕ) → firstThatApplies (sectionRules v i) ≡ located (v .header) (verdictAt (sectionFault v i) i 0)
 unfolding firstThatApplies sectionRules sectionFault entryFault typeFault orderFault
 section-first v i =
     let a : Bool = ltb (offset v i) (start v i) in
@@ -156,14 +139,8 @@ section-first v i =
     ap (λ (x : Verdict). choose a (refuseAt startsEarly i entry) (choose p (refuseAt notPacked i entry) (choose b (refuseAt endsLate i entry) (choose c (refuseAt sizesDiffer i (offset v i)) x)))) (type-first (version v) (v .kind) i (offset v i))
     ∙ entry-by (v .header) a p b c d (orderFault (v .kind) (v .kind i) i) i own
 
-then-assoc : (a b c : Verdict) → andThen a (andThen b c) ≡ andThen (andThen a b) c
-then-assoc Accepted b c = refl
-then-assoc (Refused r) b c = refl
-
 then-then : (a b c d : Verdict) → andThen a (andThen b (andThen c d)) ≡ andThen (andThen a (andThen b c)) d
-then-then Accepted Accepted c d = refl
-then-then Accepted (Refused r) c d = refl
-then-then (Refused r) b c d = refl
+then-then a b c d = ap (andThen a) (then-assoc b c d) ∙ then-assoc a (andThen b c) d
 
 -- the verdict on a view, and so on an image, is that of the first rule that applies
 pub view-first : (v : View) (computed : ℕ) → verdictIn v computed ≡ firstThatApplies (viewRules v computed)
@@ -186,7 +163,7 @@ view-first v computed =
     (first-append (headerRules v) (sections ++ last)
     ∙ ap₂ andThen (header-first v)
     (first-append sections last
-    ∙ ap₂ andThen (walk-first f refl split (sectionRules v) (sectionFault v) (section-first v) (count v) 0) (last-by (v .header) m t c past))
+    ∙ ap₂ andThen (walk-first f refl split (sectionRules v) (λ j. verdictAt (sectionFault v j) j 0) (section-first v) (count v) 0) (last-by (v .header) m t c past))
     ∙ then-then (f head) (f walk) (f lack) (andThen tail sum)
     ∙ ap (λ (x : Verdict). andThen x (andThen tail sum)) (sym (split head (andThen walk lack) ∙ ap (andThen (f head)) (split walk lack)))
     ∙ then-assoc (f (andThen head (andThen walk lack))) tail sum)
@@ -239,9 +216,7 @@ plan-by false false true = refl
 plan-by false false false = refl
 
 then-room : (a : Verdict) (c : Bool) (w : Verdict) → andThen (andThen a (choose c (refuse dataLengthDiffers 0) Accepted)) w ≡ andThen a (choose c (refuse dataLengthDiffers 0) w)
-then-room Accepted true w = refl
-then-room Accepted false w = refl
-then-room (Refused r) c w = refl
+then-room a c w = sym (then-assoc a (choose c (refuse dataLengthDiffers 0) Accepted) w) ∙ ap (andThen a) (then-choose c _ Accepted w)
 
 module _ (p : Plan) where
   -- the data has another length than the plan says
@@ -266,7 +241,7 @@ module _ (p : Plan) where
       ∙ ap (λ (x : Verdict). andThen x (choose (dataDiffers given) (refuse dataLengthDiffers 0) Accepted))
       (sym
       (ap (λ (x : Verdict). choose v (refuse wrongVersion 0) (choose n (refuse wrongCount 0) x))
-      (first-append sections last ∙ ap (λ (x : Verdict). andThen x (firstThatApplies last)) (walk-first (λ v. v) refl (λ v w. refl) types (typeFault (p .version) kinds) (λ i. type-first (p .version) kinds i 0) (p .count) 0))
+      (first-append sections last ∙ ap (λ (x : Verdict). andThen x (firstThatApplies last)) (walk-first (λ v. v) refl (λ v w. refl) types (λ j. verdictAt (typeFault (p .version) kinds j) j 0) (λ i. type-first (p .version) kinds i 0) (p .count) 0))
       ∙ fields-by v n (andThen walk (firstThatApplies last))))
 
   pub write-first : (given room : ℕ) → writeVerdict p given room ≡ firstThatApplies (writeRules p given room)
@@ -304,7 +279,7 @@ module _ (s : List ℕ) where
 
   -- the rules on the rest of a record, and what follows it
   body-by : (a b r k t : Bool) (i : ℕ) (x : Ending) (w : Verdict) → w ≡ endingVerdict x
-      → andThen (choose a (refuseAt wrongCount 0 (recordStart s i)) (choose b (refuseAt recordCut (suc i) (recordStart s i)) (at (order r k t) (suc i) (recordStart s i)))) w
+      → andThen (choose a (refuseAt wrongCount 0 (recordStart s i)) (choose b (refuseAt recordCut (suc i) (recordStart s i)) (verdictAt (order r k t) (suc i) (recordStart s i)))) w
       ≡ endingVerdict (choose (eqb (choose a wrongCount (choose b recordCut (order r k t))) 0) x (stopped (choose a wrongCount (choose b recordCut (order r k t))) i))
   body-by true b r k t i x w e = refl
   body-by false true r k t i x w e = refl

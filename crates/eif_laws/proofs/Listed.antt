@@ -8,33 +8,30 @@ use lib.ListN.{getD, length}
 use mathlib.Core.Logic.{_⊎_, inl, inr, ⊎-elim}
 use native.Mathlib.Omega.{arith}
 use Rattle.eif_lemmas.proofs.Accept.{sound-at, file-ends}
-use Rattle.octets.proofs.Over.{le-or-lt}
+use Rattle.octets.proofs.Logic.{le-or-lt}
 use Rattle.eif.specs.Numbers.{placeCount}
 use Rattle.eif.specs.Layout.{countOf, headerSize, startAt}
-use Rattle.eif.specs.Reading.{verdictOf, sectionAt, sectionsOf, blankSection, readImage}
+use Rattle.eif.specs.Reading.{verdictOf, sectionAt, blankSection, readImage}
 use Rattle.eif.specs.Acceptance.{MeetsRules, InSection}
 use Rattle.eif.specs.declared.Reading.{Reading}
-use Rattle.eif.specs.declared.Section.{Section}
 use Rattle.eif.specs.declared.Verdict.the-variants.{Accepted}
-use Rattle.eif_lemmas.proofs.Reading.{reading-accepted}
-use Rattle.eif_lemmas.proofs.Table.{filled-at, filled-past}
+use Rattle.eif_lemmas.proofs.Reading.{reading-accepted, reading-section}
+use Rattle.eif_lemmas.proofs.Table.{filled-past}
 use Rattle.eif_laws.proofs.Acceptance.{accepted-exactly-when}
 
 module _ (s : List ℕ) (meets : MeetsRules s) where
   accepted : verdictOf s ≡ Accepted
   accepted = accepted-exactly-when s .1 meets
 
-  listed-as : (i : ℕ) (x : Section) → getD (sectionsOf s) i blankSection ≡ x → getD (readImage s .sections) i blankSection ≡ x
-  listed-as i x e = ap (λ (r : Reading). getD (r .sections) i blankSection) (reading-accepted s accepted) ∙ e
-
   -- a used place holds what the file says of that section
   pub used-place : (i : ℕ) → i < countOf s → getD (readImage s .sections) i blankSection ≡ sectionAt s i
-  used-place i h =
-      listed-as i (sectionAt s i) (filled-at (sectionAt s) blankSection blankSection placeCount (countOf s) i h (meets .known-count .1))
+  used-place = reading-section s accepted
 
   -- and an unused one nothing
   pub unused-place : (i : ℕ) → countOf s ≤ i → getD (readImage s .sections) i blankSection ≡ blankSection
-  unused-place i h = listed-as i blankSection (filled-past (sectionAt s) blankSection placeCount (countOf s) i h)
+  unused-place i h =
+      ap (λ (r : Reading). getD (r .sections) i blankSection) (reading-accepted s accepted)
+      ∙ filled-past (sectionAt s) blankSection placeCount (countOf s) i h
 
 -- ---- no hidden room
 

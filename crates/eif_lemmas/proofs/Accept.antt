@@ -12,15 +12,15 @@ use Rattle.octets.specs.Lists.{All}
 use Rattle.eif.specs.Numbers.{placeCount}
 use Rattle.eif.specs.Rules.{orderFault, missing}
 use Rattle.eif.specs.Layout.{View, viewOf, version, count, checksum, versionOf, countOf, startAt, kindAt}
-use Rattle.eif.specs.Reading.{sectionFault, hasTail, missingFault, tailFault, checksumFault, judged, early, verdictIn, checksumOf, verdictOf, sectionAt, blankSection, sectionsOf, dataOf}
+use Rattle.eif.specs.Reading.{sectionFault, hasTail, missingFault, tailFault, checksumFault, judged, early, verdictIn, checksumOf, verdictOf, sectionAt, blankSection, sectionIn, sectionsOf, dataOf}
 use Rattle.eif.specs.declared.Section.{Section}
 use Rattle.eif.specs.declared.Verdict.the-variants.{Accepted}
 use Rattle.octets.proofs.Logic.{choose-zero}
-use Rattle.eif_lemmas.proofs.Verdicts.{then-accepted, whole-zero, whole-at-zero, all-accepted, walk-accepted, walk-all}
-use Rattle.eif_lemmas.proofs.Table.{all-filled}
+use Rattle.eif_lemmas.proofs.Verdicts.{then-accepted, accepted-zero, all-accepted, walk-accepted, walk-all}
+use Rattle.eif_lemmas.proofs.Table.{all-filled, filled-at}
 use Rattle.eif_lemmas.proofs.Position.{located-accepted}
 use Rattle.eif_lemmas.proofs.View.{SoundHeader, header, header-fields, sound-of, order-of, Sound}
-use Rattle.eif_lemmas.proofs.Fields.{fields-fine}
+use Rattle.eif_lemmas.proofs.Fields.{fields-zero}
 
 pub record Passes (v : View) (computed : ℕ) : Type 0 where
   pub head : SoundHeader v
@@ -62,20 +62,20 @@ module _ (v : View) where
       let a = then-accepted _ _ (located-accepted _ _ (t .0)) in
       let b = then-accepted _ _ (a .1) in
       record {
-        head = header v (whole-zero _ (a .0));
+        head = header v (accepted-zero _ _ _ (a .0));
         sections = λ i h. walk-accepted (sectionFault v) (count v) 0 (b .0) i (omega arith) (omega arith);
-        complete = missing-zero (whole-zero _ (b .1));
-        no-tail = tail-zero (whole-at-zero _ _ (t .1));
-        sum = sum-zero computed (whole-at-zero _ _ (j .1));
+        complete = missing-zero (accepted-zero _ _ _ (b .1));
+        no-tail = tail-zero (accepted-zero _ _ _ (t .1));
+        sum = sum-zero computed (accepted-zero _ _ _ (j .1));
       }
 
   pub →accepted : (computed : ℕ) → Passes v computed → verdictIn v computed ≡ Accepted
   unfolding verdictIn early judged
   →accepted computed p =
       let h = p .head in
-      let z = fields-fine (version v) (count v) (h .low) (h .high) (h .some) (h .few) ∙ header-fields v (h .small) (h .whole) (h .magic) in
+      let z = sym (header-fields v (h .small) (h .whole) (h .magic)) ∙ fields-zero (version v) (count v) (h .fields) in
       let w = walk-all (sectionFault v) (count v) 0 (λ j a b. p .sections j (omega arith)) in
-      let e = all-accepted _ _ _ (sym z) w (zero-missing (p .complete)) in
+      let e = all-accepted _ _ _ z w (zero-missing (p .complete)) in
       rw (e, zero-tail (p .no-tail), zero-sum computed (p .sum))
 
 -- ---- of an accepted image
@@ -95,11 +95,15 @@ module _ (s : List ℕ) (e : verdictOf s ≡ Accepted) where
       all-filled (Inside s) (sectionAt s) blankSection placeCount (countOf s) (omega arith)
       (λ i h. sound-of (viewOf s) i (passes .sections i h) .ends)
 
+  -- a used place of its section list holds what the file says of that section
+  pub section-is : (i : ℕ) → i < countOf s → sectionIn (sectionsOf s) i ≡ sectionAt s i
+  section-is i h = filled-at (sectionAt s) blankSection blankSection placeCount (countOf s) i h (passes .head .fields .few)
+
   -- the file ends where the last section does
   pub file-ends : length s ≡ startAt s (countOf s)
   file-ends =
       let t : length s ≤ startAt s (countOf s) = ltb-false (startAt s (countOf s)) (length s) (passes .no-tail) in
-      let u = last (countOf s) (omega (arith, passes .head .some)) refl in
+      let u = last (countOf s) (omega (arith, passes .head .fields .some)) refl in
       omega arith
     where
       last : (n : ℕ) → 0 < n → countOf s ≡ n → startAt s n ≤ length s

@@ -12,13 +12,12 @@ use Rattle.octets.specs.Logic.{choose}
 use Rattle.eif.specs.Answers.{refuse, indexOf, wholeAt, wholeVerdict}
 use Rattle.eif.specs.Rules.{fieldFault, firstFault}
 use Rattle.eif.specs.Table.{filled}
-use Rattle.eif.specs.Layout.{headerSize, sectionHeaderSize, entrySize, offsetsAt, sizesAt, entryAt, checksumAt, View, version, count, offset, tableSize, end, start, headerFlags, defaultMem, defaultCpus, headerFlagsAt, defaultMemAt, defaultCpusAt}
+use Rattle.eif.specs.Layout.{headerSize, sectionHeaderSize, entrySize, offsetsAt, sizesAt, entryAt, checksumAt, View, version, count, offset, tableSize, end, start, headerFlags, defaultMem, defaultCpus, headerFlagsAt, defaultMemAt, defaultCpusAt, magicAt, versionAt, countAt}
 use Rattle.eif.specs.Reading.{headerFault, entryFault, sectionFault, missingFault, tailFault, checksumFault, positionIn, located, judged, early, verdictIn, blankSection, section, sections, readingOf, readView}
 use Rattle.eif.specs.declared.Verdict.{Verdict}
 use Rattle.eif.specs.declared.Verdict.the-variants.{Accepted, Refused}
-use Rattle.octets.proofs.Over.{le-or-lt}
-use Rattle.octets.proofs.Logic.{equal-or-not}
-use Rattle.eif_lemmas.proofs.Verdicts.{then-accepted, then-same, whole-zero, walk-accepted, walk-same}
+use Rattle.octets.proofs.Logic.{equal-or-not, le-or-lt}
+use Rattle.eif_lemmas.proofs.Verdicts.{then-accepted, then-same, accepted-zero, walk-accepted, walk-same}
 use Rattle.eif_lemmas.proofs.Types.{order-same, missing-same}
 use Rattle.eif_lemmas.proofs.Table.{filled-same}
 use Rattle.eif_lemmas.proofs.Position.{located-accepted, early-accepted, judged-index}
@@ -65,19 +64,19 @@ module _ (v w : View) (same : Agree v w) where
   header-same =
       ⊎-elim
       (λ h.
-      let m = same .headers h 4 0 (omega arith) in
-      let n = same .headers h 2 4 (omega arith) in
-      let c = same .headers h 2 26 (omega arith) in
+      let m = same .headers h 4 magicAt (omega arith) in
+      let n = same .headers h 2 versionAt (omega arith) in
+      let c = same .headers h 2 countAt (omega arith) in
       rw (same .sizes, m, n, c))
       (λ h. rw (same .sizes) (simp (lt-ltb (w .size) headerSize h)))
       (le-or-lt headerSize (w .size))
 
   module _ (whole : headerSize ≤ w .size) where
     version-same : version v ≡ version w
-    version-same = same .headers whole 2 4 (omega arith)
+    version-same = same .headers whole 2 versionAt (omega arith)
 
     count-same : count v ≡ count w
-    count-same = same .headers whole 2 26 (omega arith)
+    count-same = same .headers whole 2 countAt (omega arith)
 
     offset-same : (i : ℕ) → i < placeCount → offset v i ≡ offset w i
     offset-same i h = same .headers whole entrySize (entryAt offsetsAt i) (omega arith)
@@ -122,7 +121,7 @@ module _ (v w : View) (same : Agree v w) where
       walk : firstFault (sectionFault v) (count v) 0 ≡ firstFault (sectionFault w) (count w) 0
       walk =
           ap (λ (n : ℕ). firstFault (sectionFault v) n 0) count-same
-          ∙ walk-same (sectionFault v) (sectionFault w) (count w) 0 (λ k l. absurd (omega arith)) (λ j l good. section-same j (omega arith) (omega arith) good)
+          ∙ walk-same (sectionFault v) (sectionFault w) (count w) (λ j l good. section-same j (omega arith) (omega arith) good)
 
       module _ (accepted : firstFault (sectionFault w) (count w) 0 ≡ Accepted) where
         all-lie : (j : ℕ) → j < count w → Lies w j
@@ -153,8 +152,8 @@ module _ (v w : View) (same : Agree v w) where
   judged-same =
       then-same _ _ _ _ (ap wholeVerdict header-same)
       (λ e.
-      let h = header w (whole-zero _ e) in
-      then-same _ _ _ _ (walk (h .whole) (h .few)) (λ a. ap wholeVerdict (whole-same (h .whole) (h .few) a)))
+      let h = header w (accepted-zero _ _ _ e) in
+      then-same _ _ _ _ (walk (h .whole) (h .fields .few)) (λ a. ap wholeVerdict (whole-same (h .whole) (h .fields .few) a)))
 
   -- the position looks only at an entry of the table, and a file too short for one is refused with 2
   located-same : (x : Verdict) → indexOf x < placeCount → (w .size < headerSize → x ≡ refuse imageTooShort 0)
@@ -184,8 +183,8 @@ module _ (v w : View) (same : Agree v w) where
   good e =
       let a = then-accepted _ _ e in
       let b = then-accepted _ _ (a .1) in
-      let h = header w (whole-zero _ (a .0)) in
-      record { whole = h .whole; few = h .few; walked = b .0 }
+      let h = header w (accepted-zero _ _ _ (a .0)) in
+      record { whole = h .whole; few = h .fields .few; walked = b .0 }
 
   early-same : early v ≡ early w
   unfolding early

@@ -1,7 +1,7 @@
 -- The rules 4 and 5 on a version and a number of sections, each from the facts that a test gives, and back.
 -- Assumes nothing.
 use Prim.Native.Nat.{ℕ, _<_, _≤_}
-use mathlib.Core.Path.{_≡_}
+use mathlib.Core.Path.{_≡_, sym}
 use mathlib.Core.Bool.{not}
 use borrow.Author.Tests.{le-leb, lt-leb, leb-true, not-false}
 use Rattle.eif.specs.Numbers.{placeCount, fewestSections, oldestVersion, newestVersion, wrongVersion, wrongCount}
@@ -47,3 +47,7 @@ fields version count e =
     let k = both-true _ _ (not-false _ (a .0)) in
     let n = both-true _ _ (not-false _ (b .0)) in
     record { low = leb-true _ _ (k .0); high = leb-true _ _ (k .1); some = leb-true _ _ (n .0); few = leb-true _ _ (n .1) }
+
+-- and back
+pub fields-zero : (version count : ℕ) → Fields version count → fieldFault version count ≡ 0
+fields-zero version count f = sym (fields-fine version count (f .low) (f .high) (f .some) (f .few))

@@ -8,6 +8,7 @@ pub mod Reading
 pub mod Accept
 pub mod Agree
 pub mod Mark
+pub mod Head
 pub mod Flags
 pub mod RollEnd
 pub mod Room

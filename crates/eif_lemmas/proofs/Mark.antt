@@ -15,7 +15,7 @@ use lib.Count.{ones, ones-step, trailingZeros, under}
 use Rattle.eif.specs.Numbers.{ramdisk}
 use Rattle.octets.specs.Logic.{choose}
 use Rattle.eif.specs.Table.{filled}
-use Rattle.eif.specs.Reading.{blankSection, markOf, ramdiskBit, ramdiskCount, firstRamdisk, ramdisksIn}
+use Rattle.eif.specs.Reading.{blankSection, markOf, ramdiskBit, ramdiskCount, firstRamdisk}
 use Rattle.eif.specs.declared.Section.{Section}
 
 -- ---- one place after the other, from the last
@@ -88,7 +88,7 @@ mark-one-exactly l i =
 -- ---- all ones, and the lowest
 
 pub ones-mark : (l : List Section) → ones (markOf l) ≡ ramdiskCount l
-unfolding markOf ones ramdisksIn
+unfolding markOf ones
 ones-mark [] = refl
 ones-mark (x ∷ xs) =
     let h = bit-lt (eqb (x .kind) ramdisk) in

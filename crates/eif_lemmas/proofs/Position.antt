@@ -7,13 +7,13 @@ use native.Mathlib.Omega.{arith}
 use lib.Dec.{eqb}
 use Rattle.eif.specs.Numbers.{placeCount}
 use Rattle.octets.specs.Logic.{choose}
-use Rattle.eif.specs.Answers.{refuse, indexOf, andThen, wholeVerdict}
-use Rattle.eif.specs.Rules.{firstFault}
+use Rattle.eif.specs.Answers.{refuse, verdictAt, indexOf, andThen, wholeVerdict}
+use Rattle.eif.specs.Rules.{firstFault, firstRefusal}
 use Rattle.eif.specs.Layout.{View, count}
 use Rattle.eif.specs.Reading.{headerFault, sectionFault, missingFault, located, judged, early}
 use Rattle.eif.specs.declared.Verdict.{Verdict}
 use Rattle.eif.specs.declared.Verdict.the-variants.{Accepted, Refused}
-use Rattle.eif_lemmas.proofs.Verdicts.{never, then-accepted, whole-zero}
+use Rattle.eif_lemmas.proofs.Verdicts.{never, then-accepted, accepted-zero}
 use Rattle.eif_lemmas.proofs.View.{header}
 
 pub located-accepted : (header : ℕ → ℕ → ℕ) (x : Verdict) → located header x ≡ Accepted → x ≡ Accepted
@@ -31,18 +31,21 @@ module _ (m : ℕ) (some : 0 < m) where
   then-index Accepted b h g = g refl
   then-index (Refused r) b h g = h
 
-  chosen-index : (b : Bool) (x : Verdict) (n i : ℕ) → indexOf x < m → i < m → indexOf (choose b x (refuse n i)) < m
-  chosen-index true x n i h g = h
-  chosen-index false x n i h g = g
+  at-index : (n i : ℕ) → i < m → indexOf (verdictAt n i 0) < m
+  at-index n i h = go (eqb n 0)
+    where
+      go : (b : Bool) → indexOf (choose b Accepted (refuse n i)) < m
+      go true = some
+      go false = h
 
   whole-index : (n : ℕ) → indexOf (wholeVerdict n) < m
-  whole-index n = chosen-index (eqb n 0) Accepted n 0 some some
+  whole-index n = at-index n 0 some
 
   pub walk-index : (fault : ℕ → ℕ) (n i : ℕ) → i + n ≤ m → indexOf (firstFault fault n i) < m
-  unfolding firstFault
+  unfolding firstRefusal
   walk-index fault zero i h = some
   walk-index fault (suc n) i h =
-      chosen-index (eqb (fault i) 0) (firstFault fault n (suc i)) (fault i) i (walk-index fault n (suc i) (omega arith)) (omega arith)
+      then-index (verdictAt (fault i) i 0) (firstFault fault n (suc i)) (at-index (fault i) i (omega arith)) (λ _. walk-index fault n (suc i) (omega arith))
 
 pub judged-index : (v : View) → indexOf (judged v) < placeCount
 unfolding judged
@@ -52,5 +55,5 @@ judged-index v =
     let last : Verdict = wholeVerdict (missingFault v) in
     then-index placeCount some (wholeVerdict (headerFault v)) (andThen walk last) (whole-index placeCount some (headerFault v))
     (λ e.
-    let few = header v (whole-zero (headerFault v) e) .few in
+    let few = header v (accepted-zero (headerFault v) 0 0 e) .fields .few in
     then-index placeCount some walk last (walk-index placeCount some (sectionFault v) (count v) 0 (omega arith)) (λ a. whole-index placeCount some (missingFault v)))

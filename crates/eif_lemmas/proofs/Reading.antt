@@ -9,11 +9,12 @@ use Rattle.eif.specs.Numbers.{sizeLimit, imageTooLong, checksumDiffers}
 use Rattle.eif.specs.Answers.{refuse, refuseAt}
 use Rattle.eif.specs.Rules.{firstFault}
 use Rattle.eif.specs.Layout.{checksumAt, View, viewOf, count, checksum, countOf, headerFlagsOf}
-use Rattle.eif.specs.Reading.{headerFault, sectionFault, checksumFault, positionIn, located, judged, early, verdictIn, verdictOf, blankReading, readingOf, readView, readImage, sectionsOf}
+use Rattle.eif.specs.Reading.{headerFault, sectionFault, checksumFault, positionIn, located, judged, early, verdictIn, verdictOf, blankReading, readingOf, readView, readImage, sectionIn, sectionAt, sectionsOf}
 use Rattle.eif.specs.declared.Reading.{Reading}
 use Rattle.eif.specs.declared.Refusal.{Refusal}
 use Rattle.eif.specs.declared.Verdict.{Verdict}
 use Rattle.eif.specs.declared.Verdict.the-variants.{Accepted, Refused}
+use Rattle.eif_lemmas.proofs.Accept.{section-is}
 
 module _ (v : View) where
   pub early-header : (headerFault v ≡ 0 → ⊥) → located (v .header) (refuse (headerFault v) 0) ≡ early v
@@ -59,6 +60,9 @@ read-too-long v computed h = simp (lt-ltb sizeLimit (v .size) h)
 pub reading-accepted : (s : List ℕ) → verdictOf s ≡ Accepted → readImage s ≡ readingOf (viewOf s) Accepted
 unfolding readView
 reading-accepted s e = ap (readingOf (viewOf s)) e
+
+pub reading-section : (s : List ℕ) → verdictOf s ≡ Accepted → (i : ℕ) → i < countOf s → sectionIn (readImage s .sections) i ≡ sectionAt s i
+reading-section s e i h = ap (λ (x : Reading). sectionIn (x .sections) i) (reading-accepted s e) ∙ section-is s e i h
 
 module _ (s : List ℕ) (r : Reading) (is : r ≡ readImage s) where
   pub verdict-is : r .verdict ≡ verdictOf s

@@ -1,16 +1,18 @@
--- Laws of a table whose first places are used, over any element.
+-- Laws of a table whose first places are used, over any element, and of lists given by place that are joined.
 -- Assumes nothing.
 use Prim.Native.Nat.{ℕ, zero, suc, _+_, _<_, _≤_, _-_}
 use mathlib.Core.Path.{_≡_, refl, sym, ap, ap₂, _∙_}
-use mathlib.Core.List.{List, [], _∷_}
+use mathlib.Core.List.{List, [], _∷_, _++_}
 use native.Mathlib.Omega.{arith}
 use native.Mathlib.Numerals.{add-one}
-use native.Mathlib.Nat.{not-suc-le-zero, le-of-suc-le-suc, le-trans}
-use lib.ListN.{length, getD, set, replicate, length-replicate, take}
-use lib.Seq.{take-at}
+use native.Mathlib.Nat.{add-zero, sub-zero, not-suc-le-zero, le-of-suc-le-suc, le-trans}
+use lib.ListN.{length, getD, set, replicate, length-append, length-replicate, take, drop}
+use lib.Seq.{take-at, drop-at, drop-drop}
 use Rattle.eif.specs.Numbers.{placeCount}
+use Rattle.octets.specs.Bytes.{AreBytes}
 use Rattle.octets.specs.Lists.{All}
-use Rattle.eif.specs.Table.{filled, inTable}
+use Rattle.octets.proofs.Value.{bytes-append}
+use Rattle.eif.specs.Table.{filled, inTable, joinFrom}
 
 pub filled-none {ℓ} : {A : Type ℓ} (f : ℕ → A) (d : A) (m : ℕ) → filled f d m 0 ≡ replicate m d
 filled-none f d zero = refl
@@ -73,3 +75,54 @@ all-at P (x ∷ xs) (suc i) d h a = all-at P xs i d (omega arith) (a .1)
 pub take-table : {A : Type 0} (d : A) (l : List A) → take (length l) (inTable d l) ≡ l
 unfolding inTable
 take-table d l = take-at l (replicate (placeCount - length l) d) (length l) refl
+
+-- ---- lists given by place, joined
+
+pub join-suc : (f : ℕ → List ℕ) (n i : ℕ) → joinFrom f (suc n) i ≡ f i ++ joinFrom f n (suc i)
+unfolding joinFrom
+join-suc f n i = refl
+
+-- the list at a place before the last, and those after it
+pub join-next : (f : ℕ → List ℕ) (count i : ℕ) → i < count → joinFrom f (count - i) i ≡ f i ++ joinFrom f (count - suc i) (suc i)
+join-next f count i h =
+    let n : count - i ≡ suc (count - suc i) = omega arith in
+    ap (λ (m : ℕ). joinFrom f m i) n ∙ join-suc f (count - suc i) i
+
+pub bytes-joined : (f : ℕ → List ℕ) (n i : ℕ) → ((j : ℕ) → AreBytes (f j)) → AreBytes (joinFrom f n i)
+unfolding joinFrom
+bytes-joined f zero i w = tt
+bytes-joined f (suc n) i w = bytes-append (f i) (joinFrom f n (suc i)) (w i) (bytes-joined f n (suc i) w)
+
+pub join-same : (f g : ℕ → List ℕ) (n i : ℕ) → ((j : ℕ) → j < i + n → f j ≡ g j) → joinFrom f n i ≡ joinFrom g n i
+unfolding joinFrom
+join-same f g zero i h = refl
+join-same f g (suc n) i h = ap₂ (λ (x y : List ℕ). x ++ y) (h i (omega arith)) (join-same f g n (suc i) (λ j l. h j (omega arith)))
+
+module _ (f : ℕ → List ℕ) (at : ℕ → ℕ) (count : ℕ) where
+  -- where each starts at the end of the one before
+  module _ (next : (i : ℕ) → i < count → at (suc i) ≡ at i + length (f i)) where
+    -- they end where the last one does
+    pub join-end : (n i : ℕ) → i + n ≡ count → at i + length (joinFrom f n i) ≡ at count
+    unfolding joinFrom
+    join-end zero i e = let z : i ≡ count = omega arith in add-zero (at i) ∙ ap at z
+    join-end (suc n) i e =
+        let h = length-append (f i) (joinFrom f n (suc i)) in
+        let r = join-end n (suc i) (omega arith) in
+        let q = next i (omega arith) in
+        ap (λ (m : ℕ). at i + m) h ∙ (omega arith)
+
+    -- in a list that has them from a place on, each stands at its start
+    pub join-from : (s : List ℕ) → drop (at 0) s ≡ joinFrom f count 0 → (i : ℕ) → i ≤ count → drop (at i) s ≡ joinFrom f (count - i) i
+    join-from s all zero h = all ∙ ap (λ (n : ℕ). joinFrom f n 0) (sym (sub-zero count))
+    join-from s all (suc i) h =
+        ap (λ (m : ℕ). drop m s) (next i h)
+        ∙ sym (drop-drop (length (f i)) (at i) s)
+        ∙ ap (drop (length (f i))) (join-from s all i (omega arith) ∙ join-next f count i h)
+        ∙ drop-at (f i) (joinFrom f (count - suc i) (suc i)) (length (f i)) refl
+
+  -- a list in which each stands before what follows it has them joined
+  pub join-split : (s : List ℕ) → ((i : ℕ) → i < count → drop (at i) s ≡ f i ++ drop (at (suc i)) s) → drop (at count) s ≡ []
+      → (n i : ℕ) → i + n ≡ count → drop (at i) s ≡ joinFrom f n i
+  unfolding joinFrom
+  join-split s each last zero i e = let z : i ≡ count = omega arith in ap (λ (k : ℕ). drop (at k) s) z ∙ last
+  join-split s each last (suc n) i e = each i (omega arith) ∙ ap (λ (l : List ℕ). f i ++ l) (join-split s each last n (suc i) (omega arith))

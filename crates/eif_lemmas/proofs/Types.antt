@@ -1,22 +1,22 @@
 -- What no roll holds and no stream keeps. The rules on section types, 10, 11 and 12, one earlier section after the other; and that the types
 -- alone decide.
 -- Assumes nothing.
-use Prim.Native.Nat.{ℕ, zero, suc, _<_}
+use Prim.Native.Nat.{ℕ, zero, suc, _+_, _<_, _≤_}
 use mathlib.Core.Path.{_≡_, refl, sym, ap, ap₂, _∙_}
 use mathlib.Core.Bool.{Bool, true, false}
 use native.Mathlib.Omega.{arith}
 use borrow.Author.Tests.{eq-eqb, ne-eqb}
 use lib.Dec.{eqb}
-use mathlib.Core.List.{List, []}
+use mathlib.Core.List.{List, [], _∷_}
 use lib.ListN.{replicate}
 use Rattle.eif.specs.declared.Section.{Section}
-use Rattle.eif.specs.Reading.{blankSection}
-use Rattle.eif.specs.Roll.{recordsBy}
+use Rattle.eif.specs.Reading.{blankSection, ramdiskIn, sectionKind}
+use Rattle.eif.specs.Roll.{measuredIn}
 use Rattle.eif.specs.Numbers.{kernel, commandLine, ramdisk, metadata, ramdiskBeforeKernel, typeRepeated}
-use Rattle.octets.specs.Logic.{either}
+use Rattle.octets.specs.Logic.{either, choose}
 use Rattle.octets.proofs.Logic.{not-both}
-use Rattle.eif.specs.Rules.{bootType, seen, orderFault, bootMissing, missing}
-use Rattle.eif.specs.Stream.{keeps}
+use Rattle.eif.specs.Rules.{bootType, seen, orderFault, bootMissing, missing, typeFault}
+use Rattle.eif.specs.Stream.{keeps, kept}
 use Rattle.eif.specs.declared.Stream.{Stream}
 use Rattle.eif.specs.declared.Stream.the-variants.{Whole, Boot, App}
 
@@ -33,11 +33,17 @@ not-kept Whole kind before e = e
 not-kept Boot kind before e = simp e
 not-kept App kind before e = simp (not-ramdisk kind e)
 
--- so an unused place has no record
-pub no-records : (held : Section → List ℕ) (m : ℕ) → recordsBy held (replicate m blankSection) ≡ []
-unfolding recordsBy
-no-records held zero = refl
-no-records held (suc m) = no-records held m
+-- so nothing is kept of unused places
+pub none-kept : (stream : Stream) (before m : ℕ) → kept stream sectionKind before (replicate m blankSection) ≡ []
+unfolding kept
+none-kept stream before zero = refl
+none-kept stream before (suc m) = rw (not-kept stream (blankSection .kind) before refl) (none-kept stream (before + 0) m)
+
+-- Whole keeps what a roll holds
+pub whole-kept : (before : ℕ) (l : List Section) → kept Whole sectionKind before l ≡ measuredIn l
+unfolding kept keeps measuredIn
+whole-kept before [] = refl
+whole-kept before (x ∷ xs) = ap (λ (r : List Section). choose (bootType (x .kind)) (x ∷ r) r) (whole-kept (before + ramdiskIn (x .kind)) xs)
 
 -- ---- the rules 10 and 11
 
@@ -78,6 +84,10 @@ module _ (f g : ℕ → ℕ) where
   pub order-same : (kind n : ℕ) → ((j : ℕ) → j < n → f j ≡ g j) → orderFault f kind n ≡ orderFault g kind n
   unfolding orderFault
   order-same kind n h = simp (seen-same kernel n h, seen-same kind n h)
+
+  pub type-same : (version i : ℕ) → ((j : ℕ) → j ≤ i → f j ≡ g j) → typeFault version f i ≡ typeFault version g i
+  unfolding typeFault
+  type-same version i h = simp (h i (omega arith), order-same (g i) i (λ j l. h j (omega arith)))
 
   pub boot-missing-same : (n : ℕ) → ((j : ℕ) → j < n → f j ≡ g j) → bootMissing f n ≡ bootMissing g n
   boot-missing-same n h = simp (seen-same kernel n h, seen-same commandLine n h)

@@ -7,12 +7,12 @@ use mathlib.Core.Logic.{⊎-elim}
 use native.Mathlib.Omega.{arith}
 use borrow.Author.Tests.{lt-ltb, le-ltb, eq-eqb, ne-eqb, ltb-false, eqb-true, not-false}
 use lib.Dec.{eqb, ltb}
-use Rattle.eif.specs.Numbers.{sizeLimit, placeCount, fewestSections, oldestVersion, newestVersion, imageTooLong, imageTooShort, wrongMagic, startsEarly, endsLate, sizesDiffer, typeNotAllowed, notPacked}
+use Rattle.eif.specs.Numbers.{sizeLimit, imageTooLong, imageTooShort, wrongMagic, startsEarly, endsLate, sizesDiffer, typeNotAllowed, notPacked}
 use Rattle.eif.specs.Rules.{fieldFault, allowedIn, orderFault}
 use Rattle.eif.specs.Layout.{magicNumber, headerSize, View, magic, version, count, offset, tableSize, end, start}
 use Rattle.eif.specs.Reading.{headerFault, entryFault, sectionFault}
-use Rattle.octets.proofs.Logic.{choose-zero, zero-or}
-use Rattle.eif_lemmas.proofs.Fields.{fields}
+use Rattle.octets.proofs.Logic.{choose-zero, equal-or-not}
+use Rattle.eif_lemmas.proofs.Fields.{Fields, fields}
 
 -- ---- the rules 6, 20 and 7 to 11
 
@@ -104,10 +104,7 @@ pub record SoundHeader (v : View) : Type 0 where
   pub small : v .size ≤ sizeLimit
   pub whole : headerSize ≤ v .size
   pub magic : magic v ≡ magicNumber
-  pub low : oldestVersion ≤ version v
-  pub high : version v ≤ newestVersion
-  pub some : fewestSections ≤ count v
-  pub few : count v ≤ placeCount
+  pub fields : Fields (version v) (count v)
 
 pub header : (v : View) → headerFault v ≡ 0 → SoundHeader v
 unfolding headerFault
@@ -115,21 +112,17 @@ header v e =
     let a = choose-zero (ltb sizeLimit (v .size)) _ _ e in
     let b = choose-zero (ltb (v .size) headerSize) _ _ (a .1) in
     let d = choose-zero (not (eqb (magic v) magicNumber)) _ _ (b .1) in
-    let f = fields (version v) (count v) (d .1) in
     record {
       small = ltb-false _ _ (a .0);
       whole = ltb-false _ _ (b .0);
       magic = eqb-true _ _ (not-false _ (d .0));
-      low = f .low;
-      high = f .high;
-      some = f .some;
-      few = f .few;
+      fields = fields (version v) (count v) (d .1);
     }
 
 -- a section without a fault has no fault of its entry either
 pub entry-zero : (v : View) (i : ℕ) → sectionFault v i ≡ 0 → entryFault v i ≡ 0
 unfolding sectionFault
-entry-zero v i e = ⊎-elim (λ z. z) (λ z. simp (ne-eqb (entryFault v i) 0 z) at e) (zero-or (entryFault v i))
+entry-zero v i e = ⊎-elim (λ z. z) (λ z. simp (ne-eqb (entryFault v i) 0 z) at e) (equal-or-not (entryFault v i) 0)
 
 pub sound-of : (v : View) (i : ℕ) → sectionFault v i ≡ 0 → Sound v i
 sound-of v i e = sound v i (entry-zero v i e)

@@ -10,7 +10,7 @@ use borrow.Author.Tests.{lt-ltb, le-ltb}
 use lib.Dec.{ltb, lit<}
 use lib.ListN.{length, length-append}
 use Rattle.io.specs.Digits.{digits, glyph, Fewest}
-use Rattle.octets.proofs.Over.{le-or-lt}
+use Rattle.octets.proofs.Logic.{le-or-lt}
 use Rattle.eif_lines.specs.Lines.{digitsBy, digitCount, decimalText, mostDigits}
 
 -- a power of ten is more than its exponent

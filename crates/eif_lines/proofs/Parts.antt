@@ -1,6 +1,6 @@
 -- Laws of parts that are written one after the other: where they end, the rows of a list, and a text at the start of an empty buffer.
 -- Assumes nothing.
-use Prim.Native.Nat.{ℕ, zero, suc, _+_, _-_, _≤_, _<_}
+use Prim.Native.Nat.{ℕ, suc, _+_, _-_, _≤_, _<_}
 use mathlib.Core.Path.{_≡_, sym, ap, ap₂, _∙_}
 use mathlib.Core.List.{List, [], _++_}
 use native.Mathlib.Omega.{arith}
@@ -8,7 +8,7 @@ use lib.ListN.{length, take, drop, getD, replicate, length-append, length-replic
 use lib.Seq.{drop-cons, getD-take, length-take-le}
 use Rattle.io.specs.Counts.{Counts}
 use Rattle.octets.specs.Over.{over}
-use Rattle.octets.proofs.Over.{length-over, over-start, over-append}
+use Rattle.octets.proofs.Over.{length-over, over-split, over-row}
 use Rattle.eif.specs.declared.Section.{Section}
 use Rattle.eif.specs.Reading.{blankSection}
 use Rattle.eif_lines.specs.declared.Text.{Text}
@@ -47,7 +47,7 @@ module _ (sections : List Section) (count i : ℕ) (fits : count ≤ length sect
 
   pub rows-over : i < count → (d : List ℕ) (at : ℕ)
       → over (over d at (rowAt sections i)) (at + length (rowAt sections i)) (rowsFrom sections count (suc i)) ≡ over d at (rowsFrom sections count i)
-  rows-over h d at = sym (over-append d at (rowAt sections i) (rowsFrom sections count (suc i))) ∙ ap (over d at) (sym (rows-next h))
+  rows-over h d at = over-split d at (rowAt sections i) (rowsFrom sections count (suc i)) (rowsFrom sections count i) (rows-next h)
 
   pub rows-done : count ≤ i → (d : List ℕ) (at : ℕ) → over d at (rowsFrom sections count i) ≡ d
   unfolding over
@@ -55,34 +55,15 @@ module _ (sections : List Section) (count i : ℕ) (fits : count ≤ length sect
 
 -- ---- a text in the buffer
 
-zeros : ℕ → List ℕ
-zeros m = replicate m 0
-
-drop-zeros : (n m : ℕ) → drop n (zeros m) ≡ zeros (m - n)
-unfolding zeros
-drop-zeros zero m = let e : m ≡ m - 0 = omega arith in ap zeros e
-drop-zeros (suc n) zero = let e : 0 ≡ 0 - suc n = omega arith in ap zeros e
-drop-zeros (suc n) (suc m) = let e : m - n ≡ suc m - suc n = omega arith in drop-zeros n m ∙ ap zeros e
-
-length-zeros : (m : ℕ) → length (zeros m) ≡ m
-unfolding zeros
-length-zeros m = length-replicate m 0
-
-over-zeros : (m : ℕ) (z t : List ℕ) → z ≡ zeros m → length t ≤ m → over z 0 t ≡ t ++ zeros (m - length t)
-over-zeros m z t e h =
-    let n = ap length e ∙ length-zeros m in
-    over-start z t (omega arith) ∙ ap (λ (l : List ℕ). t ++ l) (ap (drop (length t)) e ∙ drop-zeros (length t) m)
-
 abbrev pub text : List ℕ → ℕ → Text
 text b n = record { bytes = b; length = n }
 
 module _ (z t b : List ℕ) (n : ℕ) (empty : z ≡ replicate roomSize 0) (put : b ≡ over z 0 t) (ended : n ≡ length t) (fits : n ≤ roomSize) where
   pub text-filled : text b n ≡ inBuffer t
-  unfolding inBuffer zeros
-  text-filled = ap₂ text (put ∙ over-zeros roomSize z t empty (omega arith)) ended
+  unfolding inBuffer
+  text-filled = ap₂ text (put ∙ ap (λ (l : List ℕ). over l 0 t) empty ∙ over-row roomSize 0 t (omega arith)) ended
 
   pub text-counts : Counts n b
-  unfolding zeros
   text-counts =
-      let l : length b ≡ roomSize = ap length put ∙ length-over z 0 t ∙ ap length empty ∙ length-zeros roomSize in
+      let l : length b ≡ roomSize = ap length put ∙ length-over z 0 t ∙ ap length empty ∙ length-replicate {A = ℕ} roomSize 0 in
       (omega arith, sym (length-take-le n b (omega arith)))

@@ -5,7 +5,7 @@ use Prim.Native.Nat.{ℕ, zero, suc, _+_, _*_, _-_, _/_, min}
 use mathlib.Core.Bool.{Bool, true, false}
 use mathlib.Core.List.{List, [], _∷_, _++_}
 use lib.Dec.{ltb}
-use lib.ListN.{length, take, replicate}
+use lib.ListN.{length, take}
 use Rattle.io.specs.Digits.{digits}
 use Rattle.eif.specs.Numbers.{placeCount}
 use Rattle.eif.specs.Layout.{sectionHeaderSize}
@@ -15,6 +15,7 @@ use Rattle.eif.specs.declared.Verdict.{Verdict}
 use Rattle.eif.specs.declared.Verdict.the-variants.{Accepted, Refused}
 use Rattle.eif.specs.declared.Reading.{Reading}
 use Rattle.eif_lines.specs.declared.Text.{Text}
+use Rattle.octets.specs.Lists.{inPlaces}
 
 -- ---- a number in decimal
 
@@ -119,4 +120,4 @@ roomSize = longestLine * (1 + placeCount)
 
 -- a text at the start of the buffer, with zeros up to the buffer's end, and the text's length
 unfoldable pub inBuffer : List ℕ → Text
-inBuffer text = record { bytes = text ++ replicate (roomSize - length text) 0; length = length text }
+inBuffer text = record { bytes = inPlaces 0 roomSize text; length = length text }

@@ -7,16 +7,16 @@ use mathlib.Core.Logic.{⊎-elim}
 use native.Mathlib.Omega.{arith}
 use lib.Bits.{bitXor}
 use lib.ListN.{length, take, drop, length-drop, take-append-drop}
-use lib.Seq.{length-take-le, take-append-le, drop-append-le, take-take, take-at, drop-at}
+use lib.Seq.{length-take-le, take-append-le, drop-append-le, take-take}
 use Rattle.octets.specs.Bytes.{beValue, field}
 use Rattle.octets.specs.Over.{over}
-use Rattle.octets.proofs.Over.{over-parts}
+use Rattle.octets.proofs.Logic.{le-or-lt}
+use Rattle.octets.proofs.Over.{over-parts, over-here}
 use Rattle.octets.proofs.Value.{field-length, field-drop, field-drop0}
 use Rattle.crc32.specs.Crc.{crcFrom, ones32}
 use Rattle.eif.specs.Numbers.{placeCount}
-use Rattle.eif.specs.Layout.{sectionHeaderSize, checksumAt, checksumEnd, View, viewOf, offsetAt, countOf}
+use Rattle.eif.specs.Layout.{sectionHeaderSize, checksumAt, checksumEnd, View, viewOf, offsetAt, countOf, sectionFlagsAt, sectionSizeAt}
 use Rattle.eif.specs.Reading.{checksumOf, readView, readImage}
-use Rattle.octets.proofs.Over.{le-or-lt}
 use Rattle.eif_lemmas.proofs.Agree.{Lies, Agree, read-same}
 use Rattle.eif_checksum.proofs.Parts.{in-parts}
 use Rattle.eif_judge.specs.Kept.{viewFrom}
@@ -30,12 +30,6 @@ front k n a r h =
     ap (take n) (drop-append-le k a r (omega arith)) ∙ take-append-le n (drop k a) r (omega arith)
 
 module _ (d : List ℕ) (at : ℕ) (bs : List ℕ) (fits : at + length bs ≤ length d) where
-  pub part-here : (n : ℕ) → length bs ≡ n → take n (drop at (over d at bs)) ≡ bs
-  part-here n e =
-      ap (λ (l : List ℕ). take n (drop at l)) (over-parts d at bs fits)
-      ∙ ap (take n) (drop-at (take at d) (bs ++ drop (at + length bs) d) at (length-take-le at d (omega arith)))
-      ∙ take-at bs (drop (at + length bs) d) n e
-
   pub part-before : (k n : ℕ) → k + n ≤ at → take n (drop k (over d at bs)) ≡ take n (drop k d)
   part-before k n h =
       let e : length (take at d) ≡ at = length-take-le at d (omega arith) in
@@ -57,7 +51,7 @@ module _ (image headers next : List ℕ) (i : ℕ) (room : length headers ≡ se
       (λ p. ap (λ (x : List ℕ). take sectionHeaderSize (drop (sectionHeaderSize * k) x)) e ∙ part-before headers (sectionHeaderSize * i) own fits (sectionHeaderSize * k) sectionHeaderSize (omega arith) ∙ before k (omega arith) l)
       (λ p.
       let q : k ≡ i = omega arith in
-      rw q (ap (λ (x : List ℕ). take sectionHeaderSize (drop (sectionHeaderSize * i) x)) e ∙ part-here headers (sectionHeaderSize * i) own fits sectionHeaderSize size))
+      rw q (ap (λ (x : List ℕ). take sectionHeaderSize (drop (sectionHeaderSize * i) x)) e ∙ over-here headers (sectionHeaderSize * i) own fits sectionHeaderSize size))
       (le-or-lt (suc k) i)
 
   pub gathered-same : length image < offsetAt image i + sectionHeaderSize → next ≡ headers → Gathered image next (i + 1)
@@ -102,13 +96,13 @@ module _ (image headers : List ℕ) (gathered : Gathered image headers (min plac
             ∙ field-part 2 0 sectionHeaderSize _ _ (omega arith) (gathered i (inside i l) (l .ends))
             ∙ sym (field-drop0 2 (offsetAt image i) image);
         flags = λ i l.
-            field-drop 2 2 (sectionHeaderSize * i) headers
-            ∙ field-part 2 2 sectionHeaderSize _ _ (omega arith) (gathered i (inside i l) (l .ends))
-            ∙ sym (field-drop 2 2 (offsetAt image i) image);
+            field-drop 2 sectionFlagsAt (sectionHeaderSize * i) headers
+            ∙ field-part 2 sectionFlagsAt sectionHeaderSize _ _ (omega arith) (gathered i (inside i l) (l .ends))
+            ∙ sym (field-drop 2 sectionFlagsAt (offsetAt image i) image);
         ownSizes = λ i l.
-            field-drop 8 4 (sectionHeaderSize * i) headers
-            ∙ field-part 8 4 sectionHeaderSize _ _ (omega arith) (gathered i (inside i l) (l .ends))
-            ∙ sym (field-drop 8 4 (offsetAt image i) image);
+            field-drop 8 sectionSizeAt (sectionHeaderSize * i) headers
+            ∙ field-part 8 sectionSizeAt sectionHeaderSize _ _ (omega arith) (gathered i (inside i l) (l .ends))
+            ∙ sym (field-drop 8 sectionSizeAt (offsetAt image i) image);
       }
 
   -- from the checksum in two parts

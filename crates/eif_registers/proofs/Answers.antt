@@ -21,7 +21,8 @@ use Rattle.eif_lemmas.proofs.Accept.{passes}
 use Rattle.eif_lemmas.proofs.Reading.{reading-accepted}
 use Rattle.eif_registers.specs.Registers.{registerFrom, registerOf, imageRegisters, noRegisters, registersFor, registersAnswer, stepRegister, stepRegisters}
 use Rattle.eif_registers.specs.declared.Measurement.{Measurement}
-use Rattle.eif_registers.proofs.Hashed.{digest-joined, stream-fits}
+use Rattle.eif_registers.proofs.Hashed.{digest-joined}
+use Rattle.stream_reader.proofs.Answers.{stream-bound}
 
 module _ (s : List ℕ) where
   pub answer-refused : (r : Refusal) → verdictOf s ≡ Refused r → registersFor (Refused r) noRegisters ≡ registersAnswer s
@@ -38,7 +39,7 @@ module _ (s : List ℕ) where
     unfolding stepRegister registerOf streamOf
     register-is stream =
         let l = streamSections stream (sectionsOf s) in
-        let h = stream-fits s stream (sectionsOf s) (passes s ok .head .small) (length-filled (sectionAt s) blankSection placeCount (countOf s)) in
+        let h = stream-bound s stream (sectionsOf s) (passes s ok .head .small) (length-filled (sectionAt s) blankSection placeCount (countOf s)) in
         ap registerFrom (digest-joined (dataOf s) l (omega arith))
 
     registers-are : stepRegisters (dataOf s) (sectionsOf s) ≡ imageRegisters s

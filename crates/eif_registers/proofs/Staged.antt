@@ -24,7 +24,8 @@ use Rattle.staged.proofs.Held.{held-alone, within, stagedList, stream-is}
 use Rattle.sha384_block.specs.Fips.{sha384}
 use Rattle.sha384.specs.State.{totalLimit}
 use Rattle.eif_registers.specs.Registers.{registerFrom, registerOf, imageRegisters, noRegisters, registersFor, stepRegister, stepRegisters, stagedRegisters}
-use Rattle.eif_registers.proofs.Hashed.{digest-joined, stream-fits}
+use Rattle.eif_registers.proofs.Hashed.{digest-joined}
+use Rattle.stream_reader.proofs.Answers.{stream-bound}
 
 -- with nothing replaced the step is that over the image
 pub step-alone : (s : List ℕ) (l : List Section) → stepRegisters (heldBy s []) l ≡ stepRegisters (dataOf s) l
@@ -42,7 +43,8 @@ module _ (s r : List ℕ) (k : ℕ) (a : Stages s (length r) k k) where
   unfolding streamOf
   fresh-fits stream =
       let t = afresh s r k in
-      stream-fits t stream (sectionsOf t) fresh-small (length-filled (sectionAt t) blankSection placeCount (countOf t))
+      let h = stream-bound t stream (sectionsOf t) fresh-small (length-filled (sectionAt t) blankSection placeCount (countOf t)) in
+      omega arith
 
   register-is : (stream : Stream) → stepRegister (heldBy s r) (stagedList s r k k a) stream ≡ registerOf (afresh s r k) stream
   unfolding stepRegister registerOf

@@ -1,7 +1,7 @@
 -- The three registers of an image (FORMAT.md, Registers), of a staged view, and of any sections.
 -- Assumes nothing.
 use Prim.Native.Nat.{ℕ}
-use mathlib.Core.List.{List, [], _∷_, _++_}
+use mathlib.Core.List.{List, [], _∷_, _++_, map}
 use lib.ListN.{length, replicate}
 use Rattle.eif.specs.Answers.{beside}
 use Rattle.eif.specs.Reading.{verdictOf}
@@ -11,7 +11,7 @@ use Rattle.eif.specs.declared.Stream.{Stream}
 use Rattle.eif.specs.declared.Stream.the-variants.{Whole, Boot, App}
 use Rattle.eif.specs.declared.Verdict.{Verdict}
 use Rattle.sha384_block.specs.Fips.{digestSize, sha384}
-use Rattle.sha384.specs.State.{initialState, updated, digestFrom}
+use Rattle.sha384.specs.State.{initialState, digestFrom, afterAll}
 use Rattle.sha384.specs.declared.State.{State}
 use Rattle.staged.specs.Staged.{stagedVerdict, afresh}
 use Rattle.eif_registers.specs.declared.Digest.{Digest}
@@ -35,12 +35,11 @@ unfoldable pub noRegisters : List (List ℕ)
 noRegisters = replicate 3 (replicate digestSize 0)
 
 -- as the answer holds them
-abbrev pub asDigests : List (List ℕ) → List Digest
-asDigests [] = []
-asDigests (x ∷ xs) = record { 0 = x } ∷ asDigests xs
+abbrev pub asDigest : List ℕ → Digest
+asDigest bytes = record { 0 = bytes }
 
 abbrev pub registersFor : Verdict → List (List ℕ) → Measurement
-registersFor verdict registers = record { verdict = verdict; registers = asDigests registers }
+registersFor verdict registers = record { verdict = verdict; registers = map asDigest registers }
 
 -- the image's refusal and all zero, or its registers
 unfoldable pub registersAnswer : List ℕ → Measurement
@@ -56,9 +55,8 @@ stagedRegisters s r k =
 -- ---- the step over sections already found, for any sections and whatever their data is, also where these are not of one image
 
 -- the state after the data of sections, one piece each
-unfoldable pub hashed : (Section → List ℕ) → State → List Section → State
-hashed held st [] = st
-hashed held st (x ∷ xs) = hashed held (updated st (held x) .state) xs
+abbrev pub hashed : (Section → List ℕ) → State → List Section → State
+hashed held st l = afterAll st (map held l)
 
 unfoldable pub stepRegister : (Section → List ℕ) → List Section → Stream → List ℕ
 stepRegister held l stream = registerFrom (digestFrom (hashed held initialState (streamSections stream l)))

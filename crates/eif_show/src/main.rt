@@ -1,19 +1,11 @@
 // Shows an image that comes over standard input: a line with its version and its number of sections, then a row for each section
 // with its index, type, table offset and size; or its refusal.
-use eif::Reading;
 
 // The longest input that is looked at.
 const INPUT_LIMIT: usize = 65536;
 
 // One byte more, to see whether there is more.
 const ROOM: usize = INPUT_LIMIT + 1;
-
-fn show(reading: Reading) {
-    let text = eif_lines::lines(reading);
-    let bytes = text.bytes;
-    let length = text.length;
-    io::write_all(libc::STDOUT_FILENO, &bytes[..length]);
-}
 
 fn main() {
     let mut input = [0u8; ROOM];
@@ -22,5 +14,5 @@ fn main() {
         io::write_all(libc::STDOUT_FILENO, b"input over 65536\n");
         return;
     }
-    show(eif_reader::read(&input[..n]));
+    eif_print::print(eif_lines::lines(eif_reader::read(&input[..n])));
 }

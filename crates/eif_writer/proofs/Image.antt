@@ -1,6 +1,6 @@
 -- The header, the sections and the checksum, written one after the other, are the plain image.
 -- Assumes nothing.
-use Prim.Native.Nat.{ℕ, _+_, _≤_}
+use Prim.Native.Nat.{ℕ, _+_, _≤_, _*_}
 use mathlib.Core.Path.{_≡_, refl, sym, ap, ap₂, _∙_}
 use mathlib.Core.List.{List, _++_, append-assoc}
 use native.Mathlib.Omega.{arith}
@@ -16,7 +16,9 @@ use Rattle.eif.specs.Reading.{checksumOf}
 use Rattle.eif.specs.Plan.{dataBefore, plainSize, fixedFields, offsetTable, sizeTable, headerBytes, bodyBytes, plainImage, offsetsOf, sizesOf, plannedSize}
 use Rattle.eif.specs.declared.Plan.{Plan}
 use Rattle.plain_laws.proofs.Shape.{packed-zero, length-offsets, length-sizes, length-header, length-sections}
-use Rattle.eif_writer.specs.Parts.{firstFields, nextFields, withChecksum}
+use Rattle.eif_writer.specs.Parts.{firstFields, nextFields}
+use Rattle.eif_checksum.specs.Put.{withChecksum}
+use Rattle.eif.specs.Numbers.{placeCount}
 
 -- ---- the header
 
@@ -35,11 +37,11 @@ module _ (p : Plan) where
   unfolding nextFields
   length-next = refl
 
-  length-offset-entries : length offsets ≡ 256
+  length-offset-entries : length offsets ≡ entrySize * placeCount
   unfolding offsetTable
   length-offset-entries = length-offsets (p .places) (p .count)
 
-  length-size-entries : length sizes ≡ 256
+  length-size-entries : length sizes ≡ entrySize * placeCount
   unfolding sizeTable
   length-size-entries = length-sizes (p .places) (p .count)
 
@@ -79,7 +81,7 @@ module _ (p : Plan) (given d a b : List ℕ) (sized : length given ≡ dataBefor
   length-body : headerSize + length body ≡ plainSize p
   length-body =
       ap (λ (n : ℕ). n + length body) (sym (packed-zero (plannedSize (p .places))))
-      ∙ length-sections (p .places) given (p .count) sized (p .count) 0 (zero-add (p .count))
+      ∙ length-sections (p .places) given (p .count) sized
 
   module _ (e : a ≡ over d 0 head) (f : b ≡ over a headerSize body) where
     length-a : length a ≡ length d
@@ -113,7 +115,7 @@ module _ (p : Plan) (given d a b : List ℕ) (sized : length given ≡ dataBefor
         (ap (take checksumAt) (append-assoc head gap body) ∙ take-at head (gap ++ body) checksumAt (length-header p))
         (drop-at (head ++ gap) body headerSize length-front)
 
-    pub with-checksum-plain : withChecksum b (plainSize p) ≡ over d 0 (plainImage p given)
+    pub with-checksum-plain : withChecksum b (plainSize p) checksumAt ≡ over d 0 (plainImage p given)
     unfolding withChecksum plainImage
     with-checksum-plain =
         let l = length-body in

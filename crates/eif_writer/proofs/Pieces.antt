@@ -1,8 +1,8 @@
--- Pieces written one after the other are one piece; and what is left to write of a table and of the sections.
+-- What is left to write of the sections.
 -- Assumes nothing.
 use Prim.Native.Nat.{ℕ, suc, _+_, _-_, _<_, _≤_}
 use mathlib.Core.Path.{_≡_, refl, sym, ap, _∙_}
-use mathlib.Core.List.{List, _++_}
+use mathlib.Core.List.{List, _++_, append-assoc}
 use native.Mathlib.Omega.{arith}
 use lib.ListN.{length}
 use Rattle.octets.specs.Over.{over}
@@ -11,7 +11,9 @@ use Rattle.eif.specs.Numbers.{sizeLimit}
 use Rattle.eif.specs.Layout.{sectionHeaderSize}
 use Rattle.eif.specs.Plan.{placeAt, plannedSize, packedAt, dataBefore, pieceAt, sectionHeader, sectionBytes}
 use Rattle.eif.specs.declared.Place.{Place}
-use Rattle.plain_laws.proofs.Shape.{packed-le, packed-suc, before-le, before-suc, length-sectionHeader, length-piece, section-suc}
+use Rattle.eif.specs.Table.{joinFrom}
+use Rattle.plain_laws.proofs.Shape.{packed-le, packed-suc, before-le, before-suc, length-sectionHeader, length-piece}
+use Rattle.eif_lemmas.proofs.Table.{join-next}
 
 -- ---- the sections
 
@@ -27,16 +29,15 @@ module _ (l : List Place) (count i : ℕ) (h : i < count) where
   -- the section's own header, its data, and what follows
   pub section-over : (d : List ℕ) → length d ≡ dataBefore l count → (o x y : List ℕ) (at : ℕ) → x ≡ over o at (sectionHeader (placeAt l i))
       → y ≡ over x (at + sectionHeaderSize) (pieceAt l d i)
-      → over y (at + sectionHeaderSize + plannedSize l i) (sectionBytes l d (count - suc i) (suc i)) ≡ over o at (sectionBytes l d (count - i) i)
+      → over y (at + sectionHeaderSize + plannedSize l i) (joinFrom (sectionBytes l d) (count - suc i) (suc i)) ≡ over o at (joinFrom (sectionBytes l d) (count - i) i)
   section-over d sized o x y at e f =
       let p = pieceAt l d i in
-      let r = sectionBytes l d (count - suc i) (suc i) in
-      let n : suc (count - suc i) ≡ count - i = omega arith in
+      let r = joinFrom (sectionBytes l d) (count - suc i) (suc i) in
       let a : at + sectionHeaderSize + length p ≡ at + sectionHeaderSize + plannedSize l i = ap (λ (m : ℕ). at + sectionHeaderSize + m) (length-piece l d count sized i h) in
       let b : at + length (sectionHeader (placeAt l i)) ≡ at + sectionHeaderSize = ap (λ (m : ℕ). at + m) (length-sectionHeader (placeAt l i)) in
       over-joined o at (sectionHeader (placeAt l i)) (p ++ r) e (over-joined x (at + sectionHeaderSize) p r f refl a) b
-      ∙ ap (over o at) (sym (section-suc l d (count - suc i) i) ∙ ap (λ (m : ℕ). sectionBytes l d m i) n)
+      ∙ ap (over o at) (sym (append-assoc (sectionHeader (placeAt l i)) p r) ∙ sym (join-next (sectionBytes l d) count i h))
 
-pub sections-done : (l : List Place) (d : List ℕ) (i n : ℕ) → n ≡ 0 → (o : List ℕ) (at : ℕ) → over o at (sectionBytes l d n i) ≡ o
-unfolding over sectionBytes
-sections-done l d i n e o at = ap (λ (m : ℕ). over o at (sectionBytes l d m i)) e
+pub sections-done : (l : List Place) (d : List ℕ) (i n : ℕ) → n ≡ 0 → (o : List ℕ) (at : ℕ) → over o at (joinFrom (sectionBytes l d) n i) ≡ o
+unfolding over joinFrom
+sections-done l d i n e o at = ap (λ (m : ℕ). over o at (joinFrom (sectionBytes l d) m i)) e

@@ -1,14 +1,11 @@
 -- What single functions of the writer write: the header's fixed fields in two parts, as one function that writes all seven is more than
--- its proof can be searched for, and a buffer's checksum. That the two parts, the tables and a reserved field are the header of Plan.antt of
--- eif is `header-parts`, in proofs/Image.antt.
+-- its proof can be searched for. That the two parts, the tables and a reserved field are the header of Plan.antt of eif is `header-parts`, in
+-- proofs/Image.antt.
 -- Assumes nothing.
 use Prim.Native.Nat.{ℕ}
 use mathlib.Core.List.{List, _++_}
-use lib.ListN.{take}
 use Rattle.octets.specs.Bytes.{beBytes}
-use Rattle.octets.specs.Over.{over}
-use Rattle.eif.specs.Layout.{magicNumber, checksumAt}
-use Rattle.eif.specs.Reading.{checksumOf}
+use Rattle.eif.specs.Layout.{magicNumber}
 use Rattle.eif.specs.declared.Plan.{Plan}
 
 -- the header's first fields, 8 bytes, and those between them and the tables, 20 bytes
@@ -17,7 +14,3 @@ firstFields p = beBytes 4 magicNumber ++ (beBytes 2 (p .version) ++ beBytes 2 (p
 
 unfoldable pub nextFields : Plan → List ℕ
 nextFields p = beBytes 8 (p .«default_mem») ++ (beBytes 8 (p .«default_cpus») ++ (beBytes 2 0 ++ beBytes 2 (p .count)))
-
--- a buffer with the checksum of the image that its first bytes are, in its place
-unfoldable pub withChecksum : List ℕ → ℕ → List ℕ
-withChecksum d total = over d checksumAt (beBytes 4 (checksumOf (take total d)))

@@ -7,9 +7,10 @@ ghost use lib.ListN.{length};
 ghost use Rattle.octets.specs.Bytes.{beBytesEach};
 ghost use Rattle.octets.specs.Over.{over};
 ghost use Rattle.eif.specs.Numbers.{placeCount, sizeLimit};
+ghost use Rattle.eif.specs.Table.{joinFrom};
 ghost use Rattle.eif.specs.Layout.{headerSize, defaultMemAt, entrySize};
 ghost use Rattle.eif.specs.Plan.{packedAt, dataBefore, plainSize, headerBytes, sectionHeader, sectionBytes, writeAnswer, writeOutput, offsetsOf, sizesOf};
-ghost use Rattle.eif_writer.specs.Parts.{firstFields, nextFields, withChecksum};
+ghost use Rattle.eif_writer.specs.Parts.{firstFields, nextFields};
 use eif::Header;
 use eif::PLACES;
 use eif::Place;
@@ -114,7 +115,7 @@ fn put_section_header(out: &mut [u8], at: usize, place: Place)
 fn put_sections(out: &mut [u8], places: [Place; PLACES], count: usize, lent: &[u8])
     requires { ⌜ (count ≤ placeCount) × (packedAt places count ≤ sizeLimit) ⌝ }
     requires { ⌜ length (now lent) ≡ dataBefore places count ⌝ }
-    ensures { λ _. ⌜ now (out .exit) ≡ over (now (out .entry)) headerSize (sectionBytes places (now (lent .entry)) count 0) ⌝ }
+    ensures { λ _. ⌜ now (out .exit) ≡ over (now (out .entry)) headerSize (joinFrom (sectionBytes places (now (lent .entry))) count 0) ⌝ }
 {
     let mut at = Header::SIZE;
     let mut from: usize = 0;
@@ -129,17 +130,6 @@ fn put_sections(out: &mut [u8], places: [Place; PLACES], count: usize, lent: &[u
         from = next;
         i += 1;
     }
-}
-
-// ---- the checksum
-
-// Of the first bytes, put into its place.
-fn put_checksum(out: &mut [u8], total: usize)
-    requires { ⌜ total ≤ length (now out) ⌝ }
-    ensures { λ _. ⌜ now (out .exit) ≡ withChecksum (now (out .entry)) total ⌝ }
-{
-    let sum = eif_checksum::checksum(&out[..total]);
-    octets::put_be32(out, Header::CHECKSUM_AT, sum);
 }
 
 // ---- the image
@@ -164,7 +154,7 @@ pub fn write(plan: Plan, lent: &[u8], out: &mut [u8]) -> Written
     let places = plan.places;
     put_header(out, plan);
     put_sections(out, places, plan.count as usize, lent);
-    put_checksum(out, total as usize);
+    eif_checksum::put(out, total as usize, Header::CHECKSUM_AT);
     Written {
         verdict,
         length: total,

@@ -25,8 +25,10 @@ struct State {
     stack: u64,
 }
 
-// The modes that the code names, of those of tables.rt: where an array and an object begin, after a value with nothing open, in an
+// The modes that the code names, of those of tables.rt: where a value, an array and an object begin, after a value with nothing open, in an
 // array and in an object, and in a number that may end.
+const VALUE: u8 = 0;
+
 const FIRST_ITEM: u8 = 1;
 
 const FIRST_MEMBER: u8 = 2;
@@ -176,7 +178,7 @@ fn walk<'a>(class: &'a [u8; BYTES], next: &'a [u8; MODES * CLASSES], text: &'a [
     requires { ⌜ (now class ≡ classes) × (now next ≡ joined rows) ⌝ }
     ensures { λ r. ⌜ r ≡ jsonVerdict (now (text .entry)) ⌝ }
 {
-    let mut mode: u8 = 0;
+    let mut mode: u8 = VALUE;
     let mut stack: u64 = NOTHING_OPEN;
     let mut i = 0;
     while i < text.len() {

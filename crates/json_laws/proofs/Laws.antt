@@ -9,7 +9,7 @@ use native.Mathlib.Omega.{arith}
 use native.Mathlib.Nat.{eq-or-lt-of-le}
 use lib.ListN.{length, take, drop, take-append-drop}
 use lib.Seq.{take-take, take-length}
-use Rattle.octets.proofs.Over.{le-or-lt}
+use Rattle.octets.proofs.Logic.{le-or-lt}
 use Rattle.json.specs.Verdict.{IsText, CanBegin, FaultsFirstAt, IsVerdict}
 use Rattle.json.specs.declared.JsonVerdict.{JsonVerdict}
 use Rattle.json.specs.declared.JsonVerdict.the-variants.{Text, Fault}

@@ -10,10 +10,9 @@ use lib.Dec.{eqb}
 use lib.ListN.{length}
 use borrow.Author.Tests.{lt-ltb, le-ltb, ne-eqb}
 use Rattle.octets.proofs.Lists.{each-below}
-use Rattle.octets.proofs.Logic.{both-none}
+use Rattle.octets.proofs.Logic.{both-none, le-or-lt}
 use Rattle.json.specs.Verdict.{depthLimit}
 use Rattle.json_machine.specs.Machine.{faultEntry, afterOf, entryOf, actOf, Kind, goes, stops, closes, faults, opens, kindOf, bit, turnMode, turnStack, endsOf}
-use Rattle.octets.proofs.Over.{le-or-lt}
 use Rattle.json_machine.proofs.Derive.{canEnd}
 use Rattle.json_machine.proofs.Modes.{Token, Str, Mode, m-value, m-after, m-firstItem, m-firstMember, m-key, m-colon, m-token, m-string, m-name}
 use Rattle.json_machine.proofs.Modes as T

@@ -13,19 +13,22 @@ use Rattle.json.specs.Verdict.{IsText, CanBegin, FaultsFirstAt, IsVerdict}
 use Rattle.json.specs.declared.JsonVerdict.{JsonVerdict}
 use Rattle.json.specs.declared.JsonVerdict.the-variants.{Text, Fault}
 use Rattle.octets.specs.Logic.{choose}
+use Rattle.octets.proofs.Lists.{taken-append}
 use Rattle.json_machine.specs.Machine.{faultEntry, actOf, kindOf, turnMode, turnStack, endsOf, walkFrom}
-use Rattle.json_machine.proofs.Step.{Next, refused, at, nextAt}
+use Rattle.json_machine.proofs.Step.{Next, refused, at}
 use Rattle.json_machine.proofs.Law.{runOver, begin, mayEnd, accepted, accepting, can-begin, cannot-begin}
 use Rattle.json_laws.proofs.Coded.{number-below}
 use Rattle.json_laws.proofs.Onward.{Coded, Onward, onward, coded-end}
 
 -- ---- lists
 
-run-append : (p : List ℕ) (n : Next) (t : List ℕ) → runOver n (p ++ t) ≡ runOver (runOver n p) t
-run-append [] n t = refl
-run-append (b ∷ p) refused [] = refl
-run-append (b ∷ p) refused (c ∷ t) = refl
-run-append (b ∷ p) (at m d fs) t = run-append p (nextAt m d fs b) t
+over-next : (n : Next) (b : ℕ) (t : List ℕ) → runOver n (b ∷ t) ≡ runOver (runOver n (b ∷ [])) t
+over-next refused b [] = refl
+over-next refused b (c ∷ t) = refl
+over-next (at m d fs) b t = refl
+
+over-append : (n : Next) (p t : List ℕ) → runOver n (p ++ t) ≡ runOver (runOver n p) t
+over-append n p t = taken-append runOver (λ m. refl) over-next n p t
 
 -- a text begins with each of its beginnings
 pub text-begins : (n : ℕ) (s : List ℕ) → IsText s → CanBegin (take n s)
@@ -87,7 +90,7 @@ module _ (p : List ℕ) (mo st : ℕ) (small : mo < faultEntry) (coded : Coded (
 
     coded-more : Onward (runOver begin more) (actOf mo st b) st
     coded-more =
-        subst (λ (n : Next). Onward n (actOf mo st b) st) (sym (run-append p begin (b ∷ []))) (coded-turn (runOver begin p) mo st b small coded)
+        subst (λ (n : Next). Onward n (actOf mo st b) st) (sym (over-append begin p (b ∷ []))) (coded-turn (runOver begin p) mo st b small coded)
 
     right-fault : turnMode (kindOf (actOf mo st b)) (actOf mo st b) st ≡ faultEntry → FaultsFirstAt (p ++ (b ∷ t)) (length p)
     right-fault e =

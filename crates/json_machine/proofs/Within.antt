@@ -10,9 +10,8 @@ use native.Mathlib.Omega.{arith}
 use borrow.Author.Tests.{lt-leb, ltb-true}
 use lib.Dec.{ltb, leb}
 use lib.ListN.{getD, List·getD-eq-default}
-use Rattle.octets.proofs.Logic.{both-true, both-none}
+use Rattle.octets.proofs.Logic.{both-true, both-none, le-or-lt}
 use Rattle.octets.proofs.Lists.{each-below}
-use Rattle.octets.proofs.Over.{le-or-lt}
 use Rattle.json.specs.Abnf.{Abnf, range, _·_, _or_, empty, many}
 use Rattle.json_machine.specs.Table.{classes}
 use Rattle.octets.specs.Logic.{both}

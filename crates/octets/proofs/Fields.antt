@@ -12,7 +12,7 @@ use Rattle.octets.specs.Bytes.{beFrom, beValue, leValue, beBytes, leByte
 use Rattle.octets.specs.ByteOrder.{valueOf, bytesOf, fieldOf, bytePlace, soFar}
 use Rattle.octets.specs.declared.ByteOrder.{ByteOrder}
 use Rattle.octets.specs.declared.ByteOrder.the-variants.{Big, Little}
-use Rattle.octets.proofs.Value.{length-beBytes, length-leBytes, beBytes-beValue, leBytes-leValue, field-length, bytes-take, bytes-drop}
+use Rattle.octets.proofs.Value.{length-beBytes, length-leBytes, beBytes-beValue, leBytes-leValue, field-length, bytes-part}
 
 pub field-is : (order : ByteOrder) (w at : ℕ) (s : List ℕ) → fieldOf order w at s ≡ valueOf order (take w (drop at s))
 unfolding field leField
@@ -85,7 +85,7 @@ module _ (s : List ℕ) (w : AreBytes s) where
       let b : List ℕ = take k (drop at s) in
       sym (take-append-drop k (drop at s))
       ∙ ap₂ (λ (x y : List ℕ). x ++ y)
-      (sym (bytes-of-value order b (bytes-take k (drop at s) (bytes-drop at s w)))
+      (sym (bytes-of-value order b (bytes-part k at s w))
       ∙ ap₂ (λ (n m : ℕ). bytesOf order n m) (field-length k at s h) (sym (field-is order k at s)))
       (drop-drop k at s)
 

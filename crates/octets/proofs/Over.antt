@@ -3,14 +3,14 @@
 use Prim.Native.Nat.{ℕ, zero, suc, _+_, _-_, _≤_, _<_, min}
 use mathlib.Core.Path.{_≡_, refl, sym, ap, ap₂, _∙_}
 use mathlib.Core.List.{List, [], _∷_, _++_}
-use mathlib.Core.Logic.{_⊎_, inl, inr, ⊎-elim}
+use mathlib.Core.Logic.{⊎-elim}
 use native.Mathlib.Omega.{arith}
-use native.Mathlib.Decide.{decLe}
 use native.Mathlib.Nat.{add-zero, suc-add, zero-add}
 use native.Mathlib.Numerals.{add-one}
-use lib.ListN.{length, take, drop, getD, set, length-set, length-take, length-drop, take-append-drop}
-use lib.Seq.{set-out, take-nil, drop-cons, drop-drop}
+use lib.ListN.{length, take, drop, getD, set, replicate, length-set, length-take, length-drop, length-replicate, take-append-drop}
+use lib.Seq.{set-out, take-nil, drop-cons, drop-drop, drop-at, take-at, length-take-le}
 use Rattle.octets.specs.Over.{over}
+use Rattle.octets.proofs.Logic.{le-or-lt}
 
 pub length-over : (d : List ℕ) (at : ℕ) (bs : List ℕ) → length (over d at bs) ≡ length d
 unfolding over
@@ -30,6 +30,9 @@ unfolding over
 over-head x d at [] = refl
 over-head x d at (b ∷ bs) = ap (λ (n : ℕ). over (x ∷ set d at b) n bs) (suc-add at 1) ∙ over-head x (set d at b) (at + 1) bs
 
+pub over-split : (d : List ℕ) (at : ℕ) (x y l : List ℕ) → l ≡ x ++ y → over (over d at x) (at + length x) y ≡ over d at l
+over-split d at x y l e = sym (over-append d at x y) ∙ ap (over d at) (sym e)
+
 -- where all fits: the part before, the bytes, and the part after
 pub over-parts : (d : List ℕ) (at : ℕ) (bs : List ℕ) → at + length bs ≤ length d → over d at bs ≡ take at d ++ (bs ++ drop (at + length bs) d)
 unfolding over
@@ -48,9 +51,6 @@ pub over-out : (d : List ℕ) (at : ℕ) (bs : List ℕ) → length d ≤ at →
 unfolding over
 over-out d at [] h = refl
 over-out d at (b ∷ bs) h = ap (λ (l : List ℕ). over l (at + 1) bs) (set-out d at b h) ∙ over-out d (at + 1) bs (omega arith)
-
-pub le-or-lt : (m n : ℕ) → (m ≤ n) ⊎ (n < m)
-le-or-lt m n = elim (decLe m n) [ yes h ↦ inl h | no h ↦ inr (omega arith) ]
 
 pub over-clip : (d : List ℕ) (at : ℕ) (bs : List ℕ) → over d at bs ≡ over d at (take (length d - at) bs)
 unfolding over
@@ -84,20 +84,43 @@ pub over-step : (d s : List ℕ) (at k b : ℕ) → k < length s → b ≡ getD 
 over-step d s at k b h e =
     over-next d at k b (drop (k + 1) s) ∙ ap (λ (x : ℕ). over d (at + k) (x ∷ drop (k + 1) s)) e ∙ ap (over d (at + k)) (rw add-one (sym (drop-cons s k 0 h)))
 
+-- ---- what was written stands there
+
+pub over-here : (d : List ℕ) (at : ℕ) (bs : List ℕ) → at + length bs ≤ length d → (n : ℕ) → length bs ≡ n → take n (drop at (over d at bs)) ≡ bs
+over-here d at bs h n e =
+    ap (λ (l : List ℕ). take n (drop at l)) (over-parts d at bs h)
+    ∙ ap (take n) (drop-at (take at d) (bs ++ drop (at + length bs) d) at (length-take-le at d (omega arith)))
+    ∙ take-at bs (drop (at + length bs) d) n e
+
 -- ---- at the start, and what stands there already
 
 pub over-start : (d x : List ℕ) → length x ≤ length d → over d 0 x ≡ x ++ drop (length x) d
 over-start d x h = over-parts d 0 x (rw zero-add h) ∙ ap (λ (n : ℕ). x ++ drop n d) (zero-add (length x))
+
+-- a row of one value, from its k-th place on, and under what is written at its start
+pub drop-replicate : (k n a : ℕ) → drop k (replicate n a) ≡ replicate (n - k) a
+drop-replicate zero n a = let e : n ≡ n - 0 = omega arith in ap (λ (j : ℕ). replicate j a) e
+drop-replicate (suc k) zero a = let e : 0 ≡ 0 - suc k = omega arith in ap (λ (j : ℕ). replicate j a) e
+drop-replicate (suc k) (suc n) a = let e : n - k ≡ suc n - suc k = omega arith in drop-replicate k n a ∙ ap (λ (j : ℕ). replicate j a) e
+
+pub over-row : (n a : ℕ) (x : List ℕ) → length x ≤ n → over (replicate n a) 0 x ≡ x ++ replicate (n - length x) a
+over-row n a x h =
+    let m = length-replicate n a in
+    over-start (replicate n a) x (omega arith) ∙ ap (λ (l : List ℕ). x ++ l) (drop-replicate (length x) n a)
+
+-- a list in three parts
+pub in-three : (d : List ℕ) (at n : ℕ) → take at d ++ (take n (drop at d) ++ drop (at + n) d) ≡ d
+in-three d at n =
+    ap (λ (l : List ℕ). take at d ++ (take n (drop at d) ++ l)) (sym (drop-drop n at d))
+    ∙ ap (λ (l : List ℕ). take at d ++ l) (take-append-drop n (drop at d))
+    ∙ take-append-drop at d
 
 -- writing what stands there changes nothing
 pub over-own : (d : List ℕ) (at n : ℕ) → at + n ≤ length d → over d at (take n (drop at d)) ≡ d
 over-own d at n h =
     let e : length (take n (drop at d)) ≡ n = simp (length-take, length-drop) (omega arith) in
     over-parts d at (take n (drop at d)) (omega arith)
-    ∙ ap (λ (m : ℕ). take at d ++ (take n (drop at d) ++ drop (at + m) d)) e
-    ∙ ap (λ (l : List ℕ). take at d ++ (take n (drop at d) ++ l)) (sym (drop-drop n at d))
-    ∙ ap (λ (l : List ℕ). take at d ++ l) (take-append-drop n (drop at d))
-    ∙ take-append-drop at d
+    ∙ ap (λ (m : ℕ). take at d ++ (take n (drop at d) ++ drop (at + m) d)) e ∙ in-three d at n
 
 -- a piece from `at` on, and the next from where it ends
 pub over-joined : (d : List ℕ) (at : ℕ) (x y : List ℕ) {b c : List ℕ} {m : ℕ} → b ≡ over d at x → c ≡ over b m y → at + length x ≡ m → c ≡ over d at (x ++ y)

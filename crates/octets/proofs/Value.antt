@@ -50,6 +50,9 @@ bytes-drop zero s a = a
 bytes-drop (suc n) [] a = tt
 bytes-drop (suc n) (x ∷ xs) a = bytes-drop n xs (a .1)
 
+pub bytes-part : (n at : ℕ) (s : List ℕ) → AreBytes s → AreBytes (take n (drop at s))
+bytes-part n at s a = bytes-take n (drop at s) (bytes-drop at s a)
+
 pub bytes-be : (w n : ℕ) → AreBytes (beBytes w n)
 bytes-be zero n = tt
 bytes-be (suc w) n = (omega arith, bytes-be w n)
@@ -95,9 +98,6 @@ leValue-leBytes (suc w) n h =
     rw (leValue-leBytes w (n / 256) (div-lt-iff-lt-mul (lit< tt) .1 (rw pow-suc at h))) (add-comm (n % 256) (256 * (n / 256)) ∙ div-add-mod n 256)
 
 -- two numbers with the same bytes are equal
-pub leBytes-same : (w m n : ℕ) → m < 256 ^ w → n < 256 ^ w → leBytes w m ≡ leBytes w n → m ≡ n
-leBytes-same w m n hm hn e = sym (leValue-leBytes w m hm) ∙ ap leValue e ∙ leValue-leBytes w n hn
-
 -- ---- value of bytes, and its bytes
 
 be-div : (c : ℕ) (s : List ℕ) → AreBytes s → beFrom c s / 256 ^ length s ≡ c
@@ -139,7 +139,7 @@ module _ (value : List ℕ → ℕ) where
   part-lt : ((s : List ℕ) → AreBytes s → value s < 256 ^ length s) → (w at : ℕ) (s : List ℕ) → AreBytes s → part w at s < 256 ^ w
   part-lt lt w at s a =
       let n : length (take w (drop at s)) ≤ w = simp length-take (omega arith) in
-      lt-of-lt-of-le (lt (take w (drop at s)) (bytes-take w (drop at s) (bytes-drop at s a))) (pow-le n)
+      lt-of-lt-of-le (lt (take w (drop at s)) (bytes-part w at s a)) (pow-le n)
 
   part-at : (w n at : ℕ) (a x b : List ℕ) → length a ≡ at → length x ≡ w → value x ≡ n → part w at (a ++ (x ++ b)) ≡ n
   part-at w n at a x b e l v = rw (drop-at a (x ++ b) at e, take-at x b w l) v

@@ -1,8 +1,9 @@
 -- The number that a byte string stands for, the byte string of a number, and a number read at a position.
 -- A byte string is a list of numbers below 256. Assumes nothing.
 use Prim.Native.Nat.{ℕ, zero, suc, _+_, _*_, _/_, _%_, _^_, _<_}
-use mathlib.Core.List.{List, [], _∷_, _++_}
+use mathlib.Core.List.{List, [], _∷_}
 use lib.ListN.{take, drop}
+use Rattle.octets.specs.Lists.{joinedBy}
 
 -- each element is a byte; not by `All` of Lists, which does not unfold by itself, as proofs over bytes need it
 abbrev pub AreBytes : List ℕ → Type 0
@@ -30,8 +31,7 @@ beBytes (suc w) n = n / 256 ^ w % 256 ∷ beBytes w n
 
 -- numbers one after the other, w bytes each, highest first
 abbrev pub beBytesEach : ℕ → List ℕ → List ℕ
-beBytesEach w [] = []
-beBytesEach w (n ∷ ns) = beBytes w n ++ beBytesEach w ns
+beBytesEach w l = joinedBy (beBytes w) l
 
 -- the w low bytes of n, lowest first
 abbrev pub leBytes : ℕ → ℕ → List ℕ

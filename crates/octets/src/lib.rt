@@ -55,6 +55,15 @@ fn place(order: ByteOrder, count: usize, k: usize) -> usize
     }
 }
 
+// The number of one byte more, in the order in which they count, of `count` bytes at a position.
+fn next(value: u64, s: &[u8], at: usize, count: usize, order: ByteOrder, k: usize) -> u64
+    requires { ⌜ (k < count) × (count ≤ 8) × (at + count ≤ length (now s)) × (value < 256 ^ k) × (value ≡ soFar order (take count (drop at (now s))) k) ⌝ }
+    ensures { λ r. ⌜ (r < 256 ^ (k + 1)) × (r ≡ soFar order (take count (drop at (now (s .entry)))) (k + 1)) ⌝ }
+{
+    let i = place(order, count, k);
+    value * 256 + wide(s[at + i])
+}
+
 // The number of the bytes of a field that there are.
 fn part_value(s: &[u8], at: usize, width: usize, order: ByteOrder) -> u64
     requires { ⌜ width ≤ 8 ⌝ }
@@ -65,23 +74,13 @@ fn part_value(s: &[u8], at: usize, width: usize, order: ByteOrder) -> u64
     let mut v: u64 = 0;
     let mut k: usize = 0;
     while k < count {
-        let i = place(order, count, k);
-        v = v * 256 + wide(s[at + i]);
+        v = next(v, s, at, count, order, k);
         k += 1;
     }
     v
 }
 
 // ---- a number that a slice has whole: the same with no loop, which compiles to one load
-
-// The number of one byte more, in the order in which they count, of `count` bytes at a position.
-fn next(value: u64, s: &[u8], at: usize, count: usize, order: ByteOrder, k: usize) -> u64
-    requires { ⌜ (k < count) × (count ≤ 8) × (at + count ≤ length (now s)) × (value < 256 ^ k) × (value ≡ soFar order (take count (drop at (now s))) k) ⌝ }
-    ensures { λ r. ⌜ (r < 256 ^ (k + 1)) × (r ≡ soFar order (take count (drop at (now (s .entry)))) (k + 1)) ⌝ }
-{
-    let i = place(order, count, k);
-    value * 256 + wide(s[at + i])
-}
 
 fn two(s: &[u8], at: usize, order: ByteOrder) -> u64
     requires { ⌜ at + 2 ≤ length (now s) ⌝ }
@@ -154,15 +153,6 @@ pub fn le16(s: &[u8], at: usize) -> u16
         return part_value(s, at, 2, ByteOrder::Little) as u16;
     }
     two(s, at, ByteOrder::Little) as u16
-}
-
-pub fn le32(s: &[u8], at: usize) -> u32
-    ensures { λ r. ⌜ r ≡ leField 4 at (now (s .entry)) ⌝ }
-{
-    if room(s.len(), at, 4) < 4 {
-        return part_value(s, at, 4, ByteOrder::Little) as u32;
-    }
-    four(s, at, ByteOrder::Little) as u32
 }
 
 pub fn le64(s: &[u8], at: usize) -> u64

@@ -1,28 +1,26 @@
 -- What is written is plain; and the plan of an accepted image is never refused, and its numbers fit.
 -- Assumes nothing.
 use Prim.Native.Nat.{ℕ, _+_}
-use mathlib.Core.Path.{_≡_, ap, _∙_}
+use mathlib.Core.Path.{_≡_, _∙_}
 use mathlib.Core.List.{List}
 use native.Mathlib.Omega.{arith}
-use lib.ListN.{length, drop}
+use lib.ListN.{length}
 use Rattle.octets.specs.Bytes.{AreBytes}
-use Rattle.octets.proofs.Value.{field-lt, bytes-take, bytes-drop}
+use Rattle.octets.proofs.Value.{field-lt, bytes-part}
 use Rattle.eif.specs.Numbers.{placeCount}
-use Rattle.eif.specs.Rules.{allowedIn, orderFault}
 use Rattle.eif.specs.Layout.{headerFlagsAt, defaultMemAt, defaultCpusAt, sectionFlagsAt, sectionHeaderSize, versionOf, countOf, offsetAt, sizeAt, kindAt}
 use Rattle.eif.specs.Reading.{verdictOf}
 use Rattle.eif.specs.Plan.{plannedKind, plannedSize, packedAt, planVerdict, plainImage, Plain}
 use Rattle.eif.specs.declared.Place.{Place}
 use Rattle.eif.specs.declared.Plan.{Plan}
 use Rattle.eif.specs.declared.Verdict.the-variants.{Accepted}
-use Rattle.eif_lemmas.proofs.Types.{order-same, missing-same}
-use Rattle.eif_lemmas.proofs.Table.{filled-past}
+use Rattle.eif_lemmas.proofs.Table.{filled-past, bytes-joined}
 use Rattle.eif_lemmas.proofs.Accept.{none-missing-of, order-at, sound-at, file-ends}
-use Rattle.plain_laws.proofs.PlanRules.{Planned, →planned}
+use Rattle.plain_laws.proofs.PlanRules.{types-fine-same, Planned, →planned}
 use Rattle.plain_laws.specs.RoundTrip.{Fits}
 use Rattle.plain_laws.proofs.Written.{read-count, offset-entry, size-entry, read-reserved, read-reserved-after}
 use Rattle.plain_laws.proofs.ReadBack.{plain-accepted}
-use Rattle.plain_laws.proofs.Joined.{bytes-joined, length-joined}
+use Rattle.plain_laws.proofs.Joined.{length-joined}
 use Rattle.plain_laws.proofs.WriteBack.{plan, piece, given, sound-head, place-is, kind-is, packed-is, length-piece-is}
 
 -- ---- what is written is plain
@@ -57,15 +55,10 @@ module _ (s : List ℕ) (ok : verdictOf s ≡ Accepted) where
       let b = packed-is s ok (countOf s) (omega arith) in
       let e = file-ends s ok in
       record {
-        low = h .low;
-        high = h .high;
-        some = h .some;
-        few = h .few;
-        allowed = λ i q. ap (allowedIn (versionOf s)) (kind-is s ok i q) ∙ sound-at s ok i q .known;
-        order = λ i q.
-            ap (λ (k : ℕ). orderFault (plannedKind places) k i) (kind-is s ok i q)
-            ∙ order-same (plannedKind places) (kindAt s) (kindAt s i) i (λ j g. kind-is s ok j (omega arith)) ∙ order-at s ok i q;
-        none-missing = missing-same (plannedKind places) (kindAt s) (versionOf s) (countOf s) (kind-is s ok) ∙ none-missing-of s ok;
+        fields = h .fields;
+        types =
+            types-fine-same (versionOf s) (plannedKind places) (kindAt s) (countOf s) (kind-is s ok)
+            (record { allowed = λ i q. sound-at s ok i q .known; order = order-at s ok; none-missing = none-missing-of s ok });
         small = omega arith;
         sized = length-joined places (countOf s) (piece s) (length-piece-is s ok);
       }
@@ -86,4 +79,4 @@ module _ (s : List ℕ) (ok : verdictOf s ≡ Accepted) where
     pub bytes-given : AreBytes (given s)
     bytes-given =
         bytes-joined (piece s) (countOf s) 0
-        (λ j. bytes-take (sizeAt s j) (drop (offsetAt s j + sectionHeaderSize) s) (bytes-drop (offsetAt s j + sectionHeaderSize) s w))
+        (λ j. bytes-part (sizeAt s j) (offsetAt s j + sectionHeaderSize) s w)

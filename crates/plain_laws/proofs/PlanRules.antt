@@ -1,30 +1,42 @@
 -- A plan is accepted exactly when it meets every rule, said without an order of tests.
 -- Assumes nothing.
 use Prim.Native.Nat.{ℕ, _<_, _≤_}
-use mathlib.Core.Path.{_≡_, refl, sym}
+use mathlib.Core.Path.{_≡_, refl, ap, _∙_}
 use mathlib.Core.Bool.{Bool, true, false, not}
 use mathlib.Core.List.{List}
 use native.Mathlib.Omega.{arith}
 use borrow.Author.Tests.{le-ltb, eq-eqb, ltb-false, eqb-true, leb-true, not-false}
 use lib.Dec.{eqb, ltb, leb}
-use Rattle.eif.specs.Numbers.{sizeLimit, placeCount, fewestSections, oldestVersion, newestVersion}
+use Rattle.eif.specs.Numbers.{sizeLimit, kernel, ramdisk, signature, metadata}
 use Rattle.eif.specs.Rules.{typeFault, allowedIn, orderFault, missing, firstFault, fieldFault}
 use Rattle.eif.specs.Plan.{plannedKind, plainSize, dataBefore, sizeFault, planFault, planVerdict}
 use Rattle.eif.specs.declared.Place.{Place}
 use Rattle.eif.specs.declared.Plan.{Plan}
 use Rattle.eif.specs.declared.Verdict.the-variants.{Accepted}
 use Rattle.octets.proofs.Logic.{choose-zero, both-true}
-use Rattle.eif_lemmas.proofs.Fields.{fields, fields-fine}
-use Rattle.eif_lemmas.proofs.Verdicts.{then-accepted, whole-zero, all-accepted, walk-accepted, walk-all}
+use Rattle.eif_lemmas.proofs.Fields.{Fields, fields, fields-zero}
+use Rattle.eif_lemmas.proofs.Types.{order-same, missing-same}
+use Rattle.eif_lemmas.proofs.Verdicts.{then-accepted, accepted-zero, all-accepted, walk-accepted, walk-all}
 
+-- what the first n types of an image, a plan or a roll have that the rules 9 to 12 of a version do not refuse
+pub record TypesFine (version : ℕ) (kinds : ℕ → ℕ) (n : ℕ) : Type 0 where
+  pub allowed : (i : ℕ) → i < n → allowedIn version (kinds i) ≡ true
+  pub order : (i : ℕ) → i < n → orderFault kinds (kinds i) i ≡ 0
+  pub none-missing : missing kinds version n ≡ false
+
+-- the same types have it too
+pub types-fine-same : (version : ℕ) (f g : ℕ → ℕ) (n : ℕ) → ((i : ℕ) → i < n → f i ≡ g i) → TypesFine version g n → TypesFine version f n
+types-fine-same version f g n same t =
+    record {
+      allowed = λ i h. ap (allowedIn version) (same i h) ∙ t .allowed i h;
+      order = λ i h. ap (λ (k : ℕ). orderFault f k i) (same i h) ∙ order-same f g (g i) i (λ j q. same j (omega arith)) ∙ t .order i h;
+      none-missing = missing-same f g version n same ∙ t .none-missing;
+    }
+
+-- what a plan that is not refused has, with data of a length
 pub record Planned (p : Plan) (given : ℕ) : Type 0 where
-  pub low : oldestVersion ≤ p .version
-  pub high : p .version ≤ newestVersion
-  pub some : fewestSections ≤ p .count
-  pub few : p .count ≤ placeCount
-  pub allowed : (i : ℕ) → i < p .count → allowedIn (p .version) (plannedKind (p .places) i) ≡ true
-  pub order : (i : ℕ) → i < p .count → orderFault (plannedKind (p .places)) (plannedKind (p .places) i) i ≡ 0
-  pub none-missing : missing (plannedKind (p .places)) (p .version) (p .count) ≡ false
+  pub fields : Fields (p .version) (p .count)
+  pub types : TypesFine (p .version) (plannedKind (p .places)) (p .count)
   pub small : plainSize p ≤ sizeLimit
   pub sized : given ≡ dataBefore (p .places) (p .count)
 
@@ -53,44 +65,39 @@ module _ (p : Plan) (given : ℕ) where
   planned→ e =
       let a = then-accepted _ _ e in
       let b = then-accepted _ _ (a .1) in
-      let f = fields (p .version) (p .count) (whole-zero _ (a .0)) in
-      let w = whole-zero _ (b .1) in
+      let w = accepted-zero _ _ _ (b .1) in
       let x = choose-zero (missing (plannedKind l) (p .version) (p .count)) _ _ w in
       let y = choose-zero (ltb sizeLimit (plainSize p)) _ _ (x .1) in
       let z = choose-zero (not (eqb given (dataBefore l (p .count)))) _ _ (y .1) in
       record {
-        low = f .low;
-        high = f .high;
-        some = f .some;
-        few = f .few;
-        allowed = λ i q. place-zero (p .version) l i (at-place (b .0) i q) .0;
-        order = λ i q. place-zero (p .version) l i (at-place (b .0) i q) .1;
-        none-missing = x .0;
+        fields = fields (p .version) (p .count) (accepted-zero _ _ _ (a .0));
+        types = record {
+          allowed = λ i q. place-zero (p .version) l i (at-place (b .0) i q) .0;
+          order = λ i q. place-zero (p .version) l i (at-place (b .0) i q) .1;
+          none-missing = x .0;
+        };
         small = ltb-false _ _ (y .0);
         sized = eqb-true _ _ (not-false _ (z .0));
       }
 
   module _ (a : Planned p given) where
-    fields-zero : fieldFault (p .version) (p .count) ≡ 0
-    fields-zero = sym (fields-fine (p .version) (p .count) (a .low) (a .high) (a .some) (a .few))
-
     plan-zero : planFault p given ≡ 0
     unfolding planFault sizeFault
-    plan-zero = simp (a .none-missing, le-ltb _ _ (a .small), eq-eqb _ _ (a .sized))
+    plan-zero = simp (a .types .none-missing, le-ltb _ _ (a .small), eq-eqb _ _ (a .sized))
 
     pub →planned : planVerdict p given ≡ Accepted
     unfolding planVerdict
     →planned =
-        all-accepted (fieldFault (p .version) (p .count)) (planFault p given) _ fields-zero
+        all-accepted (fieldFault (p .version) (p .count)) (planFault p given) _ (fields-zero (p .version) (p .count) (a .fields))
         (walk-all (typeFault (p .version) (plannedKind l)) (p .count) 0
-        (λ i k q. zero-place (p .version) l i (a .allowed i (omega arith)) (a .order i (omega arith)))) plan-zero
+        (λ i k q. zero-place (p .version) l i (a .types .allowed i (omega arith)) (a .types .order i (omega arith)))) plan-zero
 
 -- a type that a version may hold is small
-pub allowed-small : (version kind : ℕ) → allowedIn version kind ≡ true → kind ≤ 5
+pub allowed-small : (version kind : ℕ) → allowedIn version kind ≡ true → kind ≤ metadata
 unfolding allowedIn
-allowed-small version kind e = go (eqb kind 4) (eqb kind 5) refl refl
+allowed-small version kind e = go (eqb kind signature) (eqb kind metadata) refl refl
   where
-    go : (a b : Bool) → eqb kind 4 ≡ a → eqb kind 5 ≡ b → kind ≤ 5
-    go true b p q = let h = eqb-true kind 4 p in omega arith
-    go false true p q = let h = eqb-true kind 5 q in omega arith
-    go false false p q = let h = leb-true kind 3 (both-true (leb 1 kind) (leb kind 3) (simp (p, q) at e) .1) in omega arith
+    go : (a b : Bool) → eqb kind signature ≡ a → eqb kind metadata ≡ b → kind ≤ metadata
+    go true b p q = let h = eqb-true kind signature p in omega arith
+    go false true p q = let h = eqb-true kind metadata q in omega arith
+    go false false p q = let h = leb-true kind ramdisk (both-true (leb kernel kind) (leb kind ramdisk) (simp (p, q) at e) .1) in omega arith

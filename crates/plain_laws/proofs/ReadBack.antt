@@ -9,21 +9,20 @@ use borrow.Author.Tests.{le-ltb}
 use lib.ListN.{length}
 use Rattle.octets.specs.Bytes.{AreBytes}
 use Rattle.eif.specs.Numbers.{placeCount}
-use Rattle.eif.specs.Rules.{allowedIn, orderFault, missing}
+use Rattle.eif.specs.Rules.{allowedIn, missing}
 use Rattle.eif.specs.Table.{filled}
-use Rattle.eif.specs.Layout.{viewOf, architecture, versionOf, countOf, startAt, kindAt, sectionHeaderSize}
+use Rattle.eif.specs.Layout.{viewOf, architecture, countOf, startAt, kindAt, sectionHeaderSize}
 use Rattle.eif.specs.Reading.{entryFault, hasTail, checksumOf, verdictOf, sectionAt, blankSection, sectionsOf, markOf, readImage}
 use Rattle.eif.specs.Plan.{plannedKind, packedAt, plainSize, plainImage, plannedSize}
 use Rattle.eif.specs.declared.Place.{Place}
 use Rattle.eif.specs.declared.Plan.{Plan}
 use Rattle.eif.specs.declared.Verdict.the-variants.{Accepted}
-use Rattle.eif_lemmas.proofs.Types.{order-same, missing-same}
 use Rattle.eif_lemmas.proofs.Table.{filled-same}
 use Rattle.eif_lemmas.proofs.View.{no-fault, fault-order}
 use Rattle.eif_lemmas.proofs.Accept.{→accepted}
 use Rattle.eif_lemmas.proofs.Reading.{reading-accepted}
 use Rattle.plain_laws.specs.Packed.{packedSection, packedSections, packedReading}
-use Rattle.plain_laws.proofs.PlanRules.{Planned}
+use Rattle.plain_laws.proofs.PlanRules.{TypesFine, types-fine-same, Planned}
 use Rattle.plain_laws.proofs.Shape.{packed-le, packed-zero, length-plain}
 use Rattle.plain_laws.specs.RoundTrip.{Fits}
 use Rattle.plain_laws.proofs.Written.{read-magic, read-version, read-flags, read-default-mem, read-default-cpus, read-count, read-offset, read-size, read-kind, read-section-flags, read-own-size, read-start, read-end, read-sum}
@@ -40,6 +39,9 @@ module _ (p : Plan) (d : List ℕ) (a : Planned p (length d)) where
   pub long : length s ≡ plainSize p
   long = length-plain p d (a .sized)
 
+  read-types : TypesFine (p .version) (kindAt s) (p .count)
+  read-types = types-fine-same (p .version) (kindAt s) (plannedKind l) (p .count) (read-kind p d a) (a .types)
+
   entry-fine : (i : ℕ) → i < p .count → entryFault (viewOf s) i ≡ 0
   entry-fine i h =
       let o = read-offset p d a i h in
@@ -48,24 +50,14 @@ module _ (p : Plan) (d : List ℕ) (a : Planned p (length d)) where
       let n = packed-le l (suc i) (p .count) h in
       let g = long in
       no-fault (viewOf s) i (omega arith) (omega arith) (read-own-size p d a i h ∙ sym (read-size p d a i h))
-      (ap₂ allowedIn (read-version p d a) (read-kind p d a i h) ∙ a .allowed i h)
-
-  order-fine : (i : ℕ) → i < p .count → orderFault (kindAt s) (kindAt s i) i ≡ 0
-  order-fine i h =
-      ap (λ (k : ℕ). orderFault (kindAt s) k i) (read-kind p d a i h)
-      ∙ order-same (kindAt s) (plannedKind l) (plannedKind l i) i (λ j q. read-kind p d a j (omega arith)) ∙ a .order i h
-
-  none-missing : missing (kindAt s) (versionOf s) (countOf s) ≡ false
-  none-missing =
-      ap₂ (λ (x y : ℕ). missing (kindAt s) x y) (read-version p d a) (read-count p d a)
-      ∙ missing-same (kindAt s) (plannedKind l) (p .version) (p .count) (λ j q. read-kind p d a j q) ∙ a .none-missing
+      (ap (λ (x : ℕ). allowedIn x (kindAt s i)) (read-version p d a) ∙ read-types .allowed i h)
 
   -- it ends with its last section
   tail-free : hasTail (viewOf s) ≡ false
   tail-free = by (p .count) refl
     where
       by : (n : ℕ) → p .count ≡ n → hasTail (viewOf s) ≡ false
-      by zero e = let h = a .some in absurd (omega arith)
+      by zero e = let h = a .fields .some in absurd (omega arith)
       by (suc n) e =
           let c : startAt s (countOf s) ≡ startAt s (suc n) = ap (startAt s) (read-count p d a ∙ e) in
           let r = read-end p d a n (omega arith) in
@@ -80,20 +72,17 @@ module _ (p : Plan) (d : List ℕ) (a : Planned p (length d)) where
         let n = read-count p d a in
         let z = packed-zero (plannedSize l) in
         let m = packed-le l 0 (p .count) (omega arith) in
-        let lo = a .low in let hi = a .high in let so = a .some in let fe = a .few in let sm = a .small in
+        let sm = a .small in
         →accepted (viewOf s) (checksumOf s)
         (record {
           head = record {
             small = omega arith;
             whole = omega arith;
             magic = read-magic p d a;
-            low = omega arith;
-            high = omega arith;
-            some = omega arith;
-            few = omega arith;
+            fields = rw (v, n) (a .fields);
           };
-          sections = λ i h. fault-order (viewOf s) i (entry-fine i (omega arith)) ∙ order-fine i (omega arith);
-          complete = none-missing;
+          sections = λ i h. fault-order (viewOf s) i (entry-fine i (omega arith)) ∙ read-types .order i (omega arith);
+          complete = ap₂ (missing (kindAt s)) v n ∙ read-types .none-missing;
           no-tail = tail-free;
           sum = read-sum p d a w;
         })

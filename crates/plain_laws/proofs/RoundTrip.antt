@@ -8,7 +8,6 @@ use mathlib.Core.List.{List}
 use native.Mathlib.Omega.{arith}
 use lib.ListN.{length, getD, List·getD-map}
 use Rattle.octets.specs.Bytes.{AreBytes}
-use Rattle.octets.specs.Over.{over}
 use Rattle.eif.specs.Numbers.{placeCount}
 use Rattle.eif.specs.Output.{writtenFor, outputFor}
 use Rattle.eif.specs.Reading.{verdictOf, blankSection, readImage, dataOf}
@@ -16,7 +15,7 @@ use Rattle.eif.specs.Plan.{placeAt, dataBefore, plainSize, pieceAt, planVerdict
 use Rattle.eif.specs.declared.Plan.{Plan}
 use Rattle.eif.specs.declared.Verdict.{Verdict}
 use Rattle.eif.specs.declared.Verdict.the-variants.{Accepted}
-use Rattle.eif_lemmas.proofs.Table.{filled-at}
+use Rattle.eif_lemmas.proofs.Table.{filled-at, join-same}
 use Rattle.eif_lemmas.proofs.Room.{room-enough, room-fine}
 use Rattle.eif_lemmas.proofs.Reading.{reading-accepted}
 use Rattle.plain_laws.specs.Packed.{packedSection, packedReading, SamePlan}
@@ -24,8 +23,8 @@ use Rattle.plain_laws.proofs.PlanRules.{Planned, planned→}
 use Rattle.plain_laws.specs.RoundTrip.{Fits, ReadsBack, Writes, WrittenFrom, SameWriting}
 use Rattle.plain_laws.proofs.Written.{read-data}
 use Rattle.plain_laws.proofs.ReadBack.{plain-accepted, reads-back, long}
-use Rattle.plain_laws.proofs.Joined.{join-same, pieces-joined}
-use Rattle.plain_laws.proofs.WriteBack.{plan, given, joined-is, plain-again, length-plan}
+use Rattle.plain_laws.proofs.Joined.{pieces-joined}
+use Rattle.plain_laws.proofs.WriteBack.{plan, given, joined-is, plain-again}
 use Rattle.plain_laws.proofs.Plainness.{is-plain, plan-accepted, plan-fits, bytes-given}
 use Rattle.plain_laws.proofs.SamePlan.{size-of-same, verdict-of-same, image-of-same}
 
@@ -37,7 +36,7 @@ module _ (p : Plan) (d : List ℕ) (a : Planned p (length d)) where
 
   data-at : (i : ℕ) → i < p .count → dataOf image (getD (packedReading p .sections) i blankSection) ≡ pieceAt (p .places) d i
   data-at i h =
-      ap (dataOf image) (filled-at (packedSection (p .places)) blankSection blankSection placeCount (p .count) i h (a .few))
+      ap (dataOf image) (filled-at (packedSection (p .places)) blankSection blankSection placeCount (p .count) i h (a .fields .few))
       ∙ read-data p d a i h
 
   data-joined : dataJoined image (packedReading p) ≡ d
@@ -48,7 +47,7 @@ module _ (p : Plan) (d : List ℕ) (a : Planned p (length d)) where
   place-back : (i : ℕ) → i < p .count → placeAt (planOf (packedReading p) .places) i ≡ placeAt (p .places) i
   place-back i h =
       List·getD-map placeOf (packedReading p .sections) i blankSection
-      ∙ ap placeOf (filled-at (packedSection (p .places)) blankSection blankSection placeCount (p .count) i h (a .few))
+      ∙ ap placeOf (filled-at (packedSection (p .places)) blankSection blankSection placeCount (p .count) i h (a .fields .few))
 
   same-back : SamePlan (planOf (packedReading p)) p
   same-back = record { version = refl; flags = refl; «default_mem» = refl; «default_cpus» = refl; count = refl; used = place-back }
@@ -72,13 +71,21 @@ read-plain p d e c w =
 pub plain-is-plain : (p : Plan) (d : List ℕ) → planVerdict p (length d) ≡ Accepted → AreBytes d → Plain (plainImage p d)
 plain-is-plain p d e w = is-plain p d (planned→ p (length d) e) w
 
--- ---- what is read is written again
+-- ---- what the writer answers
 
-module _ (p : Plan) (given room : ℕ) (ok : planVerdict p given ≡ Accepted) (fits : plainSize p ≤ room) where
-  -- a plan that is not refused is written wherever there is room
-  pub write-accepted : writeVerdict p given room ≡ Accepted
-  unfolding writeVerdict
-  write-accepted = room-fine (planVerdict p given) room (plainSize p) ok fits
+-- Where a plan is not refused, the writer writes its plain image.
+pub written-plain : (p : Plan) (d : List ℕ) → planVerdict p (length d) ≡ Accepted → Writes p d (plainImage p d)
+unfolding writeAnswer writeOutput writeVerdict
+written-plain p d ok =
+    let n = long p d (planned→ p (length d) ok) in
+    let v : (room : ℕ) → length (plainImage p d) ≤ room → writeVerdict p (length d) room ≡ Accepted =
+    λ room h. room-fine (planVerdict p (length d)) room (plainSize p) ok (omega arith) in
+    record {
+      not-refused = ok;
+      image = refl;
+      answer = λ room h. ap₂ writtenFor (v room h) (sym n);
+      output = λ b h. ap (λ (x : Verdict). outputFor x (plainImage p d) b) (v (length b) h);
+    }
 
 -- The length of a plan's image is the writer's answer, were there data and room as planned.
 pub length-is-written : (p : Plan) (given room : ℕ) → given ≡ dataBefore (p .places) (p .count) → plainSize p ≤ room → writeAnswer p given room ≡ planLength p
@@ -86,28 +93,14 @@ unfolding writeAnswer planLength writeVerdict
 length-is-written p given room e h =
     ap (λ (v : Verdict). writtenFor v (plainSize p)) (room-enough (planVerdict p given) room (plainSize p) h ∙ ap (planVerdict p) e)
 
-module _ (s : List ℕ) (w : AreBytes s) (pl : Plain s) where
-  abbrev ok : verdictOf s ≡ Accepted
-  ok = pl .accepted
-
-  room-for : (room : ℕ) → length s ≤ room → writeVerdict (plan s) (length (given s)) room ≡ Accepted
-  room-for room h = write-accepted (plan s) (length (given s)) room (plan-accepted s ok) (let e = length-plan s w pl in omega arith)
-
-  answered : (room : ℕ) → length s ≤ room → writeAnswer (plan s) (length (given s)) room ≡ record { verdict = Accepted; length = length s }
-  unfolding writeAnswer
-  answered room h =
-      ap₂ (λ (v : Verdict) (n : ℕ). writtenFor v n) (room-for room h) (sym (length-plan s w pl))
-
-  put-out : (d : List ℕ) → length s ≤ length d → writeOutput (plan s) (given s) d ≡ over d 0 s
-  unfolding writeOutput
-  put-out d h = ap₂ (λ (v : Verdict) (b : List ℕ). outputFor v b d) (room-for (length d) h) (plain-again s w pl)
+-- ---- what is read is written again
 
 -- Writing the reading of any plain image, with its sections' data joined in file order, gives that image.
 pub write-read : (s : List ℕ) → AreBytes s → Plain s → Writes (planOf (readImage s)) (dataJoined s (readImage s)) s
 write-read s w pl =
     let r = reading-accepted s (pl .accepted) in
     let j = joined-is s (pl .accepted) in
-    rw (r, j) (record { not-refused = plan-accepted s (pl .accepted); image = plain-again s w pl; answer = answered s w pl; output = put-out s w pl })
+    rw (r, j) (subst (Writes (plan s) (given s)) (plain-again s w pl) (written-plain (plan s) (given s) (plan-accepted s (pl .accepted))))
 
 -- ---- plain exactly when written
 

@@ -9,18 +9,20 @@ use lib.Dec.{ltb, eqb}
 use lib.ListN.{take, drop}
 use Rattle.octets.specs.Bytes.{beBytes, beBytesEach}
 use Rattle.crc32.specs.Crc.{crc32}
-use Rattle.eif.specs.Numbers.{sizeLimit, placeCount, imageTooLong, typeNotAllowed, sectionMissing, dataLengthDiffers}
+use Rattle.eif.specs.Numbers.{sizeLimit, placeCount, imageTooLong, sectionMissing, dataLengthDiffers}
 use Rattle.octets.specs.Logic.{choose}
 use Rattle.eif.specs.Answers.{wholeVerdict}
-use Rattle.eif.specs.Rules.{typeFault, allowedIn, orderFault, missing, firstFault, fieldFault}
-use Rattle.eif.specs.Layout.{magicNumber, sectionHeaderSize, entrySize, packedBy}
+use Rattle.eif.specs.Rules.{typeFault, missing, firstFault, fieldFault}
+use Rattle.eif.specs.Layout.{magicNumber, entrySize}
 use Rattle.eif.specs.Plan.{placeAt, plannedKind, plannedSize, packedAt, dataBefore, plainSize, sizeFault, planFault, planVerdict, fixedFields, offsetTable, sizeTable, headerBytes, pieceAt, sectionHeader, sectionBytes, bodyBytes, plainImage}
 use Rattle.eif.specs.declared.Place.{Place}
 use Rattle.eif.specs.declared.Plan.{Plan}
 use Rattle.plain_laws.specs.Packed.{SamePlan}
-use Rattle.eif_lemmas.proofs.Types.{order-same, missing-same}
-use Rattle.eif_lemmas.proofs.Table.{filled-same}
+use Rattle.eif_lemmas.proofs.Types.{missing-same, type-same}
+use Rattle.eif_lemmas.proofs.Table.{filled-same, join-same}
 use Rattle.eif_lemmas.proofs.Verdicts.{then-same, walk-same}
+use Rattle.eif.specs.Table.{joinFrom}
+use Rattle.plain_laws.proofs.Shape.{packed-agree}
 
 -- ---- lists of places with the same first ones
 
@@ -32,9 +34,7 @@ module _ (l m : List Place) (count : ℕ) (same : (i : ℕ) → i < count → pl
   size-same i h = ap (λ (x : Place). x .length .0) (same i h)
 
   packed-same : (i : ℕ) → i ≤ count → packedAt l i ≡ packedAt m i
-  unfolding packedBy
-  packed-same zero h = refl
-  packed-same (suc i) h = ap₂ (λ (x y : ℕ). x + sectionHeaderSize + y) (packed-same i (omega arith)) (size-same i h)
+  packed-same i h = packed-agree (plannedSize l) (plannedSize m) i (λ j q. size-same j (omega arith))
 
   before-same : (i : ℕ) → i ≤ count → dataBefore l i ≡ dataBefore m i
   unfolding dataBefore
@@ -52,19 +52,13 @@ module _ (l m : List Place) (count : ℕ) (same : (i : ℕ) → i < count → pl
   piece-same : (d : List ℕ) (i : ℕ) → i < count → pieceAt l d i ≡ pieceAt m d i
   piece-same d i h = ap₂ (λ (n b : ℕ). take n (drop b d)) (size-same i h) (before-same i (omega arith))
 
-  sections-same : (d : List ℕ) (n i : ℕ) → i + n ≤ count → sectionBytes l d n i ≡ sectionBytes m d n i
-  unfolding sectionBytes
-  sections-same d zero i h = refl
-  sections-same d (suc n) i h =
-      ap₂ (λ (x : Place) (r : List ℕ). sectionHeader x ++ r) (same i (omega arith))
-      (ap₂ (λ (x r : List ℕ). x ++ r) (piece-same d i (omega arith)) (sections-same d n (suc i) (omega arith)))
+  sections-same : (d : List ℕ) → joinFrom (sectionBytes l d) count 0 ≡ joinFrom (sectionBytes m d) count 0
+  sections-same d =
+      join-same (sectionBytes l d) (sectionBytes m d) count 0
+      (λ i h. ap₂ (λ (x : Place) (r : List ℕ). sectionHeader x ++ r) (same i (omega arith)) (piece-same d i (omega arith)))
 
   place-fault-same : (version i : ℕ) → i < count → typeFault version (plannedKind l) i ≡ typeFault version (plannedKind m) i
-  unfolding typeFault
-  place-fault-same version i h =
-      ap₂ (λ (k o : ℕ). choose (not (allowedIn version k)) typeNotAllowed o) (kind-same i h)
-      (ap (λ (k : ℕ). orderFault (plannedKind l) k i) (kind-same i h)
-      ∙ order-same (plannedKind l) (plannedKind m) (plannedKind m i) i (λ j q. kind-same j (omega arith)))
+  place-fault-same version i h = type-same (plannedKind l) (plannedKind m) version i (λ j q. kind-same j (omega arith))
 
 -- ---- two such plans
 
@@ -93,7 +87,7 @@ module _ (p q : Plan) (e : SamePlan p q) where
 
   walk : firstFault (typeFault (p .version) (plannedKind l)) (p .count) 0 ≡ firstFault (typeFault (q .version) (plannedKind m)) (q .count) 0
   walk =
-      walk-same (typeFault (p .version) (plannedKind l)) (typeFault (q .version) (plannedKind m)) (p .count) 0 (λ k h. absurd (omega arith))
+      walk-same (typeFault (p .version) (plannedKind l)) (typeFault (q .version) (plannedKind m)) (p .count)
       (λ j h good. place-fault-same l m (p .count) (e .used) (p .version) j (omega arith) ∙ ap (λ (v : ℕ). typeFault v (plannedKind m) j) (e .version))
       ∙ ap (λ (n : ℕ). firstFault (typeFault (q .version) (plannedKind m)) n 0) (e .count)
 
@@ -128,7 +122,7 @@ module _ (p q : Plan) (e : SamePlan p q) where
       λ t. a t ++ (b t ++ (c t ++ beBytes 4 0))
 
   body-same : (d : List ℕ) → bodyBytes p d ≡ bodyBytes q d
-  body-same d = sections-same l m (p .count) (e .used) d (p .count) 0 (omega arith) ∙ ap (λ (n : ℕ). sectionBytes m d n 0) (e .count)
+  body-same d = sections-same l m (p .count) (e .used) d ∙ ap (λ (n : ℕ). joinFrom (sectionBytes m d) n 0) (e .count)
 
   pub image-of-same : (d : List ℕ) → plainImage p d ≡ plainImage q d
   unfolding plainImage

@@ -5,20 +5,20 @@ use mathlib.Core.Path.{_≡_, refl, sym, ap, ap₂, _∙_}
 use mathlib.Core.List.{List, _++_, append-assoc}
 use mathlib.Core.Logic.{⊎-elim}
 use native.Mathlib.Omega.{arith}
-use native.Mathlib.Nat.{add-zero, sub-zero, eq-or-lt-of-le}
+use native.Mathlib.Nat.{eq-or-lt-of-le}
 use lib.ListN.{length, take, drop, length-append, length-take, length-drop}
-use lib.Seq.{take-at, drop-at, drop-drop}
+use lib.Seq.{take-at, drop-at}
 use Rattle.octets.proofs.Each.{length-each, bytes-each}
 use Rattle.octets.specs.Bytes.{AreBytes, beBytes, beBytesEach}
-use Rattle.octets.proofs.Value.{bytes-append, bytes-take, bytes-drop}
+use Rattle.octets.proofs.Value.{bytes-append, bytes-part}
 use Rattle.crc32.specs.Crc.{crc32}
 use Rattle.eif.specs.Numbers.{placeCount}
-use Rattle.eif.specs.Table.{filled}
+use Rattle.eif.specs.Table.{filled, joinFrom}
 use Rattle.eif.specs.Layout.{magicNumber, headerSize, sectionHeaderSize, checksumAt, offsetsAt, entrySize, packedBy}
 use Rattle.eif.specs.Plan.{placeAt, plannedSize, packedAt, dataBefore, plainSize, pieceAt, fixedFields, offsetTable, sizeTable, headerBytes, sectionHeader, sectionBytes, bodyBytes, plainImage}
 use Rattle.eif.specs.declared.Plan.{Plan}
 use Rattle.eif.specs.declared.Place.{Place}
-use Rattle.eif_lemmas.proofs.Table.{length-filled}
+use Rattle.eif_lemmas.proofs.Table.{length-filled, join-next, bytes-joined, join-end, join-from}
 use Rattle.plain_laws.proofs.Fields.{Bytes, be, join}
 
 -- ---- positions grow with the place
@@ -40,6 +40,12 @@ module _ (sizes : ℕ → ℕ) where
   unfolding packedBy
   packed-suc i = refl
 
+-- the sizes before a section alone decide where it starts
+pub packed-agree : (f g : ℕ → ℕ) (i : ℕ) → ((j : ℕ) → j < i → f j ≡ g j) → packedBy f i ≡ packedBy g i
+unfolding packedBy
+packed-agree f g zero h = refl
+packed-agree f g (suc i) h = ap₂ (λ (x y : ℕ). x + sectionHeaderSize + y) (packed-agree f g i (λ j q. h j (omega arith))) (h i (omega arith))
+
 module _ (l : List Place) where
   pub before-zero : dataBefore l 0 ≡ 0
   unfolding dataBefore
@@ -58,11 +64,11 @@ module _ (l : List Place) where
 -- ---- the header's parts
 
 module _ (l : List Place) (count : ℕ) where
-  pub length-offsets : length (offsetTable l count) ≡ 256
+  pub length-offsets : length (offsetTable l count) ≡ entrySize * placeCount
   unfolding offsetTable
   length-offsets = length-each entrySize (filled (packedAt l) 0 placeCount count) ∙ ap (λ (n : ℕ). entrySize * n) (length-filled (packedAt l) 0 placeCount count)
 
-  pub length-sizes : length (sizeTable l count) ≡ 256
+  pub length-sizes : length (sizeTable l count) ≡ entrySize * placeCount
   unfolding sizeTable
   length-sizes = length-each entrySize (filled (plannedSize l) 0 placeCount count) ∙ ap (λ (n : ℕ). entrySize * n) (length-filled (plannedSize l) 0 placeCount count)
 
@@ -101,16 +107,12 @@ unfolding sectionHeader
 bytes-sectionHeader x = join (be 2 (x .kind)) (join (be 2 (x .flags)) (be 8 (x .length .0))) .are
 
 module _ (l : List Place) (d : List ℕ) where
-  pub section-suc : (n i : ℕ) → sectionBytes l d (suc n) i ≡ sectionHeader (placeAt l i) ++ (pieceAt l d i ++ sectionBytes l d n (suc i))
-  unfolding sectionBytes
-  section-suc n i = refl
-
-  pub bytes-sections : (n i : ℕ) → AreBytes d → AreBytes (sectionBytes l d n i)
-  unfolding sectionBytes
-  bytes-sections zero i w = tt
-  bytes-sections (suc n) i w =
-      bytes-append (sectionHeader (placeAt l i)) (pieceAt l d i ++ sectionBytes l d n (suc i)) (bytes-sectionHeader (placeAt l i))
-      (bytes-append (pieceAt l d i) (sectionBytes l d n (suc i)) (bytes-take (plannedSize l i) (drop (dataBefore l i) d) (bytes-drop (dataBefore l i) d w)) (bytes-sections n (suc i) w))
+  pub bytes-sections : (count : ℕ) → AreBytes d → AreBytes (joinFrom (sectionBytes l d) count 0)
+  bytes-sections count w =
+      bytes-joined (sectionBytes l d) count 0
+      (λ i.
+      bytes-append (sectionHeader (placeAt l i)) (pieceAt l d i) (bytes-sectionHeader (placeAt l i))
+      (bytes-part (plannedSize l i) (dataBefore l i) d w))
 
   module _ (count : ℕ) (sized : length d ≡ dataBefore l count) where
     pub length-piece : (i : ℕ) → i < count → length (pieceAt l d i) ≡ plannedSize l i
@@ -119,17 +121,17 @@ module _ (l : List Place) (d : List ℕ) where
         let b = before-suc l i in
         simp (length-take, length-drop) (omega arith)
 
-    pub length-sections : (n i : ℕ) → i + n ≡ count → packedAt l i + length (sectionBytes l d n i) ≡ packedAt l count
-    unfolding sectionBytes
-    length-sections zero i e = let z : i ≡ count = omega arith in add-zero (packedAt l i) ∙ ap (packedAt l) z
-    length-sections (suc n) i e =
-        let h : length (sectionHeader (placeAt l i) ++ (pieceAt l d i ++ sectionBytes l d n (suc i))) ≡ sectionHeaderSize + (plannedSize l i + length (sectionBytes l d n (suc i))) =
-        length-append (sectionHeader (placeAt l i)) _
-        ∙ ap₂ (λ (a b : ℕ). a + b) (length-sectionHeader (placeAt l i))
-        (length-append (pieceAt l d i) _ ∙ ap (λ (m : ℕ). m + length (sectionBytes l d n (suc i))) (length-piece i (omega arith))) in
-        let r = length-sections n (suc i) (omega arith) in
+    -- the next section starts where this one ends
+    pub next-section : (i : ℕ) → i < count → packedAt l (suc i) ≡ packedAt l i + length (sectionBytes l d i)
+    next-section i h =
+        let a = length-append (sectionHeader (placeAt l i)) (pieceAt l d i) in
+        let b = length-sectionHeader (placeAt l i) in
+        let c = length-piece i h in
         let q = packed-suc (plannedSize l) i in
-        ap (λ (m : ℕ). packedAt l i + m) h ∙ (omega arith)
+        omega arith
+
+    pub length-sections : packedAt l 0 + length (joinFrom (sectionBytes l d) count 0) ≡ packedAt l count
+    length-sections = join-end (sectionBytes l d) (packedAt l) count next-section count 0 (omega arith)
 
 -- ---- the whole image
 
@@ -149,7 +151,7 @@ module _ (p : Plan) (d : List ℕ) where
       let a : length (headerBytes p ++ (sum ++ bodyBytes p d)) ≡ length (headerBytes p) + (4 + length (bodyBytes p d)) =
       length-append (headerBytes p) _ ∙ ap (λ (n : ℕ). length (headerBytes p) + n) (length-append sum (bodyBytes p d)) in
       let b = length-header p in
-      let c = length-sections l d (p .count) sized (p .count) 0 (omega arith) in
+      let c = length-sections l d (p .count) sized in
       let e = packed-zero (plannedSize l) in
       a ∙ (omega arith)
 
@@ -157,7 +159,7 @@ module _ (p : Plan) (d : List ℕ) where
   unfolding plainImage
   bytes-plain w =
       bytes-append (headerBytes p) (sum ++ bodyBytes p d) (bytes-header p)
-      (bytes-append sum (bodyBytes p d) (be 4 (crc32 (headerBytes p ++ bodyBytes p d)) .are) (bytes-sections l d (p .count) 0 w))
+      (bytes-append sum (bodyBytes p d) (be 4 (crc32 (headerBytes p ++ bodyBytes p d)) .are) (bytes-sections l d (p .count) w))
 
   pub past-header : drop headerSize s ≡ bodyBytes p d
   unfolding plainImage
@@ -171,21 +173,14 @@ module _ (p : Plan) (d : List ℕ) where
 
   module _ (sized : length d ≡ dataBefore l (p .count)) where
     -- what stands from section i on
-    pub from-section : (i : ℕ) → i ≤ p .count → drop (packedAt l i) s ≡ sectionBytes l d (p .count - i) i
-    from-section zero h = ap (λ (n : ℕ). drop n s) (packed-zero (plannedSize l)) ∙ past-header ∙ ap (λ (n : ℕ). sectionBytes l d n 0) (sym (sub-zero (p .count)))
-    from-section (suc i) h =
-        let e = from-section i (omega arith) in
-        let n : p .count - i ≡ suc (p .count - suc i) = omega arith in
-        let x : List ℕ = pieceAt l d i ++ sectionBytes l d (p .count - suc i) (suc i) in
-        let f : drop (packedAt l i) s ≡ sectionHeader (placeAt l i) ++ x = e ∙ ap (λ (m : ℕ). sectionBytes l d m i) n ∙ section-suc l d (p .count - suc i) i in
-        ap (λ (m : ℕ). drop m s) (packed-suc (plannedSize l) i)
-        ∙ sym (drop-drop (plannedSize l i) (packedAt l i + sectionHeaderSize) s)
-        ∙ ap (drop (plannedSize l i)) (sym (drop-drop sectionHeaderSize (packedAt l i) s) ∙ ap (drop sectionHeaderSize) f ∙ drop-at (sectionHeader (placeAt l i)) x sectionHeaderSize (length-sectionHeader (placeAt l i)))
-        ∙ drop-at (pieceAt l d i) (sectionBytes l d (p .count - suc i) (suc i)) (plannedSize l i) (length-piece l d (p .count) sized i h)
+    from-section : (i : ℕ) → i ≤ p .count → drop (packedAt l i) s ≡ joinFrom (sectionBytes l d) (p .count - i) i
+    from-section =
+        join-from (sectionBytes l d) (packedAt l) (p .count) (next-section l d (p .count) sized) s
+        (ap (λ (n : ℕ). drop n s) (packed-zero (plannedSize l)) ∙ past-header)
 
     -- section i, and what stands after it
     pub at-section : (i : ℕ) → i < p .count → drop (packedAt l i) s ≡ sectionHeader (placeAt l i) ++ (pieceAt l d i ++ drop (packedAt l (suc i)) s)
     at-section i h =
-        let n : p .count - i ≡ suc (p .count - suc i) = omega arith in
-        from-section i (omega arith) ∙ ap (λ (m : ℕ). sectionBytes l d m i) n ∙ section-suc l d (p .count - suc i) i
-        ∙ ap (λ (r : List ℕ). sectionHeader (placeAt l i) ++ (pieceAt l d i ++ r)) (sym (from-section (suc i) h))
+        from-section i (omega arith) ∙ join-next (sectionBytes l d) (p .count) i h
+        ∙ ap (λ (r : List ℕ). sectionBytes l d i ++ r) (sym (from-section (suc i) h))
+        ∙ append-assoc (sectionHeader (placeAt l i)) (pieceAt l d i) (drop (packedAt l (suc i)) s)

@@ -16,12 +16,12 @@ use Rattle.eif.specs.Plan.{placeAt, plannedKind, plannedSize, packedAt, pieceAt
 use Rattle.eif.specs.declared.Place.{Place}
 use Rattle.eif.specs.declared.Plan.{Plan}
 use Rattle.eif.specs.declared.Verdict.the-variants.{Accepted}
-use Rattle.eif_lemmas.proofs.Table.{filled-at}
+use Rattle.eif_lemmas.proofs.Table.{join-same, join-split}
 use Rattle.eif_lemmas.proofs.View.{SoundHeader}
-use Rattle.eif_lemmas.proofs.Accept.{passes, sum-of, file-ends, sound-at}
+use Rattle.eif_lemmas.proofs.Accept.{passes, section-is, sum-of, file-ends, sound-at}
 use Rattle.plain_laws.proofs.Shape.{packed-suc, packed-zero, length-header}
 use Rattle.plain_laws.proofs.Split.{split, table-split, filled-full}
-use Rattle.plain_laws.proofs.Joined.{piece-is, join-same}
+use Rattle.plain_laws.proofs.Joined.{piece-is}
 
 regroup3 : (a b c r : List ℕ) → a ++ (b ++ (c ++ r)) ≡ (a ++ (b ++ c)) ++ r
 regroup3 a b c r = simp append-assoc
@@ -50,8 +50,7 @@ module _ (s : List ℕ) where
     sound-head = passes s ok .head
 
     pub place-is : (i : ℕ) → i < countOf s → placeAt (plan .places) i ≡ placeOf (sectionAt s i)
-    place-is i h =
-        List·getD-map placeOf (sectionsOf s) i blankSection ∙ ap placeOf (filled-at (sectionAt s) blankSection blankSection placeCount (countOf s) i h (sound-head .few))
+    place-is i h = List·getD-map placeOf (sectionsOf s) i blankSection ∙ ap placeOf (section-is s ok i h)
 
     pub kind-is : (i : ℕ) → i < countOf s → plannedKind (plan .places) i ≡ kindAt s i
     kind-is i h = ap (λ (x : Place). x .kind) (place-is i h)
@@ -76,7 +75,7 @@ module _ (s : List ℕ) where
     pub joined-is : dataJoined s (readingOf (viewOf s) Accepted) ≡ given
     joined-is =
         join-same (λ i. dataOf s (getD (sectionsOf s) i blankSection)) piece (countOf s) 0
-        (λ i h. ap (dataOf s) (filled-at (sectionAt s) blankSection blankSection placeCount (countOf s) i (omega arith) (sound-head .few)))
+        (λ i h. ap (dataOf s) (section-is s ok i (omega arith)))
 
 -- ---- a plain image, taken apart from its start
 
@@ -97,7 +96,7 @@ module _ (s : List ℕ) (w : AreBytes s) (pl : Plain s) where
   whole = sound-head s ok .whole
 
   few : countOf s ≤ placeCount
-  few = sound-head s ok .few
+  few = sound-head s ok .fields .few
 
   abbrev b1 : List ℕ
   b1 = beBytes 4 magicNumber
@@ -179,25 +178,19 @@ module _ (s : List ℕ) (w : AreBytes s) (pl : Plain s) where
       ∙ ap₂ (λ (y : Place) (r : List ℕ). (beBytes 2 (y .kind) ++ (beBytes 2 (y .flags) ++ beBytes 8 (y .length .0))) ++ r) (sym x)
       (ap₂ (λ (y r : List ℕ). y ++ r) (sym (piece-given s ok i h)) (drop-drop (sizeAt s i) (o + sectionHeaderSize) s))
 
-  sections-split : (n i : ℕ) → i + n ≡ countOf s → drop (startAt s i) s ≡ sectionBytes l d n i
-  unfolding sectionBytes
-  sections-split zero i e =
-      let z : i ≡ countOf s = omega arith in
-      ap (λ (n : ℕ). drop (startAt s n) s) z ∙ ap (λ (n : ℕ). drop n s) (sym (file-ends s ok)) ∙ drop-length s
-  sections-split (suc n) i e =
-      section-split i (omega arith)
-      ∙ ap (λ (r : List ℕ). sectionHeader (placeAt l i) ++ (pieceAt l d i ++ r)) (sections-split n (suc i) (omega arith))
+  sections-split : drop headerSize s ≡ bodyBytes p d
+  sections-split =
+      join-split (sectionBytes l d) (startAt s) (countOf s) s
+      (λ i h. section-split i h ∙ sym (append-assoc (sectionHeader (placeAt l i)) (pieceAt l d i) (drop (startAt s (suc i)) s)))
+      (ap (λ (n : ℕ). drop n s) (sym (file-ends s ok)) ∙ drop-length s) (countOf s) 0 (omega arith)
 
   pub plain-again : plainImage p d ≡ s
   unfolding plainImage checksumOf
   plain-again =
       let q = whole in
-      let b : drop headerSize s ≡ bodyBytes p d = sections-split (countOf s) 0 (omega arith) in
+      let b = sections-split in
       let h : take checksumAt s ≡ headerBytes p = ap (take checksumAt) header-split ∙ take-at (headerBytes p) (drop checksumAt s) checksumAt (length-header p) in
       let c : checksum (viewOf s) ≡ crc32 (headerBytes p ++ bodyBytes p d) = sum-of s ok ∙ ap₂ (λ (x y : List ℕ). crc32 (x ++ y)) h b in
       sym (header-split
       ∙ ap (λ (r : List ℕ). headerBytes p ++ r)
       (split s w 4 (crc32 (headerBytes p ++ bodyBytes p d)) checksumAt c (omega arith) ∙ ap (λ (r : List ℕ). beBytes 4 (crc32 (headerBytes p ++ bodyBytes p d)) ++ r) b))
-
-  pub length-plan : length s ≡ packedAt l (countOf s)
-  length-plan = file-ends s ok ∙ sym (packed-is s ok (countOf s) (omega arith))

@@ -161,7 +161,7 @@ module _ (p : Plan) (d : List ℕ) (a : Planned p (length d)) where
   read-magic = ap (field 4 magicAt) (parts p d) ∙ fixed-magic p rest
 
   pub read-version : versionOf image ≡ p .version
-  read-version = let h = a .high in ap (field 2 versionAt) (parts p d) ∙ fixed-version p rest (omega arith)
+  read-version = let h = a .fields .high in ap (field 2 versionAt) (parts p d) ∙ fixed-version p rest (omega arith)
 
   pub read-flags : p .flags < 2 ^ 16 → headerFlags (viewOf image) ≡ p .flags
   read-flags h = ap (field 2 headerFlagsAt) (parts p d) ∙ fixed-flags p rest h
@@ -176,7 +176,7 @@ module _ (p : Plan) (d : List ℕ) (a : Planned p (length d)) where
   read-reserved = ap (field 2 reservedAt) (parts p d) ∙ fixed-reserved p rest
 
   pub read-count : countOf image ≡ p .count
-  read-count = let h = a .few in ap (field 2 countAt) (parts p d) ∙ fixed-count p rest (omega arith)
+  read-count = let h = a .fields .few in ap (field 2 countAt) (parts p d) ∙ fixed-count p rest (omega arith)
 
   pub offset-entry : (i : ℕ) → i < placeCount → offsetAt image i ≡ getD (filled (packedAt l) 0 placeCount (p .count)) i 0
   unfolding offsetTable
@@ -189,7 +189,7 @@ module _ (p : Plan) (d : List ℕ) (a : Planned p (length d)) where
       (all-filled (λ n. n < 256 ^ entrySize) (packedAt l) 0 placeCount (p .count) (omega arith) (λ j q. let m = packed-small j (omega arith) in omega arith))
 
   pub read-offset : (i : ℕ) → i < p .count → offsetAt image i ≡ packedAt l i
-  read-offset i h = let f = a .few in offset-entry i (omega arith) ∙ filled-at (packedAt l) 0 0 placeCount (p .count) i h f
+  read-offset i h = let f = a .fields .few in offset-entry i (omega arith) ∙ filled-at (packedAt l) 0 0 placeCount (p .count) i h f
 
   pub size-entry : (i : ℕ) → i < placeCount → sizeAt image i ≡ getD (filled (plannedSize l) 0 placeCount (p .count)) i 0
   unfolding sizeTable
@@ -202,7 +202,7 @@ module _ (p : Plan) (d : List ℕ) (a : Planned p (length d)) where
       (all-filled (λ n. n < 256 ^ entrySize) (plannedSize l) 0 placeCount (p .count) (omega arith) (λ j q. let m = size-small j q in omega arith))
 
   pub read-size : (i : ℕ) → i < p .count → sizeAt image i ≡ plannedSize l i
-  read-size i h = let f = a .few in size-entry i (omega arith) ∙ filled-at (plannedSize l) 0 0 placeCount (p .count) i h f
+  read-size i h = let f = a .fields .few in size-entry i (omega arith) ∙ filled-at (plannedSize l) 0 0 placeCount (p .count) i h f
 
   pub read-reserved-after : reservedAfter (viewOf image) ≡ 0
   read-reserved-after =
@@ -215,7 +215,7 @@ module _ (p : Plan) (d : List ℕ) (a : Planned p (length d)) where
   unfolding plainImage checksumOf
   read-sum w =
       field-at 4 (crc32 (headerBytes p ++ bodyBytes p d)) checksumAt (headerBytes p) (bodyBytes p d) (length-header p)
-      (crc32-lt (headerBytes p ++ bodyBytes p d) (bytes-append (headerBytes p) (bodyBytes p d) (bytes-header p) (bytes-sections l d (p .count) 0 w)))
+      (crc32-lt (headerBytes p ++ bodyBytes p d) (bytes-append (headerBytes p) (bodyBytes p d) (bytes-header p) (bytes-sections l d (p .count) w)))
       ∙ ap crc32 (sym (ap₂ (λ (x y : List ℕ). x ++ y) (before-sum p d) (past-header p d)))
 
   -- a field of section i's own header
@@ -226,7 +226,7 @@ module _ (p : Plan) (d : List ℕ) (a : Planned p (length d)) where
 
   pub read-kind : (i : ℕ) → i < p .count → kindAt image i ≡ plannedKind l i
   read-kind i h =
-      let m = allowed-small (p .version) (plannedKind l i) (a .allowed i h) in
+      let m = allowed-small (p .version) (plannedKind l i) (a .types .allowed i h) in
       let z : offsetAt image i ≡ offsetAt image i + 0 = omega arith in
       ap (λ (o : ℕ). field 2 o image) z ∙ section-field 2 0 i h ∙ header-kind (placeAt l i) _ (omega arith)
 

@@ -11,7 +11,7 @@ use Rattle.eif.specs.Plan.{plainSize, dataBefore, planVerdict, planLength}
 use Rattle.eif.specs.declared.Plan.{Plan}
 use Rattle.eif.specs.declared.Refusal.{Refusal}
 use Rattle.eif.specs.declared.Verdict.the-variants.{Accepted, Refused}
-use Rattle.octets.proofs.Over.{le-or-lt}
+use Rattle.octets.proofs.Logic.{le-or-lt}
 use Rattle.eif_lemmas.proofs.Fields.{fields}
 use Rattle.plain_laws.proofs.PlanRules.{planned→}
 use Rattle.plan_judge.specs.Size.{imageSize, dataSize}
@@ -47,5 +47,5 @@ module _ (p : Plan) where
   unfolding planLength
   length-accepted e =
       let a = planned→ p planned e in
-      let n : imageSize p ≡ plainSize p = sym (image-limited p (a .few)) ∙ sym (limited-in (plainSize p) (a .small)) in
+      let n : imageSize p ≡ plainSize p = sym (image-limited p (a .fields .few)) ∙ sym (limited-in (plainSize p) (a .small)) in
       simp (e, n)

@@ -11,7 +11,7 @@ use Rattle.eif.specs.Layout.{headerSize, sectionHeaderSize, packedBy}
 use Rattle.eif.specs.Plan.{sizeFault, packedAt, dataBefore, plainSize}
 use Rattle.eif.specs.declared.Place.{Place}
 use Rattle.eif.specs.declared.Plan.{Plan}
-use Rattle.octets.proofs.Over.{le-or-lt}
+use Rattle.octets.proofs.Logic.{le-or-lt}
 use Rattle.plan_judge.specs.Size.{limited, imageSize, dataSize}
 
 pub limited-over : (n : ℕ) → sizeLimit < n → 0 ≡ limited n

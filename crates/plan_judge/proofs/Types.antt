@@ -16,7 +16,7 @@ use Rattle.eif.specs.declared.Place.{Place}
 use Rattle.eif.specs.declared.Refusal.{Refusal}
 use Rattle.eif.specs.declared.Verdict.the-variants.{Accepted, Refused}
 use Rattle.eif_lemmas.proofs.Verdicts.{then-same, walk-same}
-use Rattle.eif_lemmas.proofs.Types.{order-same, missing-same}
+use Rattle.eif_lemmas.proofs.Types.{missing-same, type-same}
 use Rattle.eif_lemmas.proofs.Table.{filled-at, length-filled}
 use Rattle.type_judge.specs.Kinds.{listedKind}
 use Rattle.plan_judge.specs.Types.{kindsOf, typesVerdict}
@@ -49,15 +49,11 @@ module _ (version : ℕ) (kinds : ℕ → ℕ) (n : ℕ) where
 -- ---- the types alone decide
 
 module _ (version : ℕ) (f g : ℕ → ℕ) where
-  fault-same : (i : ℕ) → ((j : ℕ) → j ≤ i → f j ≡ g j) → typeFault version f i ≡ typeFault version g i
-  unfolding typeFault
-  fault-same i h = simp (h i (omega arith), order-same f g (g i) i (λ j l. h j (omega arith)))
-
   pub types-same : (n : ℕ) → ((j : ℕ) → j < n → f j ≡ g j) → typesVerdict version f n ≡ typesVerdict version g n
   unfolding typesVerdict
   types-same n h =
       then-same (firstFault (typeFault version f) n 0) (firstFault (typeFault version g) n 0) _ _
-      (walk-same (typeFault version f) (typeFault version g) n 0 (λ k l. absurd (omega arith)) (λ j l good. fault-same j (λ k m. h k (omega arith))))
+      (walk-same (typeFault version f) (typeFault version g) n (λ j l good. type-same f g version j (λ k m. h k (omega arith))))
       (λ _. ap (λ (b : Bool). choose b (refuse sectionMissing 0) Accepted) (missing-same f g version n h))
 
 -- the first n types of a plan, lent

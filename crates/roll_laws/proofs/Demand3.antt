@@ -1,6 +1,6 @@
 -- Demand 3 (PROMISES.md): what a boot roll tells of its image. Images and rolls are byte strings where it is said; an accepted
 -- image is one whose reading is accepted. Assumes nothing.
-use Prim.Native.Nat.{ℕ, _+_, _<_, _≤_}
+use Prim.Native.Nat.{ℕ, _<_, _≤_}
 use mathlib.Core.Path.{_≡_, sym, ap, subst, ap₂, _∙_}
 use mathlib.Core.Logic.{_⊎_, ⊎-elim}
 use mathlib.Core.List.{List, _++_, append-assoc, map}
@@ -14,16 +14,16 @@ use Rattle.eif.specs.Numbers.{outputTooShort}
 use Rattle.eif.specs.Answers.{refuse}
 use Rattle.eif.specs.Layout.{headerFlagsOf, headerFlagsAt}
 use Rattle.eif.specs.Reading.{verdictOf}
-use Rattle.eif.specs.Output.{writtenFor, outputFor}
+use Rattle.eif.specs.Output.{writtenFor}
 use Rattle.eif.specs.Roll.{Record, flagsRecordSize, flagsRecord, rollOf, recordsOf, rollBytes, SameBoot, Begins, rollVerdict, rollAnswer, rollLength, rollOutput, rollFlags, recordKind, recordSize, readRoll}
 use Rattle.eif.specs.declared.Refusal.{Refusal}
 use Rattle.eif.specs.declared.RollReading.{RollReading}
 use Rattle.eif.specs.declared.Verdict.{Verdict}
 use Rattle.eif.specs.declared.Verdict.the-variants.{Accepted, Refused}
-use Rattle.eif_lemmas.proofs.Room.{room-enough, room-handed-on, room-fine, room-short}
+use Rattle.eif_lemmas.proofs.Room.{room-enough, room-handed-on, room-fine, room-short, wrote-refused, wrote-short, wrote-fine}
 use Rattle.roll_laws.specs.Listing.{listFrom, listingOf, foundIn}
 use Rattle.roll_laws.proofs.Prefix.{prefix-same}
-use Rattle.roll_laws.proofs.Positions.{sizes, kinds}
+use Rattle.roll_laws.proofs.Positions.{kindOfRecord, sizeOfRecord, say-all, sizes, kinds}
 use Rattle.roll_laws.proofs.Flags.{flags-past, flags-back, read-on, flags-same}
 use Rattle.roll_laws.proofs.RollRules.{→roll}
 use Rattle.roll_laws.specs.Told.{ImageOf, ReadsList}
@@ -80,8 +80,8 @@ listing-of-roll s ok =
     ∙ →roll f t (length rs) (roll-whole s ok)
     ∙ listing-is t f rs (image-few s ok)
     (record {
-      kind = λ j h. let z : 0 + j ≡ j = omega arith in ap (recordKind t) z ∙ kinds rs (image-fit s ok) j h;
-      size = λ j h. let z : 0 + j ≡ j = omega arith in ap (recordSize t) z ∙ sizes rs (image-fit s ok) j h;
+      kind = say-all (recordKind t) kindOfRecord rs (kinds rs (image-fit s ok));
+      size = say-all (recordSize t) sizeOfRecord rs (sizes rs (image-fit s ok));
     })
 
 pub found-in-roll : (s : List ℕ) → map (foundIn (rollBytes s)) (listFrom flagsRecordSize (recordsOf s)) ≡ recordsOf s
@@ -137,29 +137,21 @@ roll-shorter = shorter
 -- For every accepted image the roll's writer gives exactly that image's roll, or, exactly where the output buffer is shorter
 -- than it, refuses as too short.
 module _ (s : List ℕ) (ok : verdictOf s ≡ Accepted) where
-  fitting : (room : ℕ) → length (rollBytes s) ≤ room → rollVerdict s room ≡ Accepted
-  unfolding rollVerdict
-  fitting room h = room-fine (verdictOf s) room (length (rollBytes s)) ok h
-
-  too-long : (room : ℕ) → room < length (rollBytes s) → rollVerdict s room ≡ refuse outputTooShort 0
-  unfolding rollVerdict
-  too-long room h = room-short (verdictOf s) room (length (rollBytes s)) ok h
-
   pub roll-fits : (room : ℕ) → length (rollBytes s) ≤ room → rollAnswer s room ≡ record { verdict = Accepted; length = length (rollBytes s) }
-  unfolding rollAnswer
-  roll-fits room h = ap (λ (v : Verdict). writtenFor v (length (rollBytes s))) (fitting room h)
+  unfolding rollAnswer rollVerdict
+  roll-fits room h = ap (λ (v : Verdict). writtenFor v (length (rollBytes s))) (room-fine (verdictOf s) room (length (rollBytes s)) ok h)
 
   pub roll-too-long : (room : ℕ) → room < length (rollBytes s) → rollAnswer s room ≡ record { verdict = refuse outputTooShort 0; length = 0 }
-  unfolding rollAnswer
-  roll-too-long room h = ap (λ (v : Verdict). writtenFor v (length (rollBytes s))) (too-long room h)
+  unfolding rollAnswer rollVerdict
+  roll-too-long room h = ap (λ (v : Verdict). writtenFor v (length (rollBytes s))) (room-short (verdictOf s) room (length (rollBytes s)) ok h)
 
   pub roll-written : (d : List ℕ) → length (rollBytes s) ≤ length d → rollOutput s d ≡ over d 0 (rollBytes s)
-  unfolding rollOutput
-  roll-written d h = ap (λ (v : Verdict). outputFor v (rollBytes s) d) (fitting (length d) h)
+  unfolding rollOutput rollVerdict
+  roll-written d h = sym (wrote-fine (verdictOf s) (length (rollBytes s)) (rollBytes s) d ok h .1)
 
   pub roll-unwritten : (d : List ℕ) → length d < length (rollBytes s) → rollOutput s d ≡ d
-  unfolding rollOutput
-  roll-unwritten d h = ap (λ (v : Verdict). outputFor v (rollBytes s) d) (too-long (length d) h)
+  unfolding rollOutput rollVerdict
+  roll-unwritten d h = sym (wrote-short (verdictOf s) (length (rollBytes s)) (rollBytes s) d ok h .1)
 
 -- The length of an image's roll is the writer's answer, were there room.
 pub roll-length-is-written : (s : List ℕ) (room : ℕ) → length (rollBytes s) ≤ room → rollAnswer s room ≡ rollLength s
@@ -169,14 +161,10 @@ roll-length-is-written s room h =
 
 -- Writing a roll reads the image first and hands any refusal on unchanged.
 module _ (s : List ℕ) (r : Refusal) (refused : verdictOf s ≡ Refused r) where
-  handed-on : (room : ℕ) → rollVerdict s room ≡ Refused r
-  unfolding rollVerdict
-  handed-on room = room-handed-on (verdictOf s) room (length (rollBytes s)) r refused
-
   pub refusal-handed-on : (room : ℕ) → rollAnswer s room ≡ record { verdict = Refused r; length = 0 }
-  unfolding rollAnswer
-  refusal-handed-on room = ap (λ (v : Verdict). writtenFor v (length (rollBytes s))) (handed-on room)
+  unfolding rollAnswer rollVerdict
+  refusal-handed-on room = ap (λ (v : Verdict). writtenFor v (length (rollBytes s))) (room-handed-on (verdictOf s) room (length (rollBytes s)) r refused)
 
   pub refused-unwritten : (d : List ℕ) → rollOutput s d ≡ d
-  unfolding rollOutput
-  refused-unwritten d = ap (λ (v : Verdict). outputFor v (rollBytes s) d) (handed-on (length d))
+  unfolding rollOutput rollVerdict
+  refused-unwritten d = sym (wrote-refused (verdictOf s) (length (rollBytes s)) (rollBytes s) d r refused .1)

@@ -16,9 +16,9 @@ use Rattle.eif.specs.Answers.{refuse}
 use Rattle.eif.specs.Roll.{headOf, flagsType, flagsLength, flagsRecordSize, flagsRecord, flagsFault, rollFlags, restOf, refusedRoll, readRest, readRoll, recordHeadSize, recordTypeAt, recordLengthAt}
 use Rattle.eif.specs.declared.Verdict.the-variants.{Accepted}
 use Rattle.eif_lemmas.proofs.Verdicts.{never}
+use Rattle.eif_lemmas.proofs.Head.{length-head, head-size, head-kind}
 use Rattle.eif_lemmas.proofs.Flags.{length-flags, flags-zero, zero-flags}
 use Rattle.octets.proofs.Fields.{le-split}
-use Rattle.roll_laws.proofs.Positions.{head-size, head-kind}
 
 -- ---- a flags record and what follows it
 
@@ -42,8 +42,7 @@ module _ (f : ℕ) (r : List ℕ) where
       })
 
   pub flags-back : f < 2 ^ 16 → rollFlags (flagsRecord f ++ r) ≡ f
-  unfolding headOf
-  flags-back h = ap rollFlags head-first ∙ leField-at 2 f 10 (headOf flagsLength flagsType) r refl h
+  flags-back h = ap rollFlags head-first ∙ leField-at flagsLength f recordHeadSize (headOf flagsLength flagsType) r (length-head flagsLength flagsType) h
 
   -- reading goes on with the rest
   pub read-on : readRoll (flagsRecord f ++ r) ≡ readRest (rollFlags (flagsRecord f ++ r)) r

@@ -2,6 +2,7 @@ pub mod RollRules
 pub mod Prefix
 pub mod Positions
 pub mod Flags
+pub mod Sections
 pub mod ImageOfRoll
 pub mod Order
 pub mod RollOfImage

@@ -1,19 +1,19 @@
 -- Reading a roll gives the list of its records, and the bytes that the list points at are their data.
 -- Assumes nothing.
-use Prim.Native.Nat.{ℕ, zero, suc, _+_, _-_, _<_, _≤_}
+use Prim.Native.Nat.{ℕ, zero, suc, _+_, _-_, _≤_}
 use mathlib.Core.Path.{_≡_, refl, sym, ap, ap₂, _∙_}
 use mathlib.Core.List.{List, [], _∷_, _++_, map}
 use native.Mathlib.Omega.{arith}
 use native.Mathlib.Nat.{sub-zero}
-use lib.ListN.{length, take, drop, getD, replicate}
-use lib.Seq.{take-at, drop-at, drop-drop}
+use lib.ListN.{length, take, drop, replicate}
+use lib.Seq.{take-at}
 use Rattle.eif.specs.Numbers.{placeCount}
 use Rattle.eif.specs.Table.{filled, inTable}
 use Rattle.eif.specs.Roll.{Record, recordHeadSize, flagsRecordSize, rollOf, recordAt, recordSize, recordKind, listedAt, blankRecord, acceptedRoll}
 use Rattle.eif.specs.declared.RollRecord.{RollRecord}
 use Rattle.eif_lemmas.proofs.Table.{filled-none}
 use Rattle.roll_laws.specs.Listing.{listFrom, listingOf, foundIn}
-use Rattle.roll_laws.proofs.Positions.{first-record, next-record, emptyRecord, head-past}
+use Rattle.roll_laws.proofs.Positions.{first-record, next-record, data-there, rest-there, kindOfRecord, sizeOfRecord, PlacesSay, say-first, say-later}
 use Rattle.roll_laws.proofs.RollRules.{listedRoll}
 
 -- ---- what it points at
@@ -22,12 +22,9 @@ pub found-from : (t : List ℕ) (rs : List Record) (at : ℕ) → drop at t ≡ 
 unfolding rollOf
 found-from t [] at e = refl
 found-from t (r ∷ rs) at e =
-    let p : drop (at + 10) t ≡ r .bytes ++ rollOf rs =
-    sym (drop-drop 10 at t) ∙ ap (drop 10) e ∙ head-past (length (r .bytes)) (r .kind) (r .bytes ++ rollOf rs) in
-    let b : take (length (r .bytes)) (drop (at + 10) t) ≡ r .bytes = ap (take (length (r .bytes))) p ∙ take-at (r .bytes) (rollOf rs) (length (r .bytes)) refl in
-    let q : drop (at + 10 + length (r .bytes)) t ≡ rollOf rs =
-    sym (drop-drop (length (r .bytes)) (at + 10) t) ∙ ap (drop (length (r .bytes))) p ∙ drop-at (r .bytes) (rollOf rs) (length (r .bytes)) refl in
-    ap₂ (λ (x : List ℕ) (xs : List Record). record { kind = r .kind; bytes = x } ∷ xs) b (found-from t rs (at + 10 + length (r .bytes)) q)
+    let b = ap (take (length (r .bytes))) (data-there t at r (rollOf rs) e) ∙ take-at (r .bytes) (rollOf rs) (length (r .bytes)) refl in
+    ap₂ (λ (x : List ℕ) (xs : List Record). record { kind = r .kind; bytes = x } ∷ xs) b
+    (found-from t rs (at + recordHeadSize + length (r .bytes)) (rest-there t at r (rollOf rs) e))
 
 -- ---- what reading gives
 
@@ -38,24 +35,19 @@ length-list at (r ∷ rs) = ap suc (length-list _ rs)
 
 -- the records of a roll's rest from record i on are as in a list
 pub record AreAt (t : List ℕ) (i : ℕ) (rs : List Record) : Type 0 where
-  pub kind : (j : ℕ) → j < length rs → recordKind t (i + j) ≡ getD rs j emptyRecord .kind
-  pub size : (j : ℕ) → j < length rs → recordSize t (i + j) ≡ length (getD rs j emptyRecord .bytes)
+  pub kind : PlacesSay (recordKind t) kindOfRecord i rs
+  pub size : PlacesSay (recordSize t) sizeOfRecord i rs
 
 module _ (t : List ℕ) where
   later : (i : ℕ) (r : Record) (rs : List Record) → AreAt t i (r ∷ rs) → AreAt t (suc i) rs
-  later i r rs a =
-      record {
-        kind = λ j h. let z : suc i + j ≡ i + suc j = omega arith in ap (recordKind t) z ∙ a .kind (suc j) (omega arith);
-        size = λ j h. let z : suc i + j ≡ i + suc j = omega arith in ap (recordSize t) z ∙ a .size (suc j) (omega arith);
-      }
+  later i r rs a = record { kind = say-later (recordKind t) kindOfRecord i r rs (a .kind); size = say-later (recordSize t) sizeOfRecord i r rs (a .size) }
 
   first : (i at : ℕ) (r : Record) (rs : List Record) → AreAt t i (r ∷ rs) → flagsRecordSize + recordAt t i ≡ at
       → listedAt t i ≡ record { kind = r .kind; position = record { 0 = at + recordHeadSize }; length = record { 0 = length (r .bytes) } }
   first i at r rs a e =
-      let z : i ≡ i + 0 = omega arith in
-      let k = ap (recordKind t) z ∙ a .kind 0 (omega arith) in
+      let k = say-first (recordKind t) kindOfRecord i r rs (a .kind) in
       let q = ap (λ (x : ℕ). x + recordHeadSize) e in
-      let n = ap (recordSize t) z ∙ a .size 0 (omega arith) in
+      let n = say-first (recordSize t) sizeOfRecord i r rs (a .size) in
       λ u. record { kind = k u; position = record { 0 = q u }; length = record { 0 = n u } }
 
   filled-from : (rs : List Record) (m i at : ℕ) (f : ℕ → RollRecord) → length rs ≤ m → ((j : ℕ) → f j ≡ listedAt t (i + j)) → flagsRecordSize + recordAt t i ≡ at → AreAt t i rs
@@ -65,7 +57,7 @@ module _ (t : List ℕ) where
   filled-from (r ∷ rs) (suc m) i at f h g e a =
       let z : i + 0 ≡ i = omega arith in
       let n : suc m - suc (length rs) ≡ m - length rs = omega arith in
-      let s : recordSize t i ≡ length (r .bytes) = ap (recordSize t) (sym z) ∙ a .size 0 (omega arith) in
+      let s = say-first (recordSize t) sizeOfRecord i r rs (a .size) in
       ap₂ (λ (x : RollRecord) (xs : List RollRecord). x ∷ xs) (g 0 ∙ ap (listedAt t) z ∙ first i at r rs a e)
       (filled-from rs m (suc i) (at + recordHeadSize + length (r .bytes)) (λ j. f (suc j)) (omega arith)
       (λ j. let y : i + suc j ≡ suc i + j = omega arith in g (suc j) ∙ ap (listedAt t) y)

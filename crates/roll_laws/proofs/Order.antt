@@ -1,16 +1,16 @@
 -- The rules 10, 11 and 12 carried from the sections of an image to the records of its roll. The earlier types are kept as a
--- list, the last one first, because the records have other places than the sections. Assumes nothing.
+-- list, the last one first, because the records have other places than the sections: `orderIn` states the rules 10 and 11 over such a list,
+-- and `order-known` joins it with `Rules.orderFault`. Assumes nothing.
 use Prim.Native.Nat.{ℕ, zero, suc, _+_, _<_, _≤_}
 use mathlib.Core.Path.{_≡_, refl, sym, ap, ap₂, subst, _∙_}
 use mathlib.Core.Bool.{Bool, true, false}
-use mathlib.Core.List.{List, [], _∷_}
+use mathlib.Core.List.{List, [], _∷_, map}
 use native.Mathlib.Omega.{arith}
 use borrow.Author.Tests.{ne-eqb}
 use lib.Dec.{eqb}
-use lib.ListN.{length, getD}
-use Rattle.eif_lemmas.proofs.Types.{no-records}
+use lib.ListN.{length}
 use Rattle.octets.specs.Lists.{All}
-use Rattle.eif.specs.Numbers.{kernel, ramdisk, ramdiskBeforeKernel, typeRepeated}
+use Rattle.eif.specs.Numbers.{placeCount, kernel, ramdisk, ramdiskBeforeKernel, typeRepeated}
 use Rattle.octets.specs.Logic.{choose, either}
 use Rattle.eif.specs.Rules.{seen, orderFault, bootType}
 use Rattle.eif.specs.Table.{filled}
@@ -18,8 +18,8 @@ use Rattle.eif.specs.Reading.{blankSection, dataOf}
 use Rattle.eif.specs.Roll.{Record, recordFor, recordsBy}
 use Rattle.eif.specs.declared.Section.{Section}
 use Rattle.octets.proofs.Logic.{not-both}
-use Rattle.eif_lemmas.proofs.Table.{filled-none}
-use Rattle.roll_laws.proofs.Positions.{emptyRecord}
+use Rattle.roll_laws.proofs.Sections.{over-sections}
+use Rattle.roll_laws.proofs.Positions.{kindOfRecord, PlacesSay, say-first, say-later}
 
 -- ---- the rules over a list of earlier types
 
@@ -75,39 +75,22 @@ pub record Follows (kinds : ℕ → ℕ) (i : ℕ) (e : List ℕ) (rs : List Rec
   pub ordered : Ordered e rs
   pub knows : Knows kinds i (kindsAfter e rs)
 
--- the records of the later of m places
-abbrev pub laterRecords : List ℕ → (ℕ → Section) → ℕ → ℕ → List Record
-laterRecords s f m n = recordsBy (dataOf s) (filled (λ j. f (suc j)) blankSection m n)
-
-module _ (s : List ℕ) (kinds : ℕ → ℕ) where
-  follow : (x : Section) (rest : List Record) (i n : ℕ) (e : List ℕ) → x .kind ≡ kinds i → orderFault kinds (kinds i) i ≡ 0 → Knows kinds i e
-      → ((e : List ℕ) → Knows kinds (suc i) e → Follows kinds n e rest)
-      → (b : Bool) → bootType (x .kind) ≡ b → Follows kinds n e (choose b (recordFor (dataOf s) x ∷ rest) rest)
-  follow x rest i n e q c k again true t =
+module _ (s : List ℕ) (kinds : ℕ → ℕ) (n : ℕ) where
+  follow : (x : Section) (i : ℕ) (rest : List Section) → x .kind ≡ kinds i → orderFault kinds (kinds i) i ≡ 0
+      → ((e : List ℕ) → Knows kinds (suc i) e → Follows kinds n e (map (recordFor (dataOf s)) rest))
+      → (e : List ℕ) → Knows kinds i e → (b : Bool) → bootType (x .kind) ≡ b → Follows kinds n e (map (recordFor (dataOf s)) (choose b (x ∷ rest) rest))
+  follow x i rest q c again e k true t =
       let r = again (x .kind ∷ e) (knows-more kinds i (x .kind) e q k) in
       record { ordered = (order-known kinds (x .kind) i e t k ∙ ap (λ (a : ℕ). orderFault kinds a i) q ∙ c, r .ordered); knows = r .knows }
-  follow x rest i n e q c k again false t = again e (knows-skip kinds i e (ap bootType (sym q) ∙ t) k)
+  follow x i rest q c again e k false t = again e (knows-skip kinds i e (ap bootType (sym q) ∙ t) k)
 
-  pub order-of-sections : (m n i : ℕ) (f : ℕ → Section) (e : List ℕ) → n ≤ m → ((j : ℕ) → j < n → f j .kind ≡ kinds (i + j))
-      → ((j : ℕ) → j < n → orderFault kinds (kinds (i + j)) (i + j) ≡ 0) → Knows kinds i e
-      → Follows kinds (i + n) e (recordsBy (dataOf s) (filled f blankSection m n))
-  unfolding recordsBy
-  order-of-sections m zero i f e h q o k =
-      let z : i ≡ i + 0 = omega arith in
-      let l : [] ≡ recordsBy (dataOf s) (filled f blankSection m 0) = sym (ap (recordsBy (dataOf s)) (filled-none f blankSection m) ∙ no-records (dataOf s) m) in
-      subst (Follows kinds (i + 0) e) l (record { ordered = tt; knows = subst (λ (x : ℕ). Knows kinds x e) z k })
-  order-of-sections zero (suc n) i f e h q o k = absurd (omega arith)
-  order-of-sections (suc m) (suc n) i f e h q o k =
-      let z : i + 0 ≡ i = omega arith in
-      let y : suc i + n ≡ i + suc n = omega arith in
-      let again : (e : List ℕ) → Knows kinds (suc i) e → Follows kinds (suc i + n) e (laterRecords s f m n) =
-      λ e k.
-      order-of-sections m n (suc i) (λ j. f (suc j)) e (omega arith)
-      (λ j l. let r : i + suc j ≡ suc i + j = omega arith in q (suc j) (omega arith) ∙ ap kinds r)
-      (λ j l. let r : i + suc j ≡ suc i + j = omega arith in subst (λ (a : ℕ). orderFault kinds (kinds a) a ≡ 0) r (o (suc j) (omega arith))) k in
-      subst (λ (a : ℕ). Follows kinds a e (choose (bootType (f 0 .kind)) (recordFor (dataOf s) (f 0) ∷ laterRecords s f m n) (laterRecords s f m n))) y
-      (follow (f 0) (laterRecords s f m n) i (suc i + n) e (q 0 (omega arith) ∙ ap kinds z)
-      (subst (λ (a : ℕ). orderFault kinds (kinds a) a ≡ 0) z (o 0 (omega arith))) k again (bootType (f 0 .kind)) refl)
+  pub order-of-sections : (f : ℕ → Section) → n ≤ placeCount → ((j : ℕ) → j < n → f j .kind ≡ kinds j)
+      → ((j : ℕ) → j < n → orderFault kinds (kinds j) j ≡ 0) → Follows kinds n [] (recordsBy (dataOf s) (filled f blankSection placeCount n))
+  order-of-sections f h q o =
+      over-sections n (λ x i. x .kind ≡ kinds i) (λ i l. (e : List ℕ) → Knows kinds i e → Follows kinds n e (map (recordFor (dataOf s)) l))
+      (λ e k. record { ordered = tt; knows = k })
+      (λ x i rest l is again e k. follow x i rest is (o i l) again e k (bootType (x .kind)) refl)
+      f h q [] (knows-none kinds)
 
 -- ---- from records to their places in a roll
 
@@ -117,13 +100,7 @@ InRoll r = bootType (r .kind) ≡ true
 module _ (kinds : ℕ → ℕ) where
   -- the places from i on have the records' types
   abbrev pub Types : ℕ → List Record → Type 0
-  Types i rs = (j : ℕ) → j < length rs → kinds (i + j) ≡ getD rs j emptyRecord .kind
-
-  later-types : (i : ℕ) (r : Record) (rs : List Record) → Types i (r ∷ rs) → Types (suc i) rs
-  later-types i r rs q j h = let w : suc i + j ≡ i + suc j = omega arith in ap kinds w ∙ q (suc j) (omega arith)
-
-  first-type : (i : ℕ) (r : Record) (rs : List Record) → Types i (r ∷ rs) → r .kind ≡ kinds i
-  first-type i r rs q = let z : i + 0 ≡ i = omega arith in sym (q 0 (omega arith)) ∙ ap kinds z
+  Types i rs = PlacesSay kinds kindOfRecord i rs
 
   pub order-of-records : (rs : List Record) (i : ℕ) (e : List ℕ) → All InRoll rs → Types i rs → Knows kinds i e → Ordered e rs
       → (j : ℕ) → j < length rs → orderFault kinds (kinds (i + j)) (i + j) ≡ 0
@@ -135,11 +112,11 @@ module _ (kinds : ℕ → ℕ) where
   order-of-records (r ∷ rs) i e a q k o (suc j) h =
       let y : suc i + j ≡ i + suc j = omega arith in
       subst (λ (x : ℕ). orderFault kinds (kinds x) x ≡ 0) y
-      (order-of-records rs (suc i) (r .kind ∷ e) (a .1) (later-types i r rs q) (knows-more kinds i (r .kind) e (first-type i r rs q) k) (o .1) j (omega arith))
+      (order-of-records rs (suc i) (r .kind ∷ e) (a .1) (say-later kinds kindOfRecord i r rs q) (knows-more kinds i (r .kind) e (sym (say-first kinds kindOfRecord i r rs q)) k) (o .1) j (omega arith))
 
   pub knows-after : (rs : List Record) (i : ℕ) (e : List ℕ) → Types i rs → Knows kinds i e → Knows kinds (i + length rs) (kindsAfter e rs)
   knows-after [] i e q k = let z : i ≡ i + 0 = omega arith in subst (λ (x : ℕ). Knows kinds x e) z k
   knows-after (r ∷ rs) i e q k =
       let y : suc i + length rs ≡ i + suc (length rs) = omega arith in
       subst (λ (x : ℕ). Knows kinds x (kindsAfter (r .kind ∷ e) rs)) y
-      (knows-after rs (suc i) (r .kind ∷ e) (later-types i r rs q) (knows-more kinds i (r .kind) e (first-type i r rs q) k))
+      (knows-after rs (suc i) (r .kind ∷ e) (say-later kinds kindOfRecord i r rs q) (knows-more kinds i (r .kind) e (sym (say-first kinds kindOfRecord i r rs q)) k))

@@ -8,13 +8,13 @@ use native.Mathlib.Omega.{arith}
 use lib.ListN.{length, take, drop}
 use lib.Seq.{take-at, drop-at}
 use Rattle.octets.specs.Lists.{All}
-use Rattle.octets.specs.Bytes.{leBytes}
-use Rattle.octets.proofs.Value.{leBytes-same}
-use Rattle.eif.specs.Roll.{Record, headOf, rollOf}
+use Rattle.octets.specs.Bytes.{leField}
+use Rattle.eif.specs.Roll.{Record, recordHeadSize, recordLengthAt, recordTypeAt, headOf, endType, rollOf}
+use Rattle.eif_lemmas.proofs.Head.{head-size, head-kind, head-past}
 
 -- a record that a roll can hold: not of the end record's type, and of numbers that fit their fields
 abbrev pub FitsHead : Record → Type 0
-FitsHead r = (0 < r .kind) × (r .kind < 2 ^ 16) × (length (r .bytes) < 2 ^ 64)
+FitsHead r = (endType < r .kind) × (r .kind < 2 ^ 16) × (length (r .bytes) < 2 ^ 64)
 
 split-same {ℓ} : {A : Type ℓ} (x u y v : List A) → length x ≡ length u → x ++ y ≡ u ++ v → (x ≡ u) × (y ≡ v)
 split-same x u y v n e = (
@@ -29,12 +29,12 @@ record SameHead (m k n l : ℕ) (y v : List ℕ) : Type 0 where
 
 head-same : (m k n l : ℕ) (y v : List ℕ) → m < 2 ^ 64 → n < 2 ^ 64 → k < 2 ^ 16 → l < 2 ^ 16
     → headOf m k ++ y ≡ headOf n l ++ v → SameHead m k n l y v
-unfolding headOf
 head-same m k n l y v hm hn hk hl e =
-    let a = split-same (leBytes 8 m) (leBytes 8 n) (leBytes 2 k ++ y) (leBytes 2 l ++ v) refl
-    (sym (append-assoc (leBytes 8 m) (leBytes 2 k) y) ∙ e ∙ append-assoc (leBytes 8 n) (leBytes 2 l) v) in
-    let b = split-same (leBytes 2 k) (leBytes 2 l) y v refl (a .1) in
-    record { size = leBytes-same 8 m n hm hn (a .0); kind = leBytes-same 2 k l hk hl (b .0); rest = b .1 }
+    record {
+      size = sym (head-size m k y hm) ∙ ap (leField 8 recordLengthAt) e ∙ head-size n l v hn;
+      kind = sym (head-kind m k y hk) ∙ ap (leField 2 recordTypeAt) e ∙ head-kind n l v hl;
+      rest = sym (head-past m k y) ∙ ap (drop recordHeadSize) e ∙ head-past n l v;
+    }
 
 record-same : (r q : Record) → r .kind ≡ q .kind → r .bytes ≡ q .bytes → r ≡ q
 record-same r q k b = λ i. record { kind = k i; bytes = b i }
@@ -43,13 +43,13 @@ pub prefix-same : (a b : List Record) (t : List ℕ) → All FitsHead a → All 
 unfolding All rollOf
 prefix-same [] [] t fa fb e = refl
 prefix-same [] (q ∷ qs) t fa fb e =
-    let h = head-same 0 0 (length (q .bytes)) (q .kind) t (q .bytes ++ rollOf qs) (omega arith) (fb .0 .2) (omega arith) (fb .0 .1) e in
+    let h = head-same 0 endType (length (q .bytes)) (q .kind) t (q .bytes ++ rollOf qs) (omega arith) (fb .0 .2) (omega arith) (fb .0 .1) e in
     let k = h .kind in
     let p = fb .0 .0 in
     absurd (omega arith)
 prefix-same (r ∷ rs) [] t fa fb e =
-    let h = head-same (length (r .bytes)) (r .kind) 0 0 ((r .bytes ++ rollOf rs) ++ t) [] (fa .0 .2) (omega arith) (fa .0 .1) (omega arith)
-    (sym (append-assoc (headOf (length (r .bytes)) (r .kind)) (r .bytes ++ rollOf rs) t) ∙ e ∙ sym (append-nil (headOf 0 0))) in
+    let h = head-same (length (r .bytes)) (r .kind) 0 endType ((r .bytes ++ rollOf rs) ++ t) [] (fa .0 .2) (omega arith) (fa .0 .1) (omega arith)
+    (sym (append-assoc (headOf (length (r .bytes)) (r .kind)) (r .bytes ++ rollOf rs) t) ∙ e ∙ sym (append-nil (headOf 0 endType))) in
     let k = h .kind in
     let p = fa .0 .0 in
     absurd (omega arith)

@@ -1,15 +1,16 @@
 -- The rest of a roll, behind its flags record, is accepted exactly when it meets every rule, said without an order of tests.
 -- Assumes nothing.
-use Prim.Native.Nat.{ℕ, zero, suc, _+_, _<_, _≤_}
+use Prim.Native.Nat.{ℕ, suc, _+_, _<_, _≤_}
 use mathlib.Core.Path.{_≡_, refl, ap, _∙_}
 use mathlib.Core.Bool.{Bool, true, false, not}
 use mathlib.Core.List.{List}
 use mathlib.Core.Logic.{⊎-elim}
 use native.Mathlib.Omega.{arith}
-use native.Mathlib.Nat.{eq-or-lt-of-le}
-use borrow.Author.Tests.{eq-eqb, ne-eqb, le-ltb, lt-leb, eqb-true, eqb-false, ltb-false, leb-false, not-false}
-use lib.Dec.{eqb, ltb, leb}
+use native.Mathlib.Nat.{eq-or-lt-of-le, pos-of-ne-zero}
+use borrow.Author.Tests.{eq-eqb, ne-eqb, le-ltb, lt-leb, eqb-true, eqb-false, ltb-false, not-false}
+use lib.Dec.{eqb, ltb}
 use lib.ListN.{length}
+use Rattle.eif_lemmas.proofs.Head.{head-zero, body-zero}
 use Rattle.eif_lemmas.proofs.RollEnd.{Clean, EndsAt, ended→, →ended}
 use Rattle.eif.specs.Numbers.{sizeLimit, placeCount, kernel, ramdisk}
 use Rattle.octets.specs.Logic.{both, choose}
@@ -41,34 +42,15 @@ listedRoll flags s n = acceptedRoll flags n (filled (listedAt s) blankRecord pla
 -- ---- one record
 
 module _ (s : List ℕ) (i : ℕ) where
-  head-zero : headFault s i ≡ 0 → (recordAt s i + recordHeadSize ≤ length s) × (recordKind s i ≤ ramdisk) × (both (isEnd s i) (not (eqb (recordSize s i) 0)) ≡ false)
-  unfolding headFault
-  head-zero e =
-      let a = choose-zero (ltb (length s) (recordAt s i + recordHeadSize)) _ _ e in
-      let b = choose-zero (ltb ramdisk (recordKind s i)) _ _ (a .1) in
-      let c = choose-zero (both (isEnd s i) (not (eqb (recordSize s i) 0))) _ _ (b .1) in
-      (ltb-false _ _ (a .0), ltb-false _ _ (b .0), c .0)
-
   zero-head : recordAt s i + recordHeadSize ≤ length s → recordKind s i ≤ ramdisk → both (isEnd s i) (not (eqb (recordSize s i) 0)) ≡ false → headFault s i ≡ 0
   unfolding headFault
   zero-head a b c = simp (le-ltb _ _ a, le-ltb _ _ b, c)
-
-  body-zero : bodyFault s i ≡ 0 → (i < placeCount) × (recordAt s (suc i) ≤ length s) × (orderFault (recordKind s) (recordKind s i) i ≡ 0)
-  unfolding bodyFault
-  body-zero e =
-      let a = choose-zero (leb placeCount i) _ _ e in
-      let b = choose-zero (ltb (length s) (recordAt s (suc i))) _ _ (a .1) in
-      (leb-false _ _ (a .0), ltb-false _ _ (b .0), b .1)
 
   zero-body : i < placeCount → recordAt s (suc i) ≤ length s → orderFault (recordKind s) (recordKind s i) i ≡ 0 → bodyFault s i ≡ 0
   unfolding bodyFault
   zero-body a b c = simp (lt-leb _ _ a, le-ltb _ _ b, c)
 
 -- ---- the whole roll
-
-positive : (k : ℕ) → (k ≡ 0 → ⊥) → 1 ≤ k
-positive zero z = absurd (z refl)
-positive (suc k) z = omega arith
 
 module _ (s : List ℕ) (n : ℕ) where
   fault-zero : rollFault s n ≡ 0 → (length s ≤ recordAt s n + recordHeadSize) × (bootMissing (recordKind s) n ≡ false) × (sizeAsImage s n ≤ sizeLimit)
@@ -95,7 +77,7 @@ module _ (s : List ℕ) (n : ℕ) where
       record {
         few = omega arith;
         heads = λ i l. ⊎-elim (λ (z : i ≡ n). rw z (h .0)) (λ (z : i < n). head-zero s i (k i z .head) .0) (eq-or-lt-of-le l);
-        known = λ i l. (positive (recordKind s i) (eqb-false _ _ (k i l .goes-on)), head-zero s i (k i l .head) .1);
+        known = λ i l. (pos-of-ne-zero (eqb-false _ _ (k i l .goes-on)), head-zero s i (k i l .head) .1);
         inside = λ i l. body-zero s i (k i l .body) .1;
         order = λ i l. body-zero s i (k i l .body) .2;
         end-kind = eqb-true _ _ (t .stops);
@@ -113,7 +95,7 @@ module _ (s : List ℕ) (n : ℕ) where
         before = omega arith;
         clean = λ j k l.
             let y = a .known j l in
-            let no : recordKind s j ≡ 0 → ⊥ = λ z. let p = y .0 in omega arith in
+            let no : recordKind s j ≡ endType → ⊥ = λ z. let p = y .0 in omega arith in
             record {
               head = zero-head s j (a .heads j (omega arith)) (y .1) (simp (ne-eqb _ _ no));
               goes-on = ne-eqb _ _ no;

@@ -18,12 +18,13 @@ use Rattle.eif.specs.Roll.{recordHeadSize, flagsRecordSize, endType, Ending, en
 use Rattle.eif.specs.declared.Refusal.{Refusal}
 use Rattle.eif.specs.declared.RollRecord.{RollRecord}
 use Rattle.eif.specs.declared.Verdict.the-variants.{Accepted, Refused}
-use Rattle.octets.proofs.Logic.{zero-or}
+use Rattle.octets.proofs.Logic.{equal-or-not}
 use Rattle.eif_lemmas.proofs.Verdicts.{never}
+use Rattle.eif_lemmas.proofs.Head.{head-zero}
 use Rattle.eif_lemmas.proofs.RollEnd.{ended→}
 use Rattle.roll_reader.specs.declared.Walked.{Walked}
 use Rattle.roll_reader.specs.Walk.{recordFault, stoppedWith, stoppedAt, endedAt, walkFor, walkOf}
-use Rattle.roll_reader.proofs.Records.{head-fits, by-head, by-end, by-body}
+use Rattle.roll_reader.proofs.Records.{by-head, by-end, by-body}
 
 -- ---- one record further; the walk so far is the whole from here on
 
@@ -74,9 +75,9 @@ module _ (s : List ℕ) (i : ℕ) (few : i ≤ placeCount) (so-far : endFrom s (
       ⊎-elim
       (λ p. absurd (h (e ∙ sym (by-end s i (sym z) p))))
       (λ other. from-body z other k (e ∙ sym (by-body s i (sym z) other)) h)
-      (zero-or (recordKind s i)))
+      (equal-or-not (recordKind s i) 0))
       (λ z. from-head k (e ∙ sym (by-head s i (headFault s i) z refl)) h)
-      (zero-or (headFault s i))
+      (equal-or-not (headFault s i) 0)
 
   pub walk-stop : (k : ℕ) → k ≡ recordFault s i → (k ≡ 0 → ⊥) → stoppedAt k i (recordAt s i) ≡ walkOf s
   walk-stop k e h = stopped-here k (from-stop k e h)
@@ -128,7 +129,7 @@ module _ (s : List ℕ) (w : Walked) where
       let q = ended→ s (suc placeCount) 0 n p in
       let b = q .before in
       let a = ap (λ (x : Walked). x .end) e in
-      let h = head-fits s n (q .head) in
+      let h = head-zero s n (q .head) .0 in
       record {
         ending = p ∙ ap ended (sym c);
         few = omega arith;

@@ -5,15 +5,15 @@ use mathlib.Core.Path.{_≡_, refl, sym, ap, _∙_}
 use mathlib.Core.List.{List}
 use mathlib.Core.Logic.{⊎-elim}
 use native.Mathlib.Omega.{arith}
-use borrow.Author.Tests.{lt-ltb, le-ltb, le-leb, lt-leb, eq-eqb, ne-eqb, ltb-false, leb-false}
+use borrow.Author.Tests.{lt-ltb, le-ltb, le-leb, lt-leb, eq-eqb, ne-eqb}
 use lib.ListN.{length, take, getD}
 use lib.Seq.{length-take-le}
 use Rattle.octets.specs.Bytes.{leField}
 use Rattle.eif.specs.Numbers.{placeCount, ramdisk, wrongCount, recordCut, recordTypeWrong}
 use Rattle.eif.specs.Table.{filled}
 use Rattle.eif.specs.Rules.{orderFault, bootMissing}
-use Rattle.eif.specs.Roll.{recordHeadSize, flagsRecordSize, endType, recordAt, recordSize, recordKind, listedAt, headFault, bodyFault}
-use Rattle.octets.proofs.Logic.{choose-zero, zero-or}
+use Rattle.eif.specs.Roll.{recordHeadSize, recordTypeAt, flagsRecordSize, endType, recordAt, recordSize, recordKind, listedAt, headFault, bodyFault}
+use Rattle.octets.proofs.Logic.{equal-or-not}
 use Rattle.eif_lemmas.proofs.Table.{filled-at, length-filled}
 use Rattle.roll_reader.specs.Walk.{recordFault}
 use Rattle.type_judge.specs.Kinds.{listedKind}
@@ -41,8 +41,8 @@ module _ (s kinds : List ℕ) (n : ℕ) (few : n ≤ placeCount) (kept : kinds �
 -- ---- a record's head
 
 module _ (s : List ℕ) (i at : ℕ) (here : at ≡ recordAt s i) where
-  pub kind-here : (kind : ℕ) → kind ≡ leField 2 (at + 8) s → kind ≡ recordKind s i
-  kind-here kind e = e ∙ ap (λ (p : ℕ). leField 2 (p + 8) s) here
+  pub kind-here : (kind : ℕ) → kind ≡ leField 2 (at + recordTypeAt) s → kind ≡ recordKind s i
+  kind-here kind e = e ∙ ap (λ (p : ℕ). leField 2 (p + recordTypeAt) s) here
 
   pub size-here : (size : ℕ) → size ≡ leField 8 at s → size ≡ recordSize s i
   size-here size e = e ∙ ap (λ (p : ℕ). leField 8 p s) here
@@ -51,7 +51,7 @@ module _ (s : List ℕ) (i at : ℕ) (here : at ≡ recordAt s i) where
   unfolding recordAt
   record-next size e = omega (arith, size-here size e)
 
-  pub listed-here : (kind size : ℕ) → kind ≡ leField 2 (at + 8) s → size ≡ leField 8 at s
+  pub listed-here : (kind size : ℕ) → kind ≡ leField 2 (at + recordTypeAt) s → size ≡ leField 8 at s
       → record { kind = kind; position = record { 0 = flagsRecordSize + at + recordHeadSize }; length = record { 0 = size } } ≡ listedAt s i
   listed-here kind size k e = rw (kind-here kind k, size-here size e, here) refl
 
@@ -61,7 +61,7 @@ module _ (s : List ℕ) (i at : ℕ) (here : at ≡ recordAt s i) where
       let g : length s < recordAt s i + recordHeadSize = omega arith in
       simp (lt-ltb _ _ g)
 
-  module _ (whole : at + recordHeadSize ≤ length s) (kind : ℕ) (kind-is : kind ≡ leField 2 (at + 8) s) where
+  module _ (whole : at + recordHeadSize ≤ length s) (kind : ℕ) (kind-is : kind ≡ leField 2 (at + recordTypeAt) s) where
     head-whole : recordAt s i + recordHeadSize ≤ length s
     head-whole = omega arith
 
@@ -97,11 +97,6 @@ module _ (s : List ℕ) (i at : ℕ) (here : at ≡ recordAt s i) where
             let g : recordSize s i ≡ 0 = sym (size-here size size-is) ∙ h in
             simp (le-ltb _ _ head-whole, le-ltb _ _ head-known, eq-eqb _ _ head-end, eq-eqb _ _ g)
 
--- a head without fault is whole
-pub head-fits : (s : List ℕ) (i : ℕ) → headFault s i ≡ 0 → recordAt s i + recordHeadSize ≤ length s
-unfolding headFault
-head-fits s i e = ltb-false _ _ (choose-zero _ _ _ e .0)
-
 -- ---- what follows the head
 
 module _ (s : List ℕ) (i : ℕ) where
@@ -127,13 +122,6 @@ module _ (s : List ℕ) (i : ℕ) where
         let g : recordAt s (suc i) ≤ length s = omega (arith, next) in
         simp (lt-leb _ _ free, le-ltb _ _ g)
 
--- a record whose rest is without fault lies in the roll, and has a place in the list
-pub body-fits : (s : List ℕ) (i : ℕ) → bodyFault s i ≡ 0 → (i < placeCount) × (recordAt s (suc i) ≤ length s)
-unfolding bodyFault
-body-fits s i e =
-    let t = choose-zero _ _ _ e in
-    (leb-false _ _ (t .0), ltb-false _ _ (choose-zero _ _ _ (t .1) .0))
-
 -- ---- both
 
 module _ (s : List ℕ) (i : ℕ) where
@@ -155,4 +143,4 @@ module _ (s : List ℕ) (i : ℕ) where
       ⊎-elim
       (λ z. z)
       (λ h. by-head (headFault s i) h refl ∙ e)
-      (zero-or (headFault s i))
+      (equal-or-not (headFault s i) 0)

@@ -16,9 +16,10 @@ use Rattle.eif.specs.declared.Section.{Section}
 use Rattle.eif.specs.declared.Verdict.the-variants.{Accepted}
 use Rattle.eif_lemmas.proofs.Reading.{told-accepted, flags-are, sections-are}
 use Rattle.eif_lemmas.proofs.Table.{all-filled, length-filled}
-use Rattle.eif_lemmas.proofs.Accept.{Inside, length-data, passes, sound-at}
+use Rattle.eif_lemmas.proofs.Accept.{sound-at}
 use Rattle.staged.specs.View.{Holds, heldBy}
-use Rattle.staged.proofs.Held.{held-alone}
+use Rattle.staged.proofs.Accept.{base-small}
+use Rattle.staged.proofs.Held.{held-alone, holds-inside}
 use Rattle.roll_writer.specs.Write.{sizeFor, sizeBound, sectionsRoll}
 use Rattle.roll_writer.proofs.Steps.{sections-roll, size-is, size-bounded}
 
@@ -27,21 +28,17 @@ module _ (s : List ℕ) (r : Reading) (is : r ≡ readImage s) where
     abbrev ok : verdictOf s ≡ Accepted
     ok = told-accepted s r is told
 
-    held-length : (x : Section) → Inside s x → Holds (heldBy s []) x
-    held-length x h = ap length (held-alone s x) ∙ length-data s x h
-
     pub holds : All (Holds (heldBy s [])) (r .sections)
     holds =
         rw (sections-are s r is told)
-        (all-filled (Holds (heldBy s [])) (sectionAt s) blankSection placeCount (countOf s) (held-length blankSection (omega arith))
-        (λ i h. held-length (sectionAt s i) (sound-at s ok i h .ends)))
+        (all-filled (Holds (heldBy s [])) (sectionAt s) blankSection placeCount (countOf s) (holds-inside s [] blankSection (omega arith))
+        (λ i h. holds-inside s [] (sectionAt s i) (sound-at s ok i h .ends)))
 
     pub bounded : sizeFor (r .sections) ≤ sizeBound
     bounded =
         rw (sections-are s r is told)
         (size-bounded (sectionsOf s) (length-filled (sectionAt s) blankSection placeCount (countOf s))
-        (all-filled (λ (x : Section). x .length .0 ≤ sizeLimit) (sectionAt s) blankSection placeCount (countOf s) (omega arith)
-        (λ i h. let q = sound-at s ok i h .ends in let m = passes s ok .head .small in omega arith)))
+        (all-filled (λ (x : Section). x .length .0 ≤ sizeLimit) (sectionAt s) blankSection placeCount (countOf s) (omega arith) (base-small s ok)))
 
     -- the roll of the reading is the image's
     pub roll-is : sectionsRoll (r .flags) (heldBy s []) (r .sections) ≡ rollBytes s
@@ -51,6 +48,5 @@ module _ (s : List ℕ) (r : Reading) (is : r ≡ readImage s) where
         ∙ ap₂ (λ (f : ℕ) (l : List Section). flagsRecord f ++ rollOf (recordsBy (heldBy s []) l)) (flags-are s r is told) (sections-are s r is told)
         ∙ ap (λ (held : Section → List ℕ). flagsRecord (headerFlagsOf s) ++ rollOf (recordsBy held (sectionsOf s))) (λ t x. held-alone s x t)
 
-    pub length-is : (n : ℕ) → n ≡ sizeFor (r .sections) → flagsRecordSize + n ≡ length (rollBytes s)
-    length-is n e =
-        ap (λ (m : ℕ). flagsRecordSize + m) e ∙ size-is (heldBy s []) (r .flags) (r .sections) holds ∙ ap length roll-is
+    pub length-is : flagsRecordSize + sizeFor (r .sections) ≡ length (rollBytes s)
+    length-is = size-is (heldBy s []) (r .flags) (r .sections) holds ∙ ap length roll-is

@@ -49,6 +49,5 @@ module _ (s r : List ℕ) (k : ℕ) (x : Staged) (is : x ≡ stagedView s (lengt
           ∙ sections-roll (heldBy s r) (readImage s .flags) (held.stagedList s r k k stages) (holds-all s r k k stages)
           ∙ held.roll-is s r k k stages g
 
-      pub length-is : (n : ℕ) → n ≡ sizeFor (x .sections) → flagsRecordSize + n ≡ length (rollBytes (afresh s r k))
-      length-is n e =
-          ap (λ (m : ℕ). flagsRecordSize + m) e ∙ size-is (heldBy s r) (x .flags) (x .sections) holds ∙ ap length roll-is
+      pub length-is : flagsRecordSize + sizeFor (x .sections) ≡ length (rollBytes (afresh s r k))
+      length-is = size-is (heldBy s r) (x .flags) (x .sections) holds ∙ ap length roll-is

@@ -2,32 +2,30 @@
 -- roll of the sections' records.
 -- Assumes nothing.
 use Prim.Native.Nat.{ℕ, suc, _+_, _*_, _<_, _≤_}
-use mathlib.Core.Path.{_≡_, refl, sym, ap, ap₂, _∙_}
-use mathlib.Core.List.{List, [], _∷_, _++_, append-assoc}
+use mathlib.Core.Path.{_≡_, refl, sym, ap, _∙_}
+use mathlib.Core.List.{List, [], _∷_, _++_, map, append-assoc}
 use mathlib.Core.Bool.{Bool, true, false}
 use native.Mathlib.Omega.{arith}
 use native.Mathlib.Nat.{zero-add}
 use lib.ListN.{length, drop, getD, length-append, drop-of-length-le}
 use lib.Seq.{drop-cons}
-use Rattle.octets.specs.Lists.{All}
+use Rattle.octets.specs.Lists.{All, joinedBy, sumBy}
 use Rattle.octets.specs.Over.{over}
-use Rattle.octets.proofs.Over.{over-append}
+use Rattle.octets.proofs.Lists.{all-map, sum-same, joined-length}
+use Rattle.octets.proofs.Over.{over-joined}
 use Rattle.eif.specs.Numbers.{sizeLimit, placeCount}
 use Rattle.octets.specs.Logic.{choose}
 use Rattle.eif.specs.Reading.{blankSection}
 use Rattle.eif.specs.Rules.{bootType}
-use Rattle.eif.specs.Roll.{recordHeadSize, flagsRecordSize, headOf, flagsRecord, endType, rollOf, recordsBy}
+use Rattle.eif.specs.Roll.{recordHeadSize, flagsRecordSize, headOf, flagsRecord, endType, rollOf, measuredIn, recordFor, recordsBy}
 use Rattle.eif.specs.declared.Section.{Section}
 use Rattle.eif_lemmas.proofs.Table.{all-at}
+use Rattle.eif_lemmas.proofs.Head.{length-head}
 use Rattle.eif_lemmas.proofs.Flags.{length-flags}
 use Rattle.staged.specs.View.{Holds}
 use Rattle.roll_writer.specs.Write.{rollPart, rollPartSize, rollFor, sizeFor, sizeBound, sectionsRoll}
 
 -- ---- one section
-
-pub length-head : (size kind : ℕ) → length (headOf size kind) ≡ recordHeadSize
-unfolding headOf
-length-head size kind = refl
 
 module _ (held : Section → List ℕ) (x : Section) (holds : Holds held x) where
   pub length-part : length (rollPart held x) ≡ rollPartSize x
@@ -57,9 +55,7 @@ module _ (x : Section) where
         → over (over d at (headOf (x .length .0) (x .kind))) (at + recordHeadSize) (held x) ≡ over d at (rollPart held x)
     unfolding rollPart
     part-over held d at =
-        let h = headOf (x .length .0) (x .kind) in
-        let n = length-head (x .length .0) (x .kind) in
-        rw e (ap (λ (m : ℕ). over (over d at h) (at + m) (held x)) (sym n) ∙ sym (over-append d at h (held x)))
+        rw e (over-joined d at (headOf (x .length .0) (x .kind)) (held x) refl refl (ap (λ (n : ℕ). at + n) (length-head (x .length .0) (x .kind))))
 
   module _ (e : bootType (x .kind) ≡ false) where
     pub size-out : rollPartSize x ≡ 0
@@ -75,12 +71,12 @@ module _ (x : Section) where
 module _ (l : List Section) (i : ℕ) (h : i < length l) where
   pub size-step : sizeFor (drop i l) ≡ rollPartSize (getD l i blankSection) + sizeFor (drop (suc i) l)
   unfolding sizeFor
-  size-step = rw (drop-cons l i blankSection h)
+  size-step = rw (drop-cons l i blankSection h) (omega arith)
 
   module _ (held : Section → List ℕ) where
     roll-step : rollFor held (drop i l) ≡ rollPart held (getD l i blankSection) ++ rollFor held (drop (suc i) l)
     unfolding rollFor
-    roll-step = rw (drop-cons l i blankSection h)
+    roll-step = rw (drop-cons l i blankSection h) (append-assoc (rollPart held (getD l i blankSection)) _ _)
 
     module _ (a : All (Holds held) l) where
       pub holds-at : Holds held (getD l i blankSection)
@@ -91,10 +87,9 @@ module _ (l : List Section) (i : ℕ) (h : i < length l) where
           → over (over d at (rollPart held (getD l i blankSection))) (at + rollPartSize (getD l i blankSection)) (rollFor held (drop (suc i) l))
           ≡ over d at (rollFor held (drop i l))
       roll-over d at =
-          let p = rollPart held (getD l i blankSection) in
-          let r = rollFor held (drop (suc i) l) in
-          ap (λ (n : ℕ). over (over d at p) (at + n) r) (sym (length-part held (getD l i blankSection) holds-at))
-          ∙ sym (over-append d at p r) ∙ ap (over d at) (sym roll-step)
+          over-joined d at (rollPart held (getD l i blankSection)) (rollFor held (drop (suc i) l)) refl refl
+          (ap (λ (n : ℕ). at + n) (length-part held (getD l i blankSection) holds-at))
+          ∙ ap (over d at) (sym roll-step)
 
 -- past the last section: the end record
 module _ (l : List Section) (i : ℕ) (h : length l ≤ i) where
@@ -109,32 +104,30 @@ module _ (l : List Section) (i : ℕ) (h : length l ≤ i) where
 -- ---- the whole list
 
 -- sections no longer than an image: far from wrapping
-sizes-small : (l : List Section) → All (λ (x : Section). x .length .0 ≤ sizeLimit) l → sizeFor l ≤ length l * (recordHeadSize + sizeLimit) + recordHeadSize
-unfolding sizeFor All
+sizes-small : (l : List Section) → All (λ (x : Section). x .length .0 ≤ sizeLimit) l → sumBy rollPartSize l ≤ length l * (recordHeadSize + sizeLimit)
+unfolding All
 sizes-small [] a = omega arith
 sizes-small (x ∷ xs) a = omega (arith, part-small x (a .0), sizes-small xs (a .1))
 
 pub size-bounded : (l : List Section) → length l ≡ placeCount → All (λ (x : Section). x .length .0 ≤ sizeLimit) l → sizeFor l ≤ sizeBound
+unfolding sizeFor
 size-bounded l n a = omega (arith, sizes-small l a)
 
 module _ (held : Section → List ℕ) where
   length-roll : (l : List Section) → All (Holds held) l → length (rollFor held l) ≡ sizeFor l
-  unfolding rollFor sizeFor All
-  length-roll [] a = length-head 0 endType
-  length-roll (x ∷ xs) a =
-      length-append (rollPart held x) (rollFor held xs) ∙ ap₂ (λ (m n : ℕ). m + n) (length-part held x (a .0)) (length-roll xs (a .1))
+  unfolding rollFor sizeFor
+  length-roll l a =
+      simp (length-append, joined-length, length-head, sum-same (λ x. length (rollPart held x)) rollPartSize l (all-map (Holds held) _ (length-part held) l a))
 
   records-at : (x : Section) (xs : List Section) (b : Bool) → Holds held x → rollFor held xs ≡ rollOf (recordsBy held xs)
-      → choose b (headOf (x .length .0) (x .kind) ++ held x) [] ++ rollFor held xs
-      ≡ rollOf (choose b (record { kind = x .kind; bytes = held x } ∷ recordsBy held xs) (recordsBy held xs))
-  unfolding rollOf
+      → (choose b (headOf (x .length .0) (x .kind) ++ held x) [] ++ joinedBy (rollPart held) xs) ++ headOf 0 endType
+      ≡ rollOf (map (recordFor held) (choose b (x ∷ measuredIn xs) (measuredIn xs)))
+  unfolding rollOf rollFor
   records-at x xs false holds e = e
-  records-at x xs true holds e =
-      append-assoc (headOf (x .length .0) (x .kind)) (held x) (rollFor held xs)
-      ∙ ap₂ (λ (n : ℕ) (l : List ℕ). headOf n (x .kind) ++ (held x ++ l)) (sym holds) e
+  records-at x xs true holds e = simp (append-assoc, e, holds)
 
   roll-records : (l : List Section) → All (Holds held) l → rollFor held l ≡ rollOf (recordsBy held l)
-  unfolding rollFor recordsBy rollPart All rollOf
+  unfolding rollFor measuredIn rollPart All rollOf
   roll-records [] a = refl
   roll-records (x ∷ xs) a = records-at x xs (bootType (x .kind)) (a .0) (roll-records xs (a .1))
 
@@ -157,6 +150,4 @@ module _ (held : Section → List ℕ) where
       → over (over d 0 (flagsRecord flags)) flagsRecordSize (rollFor held l) ≡ over d 0 (sectionsRoll flags held l)
   unfolding sectionsRoll
   roll-is flags l d =
-      let f = flagsRecord flags in
-      ap (λ (n : ℕ). over (over d 0 f) n (rollFor held l)) (sym (zero-add (length f) ∙ length-flags flags))
-      ∙ sym (over-append d 0 f (rollFor held l))
+      over-joined d 0 (flagsRecord flags) (rollFor held l) refl refl (zero-add (length (flagsRecord flags)) ∙ length-flags flags)

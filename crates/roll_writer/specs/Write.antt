@@ -3,9 +3,10 @@
 -- `Roll.recordsBy`: `sections-roll` of proofs/Steps.antt.
 -- Assumes nothing.
 use Prim.Native.Nat.{ℕ, _+_, _*_}
-use mathlib.Core.List.{List, [], _∷_, _++_}
+use mathlib.Core.List.{List, [], _++_}
 use lib.ListN.{length}
 use Rattle.eif.specs.Numbers.{sizeLimit, placeCount}
+use Rattle.octets.specs.Lists.{joinedBy, sumBy}
 use Rattle.octets.specs.Logic.{choose}
 use Rattle.eif.specs.Output.{roomVerdict, writtenFor, outputFor}
 use Rattle.eif.specs.Rules.{bootType}
@@ -23,12 +24,11 @@ rollPartSize x = choose (bootType (x .kind)) (recordHeadSize + x .length .0) 0
 
 -- the records in file order, and the end record
 unfoldable pub rollFor : (Section → List ℕ) → List Section → List ℕ
-rollFor held [] = headOf 0 endType
-rollFor held (x ∷ xs) = rollPart held x ++ rollFor held xs
+rollFor held l = joinedBy (rollPart held) l ++ headOf 0 endType
 
+-- how long that is where each is as long as its section says
 unfoldable pub sizeFor : List Section → ℕ
-sizeFor [] = recordHeadSize
-sizeFor (x ∷ xs) = rollPartSize x + sizeFor xs
+sizeFor l = sumBy rollPartSize l + recordHeadSize
 
 -- no more than that, for sections no longer than an image: so no sum of sizes wraps
 abbrev pub sizeBound : ℕ

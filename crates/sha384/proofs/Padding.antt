@@ -13,7 +13,7 @@ use Rattle.octets.specs.Bytes.{beFrom, beValue, beBytes}
 use Rattle.octets.specs.Over.{over}
 use Rattle.octets.proofs.Over.{over-append, over-parts}
 use Rattle.octets.proofs.Value.{be-read, bytes-be, length-beBytes, beBytes-beValue}
-use Rattle.sha384_block.specs.Fips.{blockSize, padding, zerosFor}
+use Rattle.sha384_block.specs.Fips.{blockSize, bitCountSize, leastPadding, mostPadding, padding, zerosFor}
 
 -- ---- a number's bytes: the high ones and the low ones, and no more than the low ones of a remainder
 
@@ -30,7 +30,7 @@ be-low w n =
     ap₂ (λ (k x : ℕ). beBytes k x) (sym (length-beBytes w n)) (sym v) ∙ beBytes-beValue (beBytes w n) (bytes-be w n)
 
 -- the length in bits as two words
-pub two-words : (n : ℕ) → beBytes 8 (n / 2 ^ 61) ++ beBytes 8 (n * 2 ^ 3 % 2 ^ 64) ≡ beBytes 16 (8 * n)
+pub two-words : (n : ℕ) → beBytes 8 (n / 2 ^ 61) ++ beBytes 8 (n * 2 ^ 3 % 2 ^ 64) ≡ beBytes bitCountSize (8 * n)
 two-words n =
     let h : n / 2 ^ 61 ≡ 8 * n / 256 ^ 8 = omega arith in
     let l : n * 2 ^ 3 % 2 ^ 64 ≡ 8 * n % 256 ^ 8 = omega arith in
@@ -45,23 +45,23 @@ take-replicate (suc n) (suc m) h = ap (λ (l : List ℕ). 0 ∷ l) (take-replica
 
 -- a byte, z zeros, and two strings of eight bytes
 laid : (z : ℕ) (x y : List ℕ) → z < blockSize → length x ≡ 8 → length y ≡ 8
-    → take (z + 17) (over (over (set (replicate 144 0) 0 0x80) (z + 1) x) (z + 9) y) ≡ 0x80 ∷ (replicate z 0 ++ (x ++ y))
+    → take (z + leastPadding) (over (over (set (replicate mostPadding 0) 0 0x80) (z + 1) x) (z + 9) y) ≡ 0x80 ∷ (replicate z 0 ++ (x ++ y))
 laid z x y h p q =
-    let d : List ℕ = 0x80 ∷ replicate 143 0 in
-    let n : length (x ++ y) ≡ 16 = length-append x y ∙ ap₂ (λ (i j : ℕ). i + j) p q in
+    let d : List ℕ = 0x80 ∷ replicate (mostPadding - 1) 0 in
+    let n : length (x ++ y) ≡ bitCountSize = length-append x y ∙ ap₂ (λ (i j : ℕ). i + j) p q in
     let k : z + 1 + length x ≡ z + 9 = omega arith in
     let j : over (over d (z + 1) x) (z + 9) y ≡ over d (z + 1) (x ++ y) =
     ap (λ (i : ℕ). over (over d (z + 1) x) i y) (sym k) ∙ sym (over-append d (z + 1) x y) in
-    let r : length d ≡ 144 = refl in
-    let f : take (z + 1) d ≡ 0x80 ∷ replicate z 0 = rw add-one (ap (λ (l : List ℕ). 0x80 ∷ l) (take-replicate z 143 (omega arith))) in
+    let r : length d ≡ mostPadding = refl in
+    let f : take (z + 1) d ≡ 0x80 ∷ replicate z 0 = rw add-one (ap (λ (l : List ℕ). 0x80 ∷ l) (take-replicate z (mostPadding - 1) (omega arith))) in
     let rest = drop (z + 1 + length (x ++ y)) d in
     let front = (0x80 ∷ replicate z 0) ++ (x ++ y) in
-    let m : length front ≡ z + 17 = length-append (0x80 ∷ replicate z 0) (x ++ y) ∙ omega (arith, length-replicate {A = ℕ} z 0) in
-    ap (take (z + 17)) (j ∙ over-parts d (z + 1) (x ++ y) (omega arith) ∙ ap (λ (l : List ℕ). l ++ ((x ++ y) ++ rest)) f ∙ sym (append-assoc (0x80 ∷ replicate z 0) (x ++ y) rest))
-    ∙ take-at front rest (z + 17) m
+    let m : length front ≡ z + leastPadding = length-append (0x80 ∷ replicate z 0) (x ++ y) ∙ omega (arith, length-replicate {A = ℕ} z 0) in
+    ap (take (z + leastPadding)) (j ∙ over-parts d (z + 1) (x ++ y) (omega arith) ∙ ap (λ (l : List ℕ). l ++ ((x ++ y) ++ rest)) f ∙ sym (append-assoc (0x80 ∷ replicate z 0) (x ++ y) rest))
+    ∙ take-at front rest (z + leastPadding) m
 
 pub padding-is : (n z : ℕ) → z ≡ zerosFor n
-    → take (z + 17) (over (over (set (replicate 144 0) 0 0x80) (z + 1) (beBytes 8 (n / 2 ^ 61))) (z + 9) (beBytes 8 (n * 2 ^ 3 % 2 ^ 64))) ≡ padding n
+    → take (z + leastPadding) (over (over (set (replicate mostPadding 0) 0 0x80) (z + 1) (beBytes 8 (n / 2 ^ 61))) (z + 9) (beBytes 8 (n * 2 ^ 3 % 2 ^ 64))) ≡ padding n
 unfolding padding
 padding-is n z e =
     laid z (beBytes 8 (n / 2 ^ 61)) (beBytes 8 (n * 2 ^ 3 % 2 ^ 64)) (omega arith) (length-beBytes 8 (n / 2 ^ 61)) (length-beBytes 8 (n * 2 ^ 3 % 2 ^ 64))

@@ -64,6 +64,11 @@ updated st s =
     (record { verdict = refuse messageTooLong 0; state = st })
     (record { verdict = Accepted; state = absorbed st s })
 
+-- the state after pieces, one after the other
+unfoldable pub afterAll : State → List (List ℕ) → State
+afterAll st [] = st
+afterAll st (p ∷ ps) = afterAll (updated st p .state) ps
+
 -- the digest that a state stands for: the padding is taken as bytes like any others, and ends a block
 unfoldable pub digestFrom : State → List ℕ
 digestFrom st = digestOf (takeBytes (fillingOf st) (padding (st .total)) .words)

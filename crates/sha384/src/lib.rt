@@ -7,7 +7,7 @@ ghost use mathlib.Core.Path.{_≡_};
 ghost use Prim.Native.Nat.{_+_, _<_, _≤_};
 ghost use lib.Dec.{ltb};
 ghost use lib.ListN.{length, take};
-ghost use Rattle.sha384_block.specs.Fips.{blockSize, roundConstants, digestOf, padding, zerosFor};
+ghost use Rattle.sha384_block.specs.Fips.{blockSize, leastPadding, mostPadding, roundConstants, digestOf, padding, zerosFor};
 ghost use Rattle.sha384.specs.State.{noBytes, takeBytes, initialState, totalLimit, updated, digestFrom};
 use eif::Refusal;
 use eif::Verdict;
@@ -22,6 +22,13 @@ const DIGEST_WORDS: usize = DIGEST_SIZE / 8;
 
 // A block's size, as totals are counted.
 const BLOCK: u64 = BLOCK_SIZE as u64;
+
+// The bytes of the number of bits at the end of a padding, the least bytes of a padding, and the most.
+const BIT_COUNT_SIZE: usize = 16;
+
+const LEAST_PADDING: usize = 1 + BIT_COUNT_SIZE;
+
+const MOST_PADDING: usize = BLOCK_SIZE - 1 + LEAST_PADDING;
 
 // The hash value of the whole blocks so far, the bytes of the block that is being filled (the others zero), and how many bytes were
 // taken in all.
@@ -183,16 +190,16 @@ fn digest(words: [u64; 8]) -> [u8; DIGEST_SIZE]
 fn zeros_for(total: u64) -> usize
     ensures { λ r. ⌜ r ≡ zerosFor total ⌝ }
 {
-    ((239 - total % BLOCK) % BLOCK) as usize
+    ((2 * BLOCK - LEAST_PADDING as u64 - total % BLOCK) % BLOCK) as usize
 }
 
 // The padding of a message of so many bytes: one byte, as many zeros as it takes, and the length in bits, after which nothing of the
 // array counts.
-fn padding_of(total: u64, zeros: usize) -> [u8; 144]
+fn padding_of(total: u64, zeros: usize) -> [u8; MOST_PADDING]
     requires { ⌜ zeros ≡ zerosFor total ⌝ }
-    ensures { λ r. ⌜ (length r ≡ 144) × (take (zeros + 17) r ≡ padding total) ⌝ }
+    ensures { λ r. ⌜ (length r ≡ mostPadding) × (take (zeros + leastPadding) r ≡ padding total) ⌝ }
 {
-    let mut pad = [0u8; 144];
+    let mut pad = [0u8; MOST_PADDING];
     pad[0] = 0x80;
     octets::put_be64(&mut pad, zeros + 1, total >> 61);
     octets::put_be64(&mut pad, zeros + 9, total << 3);
@@ -213,7 +220,7 @@ pub fn finish(state: State) -> [u8; DIGEST_SIZE]
     };
     let zeros = zeros_for(total);
     let pad = padding_of(total, zeros);
-    let end = zeros + 17;
+    let end = zeros + LEAST_PADDING;
     let last = take_bytes(from, &pad[..end]);
     let hash = last.words;
     digest(hash)

@@ -86,12 +86,22 @@ roundConstants =
 
 -- ---- section 5.1.2: the padding of a message of n bytes: a one bit, zero bits, and the length in bits as a number of 128 bits
 
+-- the bytes of that number; the least of a padding, a byte with the one bit and that number, and the most, nearly a block of zeros more
+abbrev pub bitCountSize : ℕ
+bitCountSize = 16
+
+abbrev pub leastPadding : ℕ
+leastPadding = 1 + bitCountSize
+
+abbrev pub mostPadding : ℕ
+mostPadding = blockSize - 1 + leastPadding
+
 -- how many zero bytes make the whole a multiple of a block
 abbrev pub zerosFor : ℕ → ℕ
-zerosFor n = (239 - n % blockSize) % blockSize
+zerosFor n = (2 * blockSize - leastPadding - n % blockSize) % blockSize
 
 unfoldable pub padding : ℕ → List ℕ
-padding n = 0x80 ∷ (replicate (zerosFor n) 0 ++ beBytes 16 (8 * n))
+padding n = 0x80 ∷ (replicate (zerosFor n) 0 ++ beBytes bitCountSize (8 * n))
 
 -- ---- section 5.3.4: the initial hash value
 

@@ -9,15 +9,15 @@ use native.Mathlib.Omega.{arith}
 use borrow.Author.Tests.{lt-ltb, le-ltb}
 use lib.ListN.{length, length-append}
 use Rattle.octets.specs.Lists.{joined}
-use Rattle.octets.proofs.Over.{le-or-lt}
+use Rattle.octets.proofs.Logic.{le-or-lt}
 use Rattle.eif.specs.Numbers.{messageTooLong}
 use Rattle.eif.specs.Answers.{refuse, numberOf}
 use Rattle.eif.specs.declared.Verdict.the-variants.{Accepted}
 use Rattle.sha384_block.specs.Fips.{sha384}
-use Rattle.sha384.specs.State.{initialState, absorbed, digestFrom, stateAfter, updated, totalLimit}
+use Rattle.sha384.specs.State.{initialState, absorbed, digestFrom, stateAfter, updated, totalLimit, afterAll}
 use Rattle.sha384.specs.declared.State.{State}
 use Rattle.sha384.specs.declared.Updated.{Updated}
-use Rattle.sha384_laws.specs.Pieces.{afterAll, bytesTaken}
+use Rattle.sha384_laws.specs.Pieces.{bytesTaken}
 use Rattle.sha384_laws.proofs.Fed.{total-fed, total-stateOf, fed-append, fed-nothing, fresh-fed, fresh-finished}
 
 -- ---- one piece

@@ -6,13 +6,14 @@ use mathlib.Core.List.{List}
 use native.Mathlib.Omega.{arith}
 use borrow.Author.Tests.{leb-false, ltb-false, lt-leb, le-ltb}
 use Rattle.eif.specs.Numbers.{sizeLimit}
-use Rattle.eif.specs.Layout.{countOf}
-use Rattle.eif.specs.Reading.{verdictOf, readImage}
+use Rattle.eif.specs.Layout.{headerFlagsOf, countOf}
+use Rattle.eif.specs.Reading.{verdictOf, readImage, sectionAt, sectionsOf}
 use Rattle.eif.specs.Plan.{plainSize}
 use Rattle.staged.specs.Staged.{stagedPlan, stagedVerdict}
 use Rattle.eif.specs.declared.Reading.{Reading}
 use Rattle.eif.specs.declared.Verdict.the-variants.{Accepted}
 use Rattle.octets.proofs.Logic.{either-false}
+use Rattle.eif_lemmas.proofs.Accept.{passes, sound-at}
 use Rattle.eif_lemmas.proofs.Reading.{reading-accepted}
 use Rattle.eif_lemmas.proofs.Verdicts.{then-accepted, refused-not}
 
@@ -22,9 +23,20 @@ pub record Stages (s : List ℕ) (size k j : ℕ) : Type 0 where
   pub shown : j < countOf s
   pub small : plainSize (stagedPlan s k size) ≤ sizeLimit
 
+-- what the reading of an accepted base has
 module _ (s : List ℕ) (ok : verdictOf s ≡ Accepted) where
   pub count-is : readImage s .count ≡ countOf s
   count-is = ap (λ (x : Reading). x .count) (reading-accepted s ok)
+
+  pub base-flags : readImage s .flags ≡ headerFlagsOf s
+  base-flags = ap (λ (x : Reading). x .flags) (reading-accepted s ok)
+
+  pub base-sections : readImage s .sections ≡ sectionsOf s
+  base-sections = ap (λ (x : Reading). x .sections) (reading-accepted s ok)
+
+  -- none is longer than an image
+  pub base-small : (i : ℕ) → i < countOf s → sectionAt s i .length .0 ≤ sizeLimit
+  base-small i h = let q = sound-at s ok i h .ends in let m = passes s ok .head .small in omega arith
 
 module _ (s : List ℕ) (size k j : ℕ) where
   pub staged→ : stagedVerdict s size k j ≡ Accepted → Stages s size k j

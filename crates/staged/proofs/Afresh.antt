@@ -7,12 +7,11 @@ use mathlib.Core.Logic.{⊎-elim}
 use native.Mathlib.Omega.{arith}
 use borrow.Author.Tests.{eq-eqb, ne-eqb}
 use lib.Dec.{eqb}
-use lib.ListN.{length, take, drop, getD, set, length-map}
+use lib.ListN.{length, take, drop, set, length-map}
 use lib.Seq.{getD-set-same, getD-set-other}
 use Rattle.eif.specs.Table.{joinFrom}
 use Rattle.eif.specs.Numbers.{sizeLimit, placeCount}
 use Rattle.octets.specs.Logic.{choose}
-use Rattle.eif.specs.Rules.{allowedIn, orderFault}
 use Rattle.eif.specs.Layout.{versionOf, countOf, kindAt, sectionHeaderSize}
 use Rattle.eif.specs.Reading.{verdictOf, blankSection, sectionAt, sectionsOf, dataOf}
 use Rattle.eif.specs.Plan.{blankPlace, placeAt, plannedKind, plannedSize, plainSize, plainImage, placeOf, planOf}
@@ -23,14 +22,14 @@ use Rattle.eif.specs.declared.Section.{Section}
 use Rattle.eif.specs.declared.Reading.{Reading}
 use Rattle.eif.specs.declared.Verdict.the-variants.{Accepted}
 use Rattle.octets.proofs.Logic.{equal-or-not}
-use Rattle.eif_lemmas.proofs.Reading.{reading-accepted}
-use Rattle.eif_lemmas.proofs.Table.{length-filled, filled-at}
-use Rattle.eif_lemmas.proofs.Types.{order-same, missing-same}
-use Rattle.plain_laws.proofs.PlanRules.{Planned}
-use Rattle.plain_laws.proofs.Joined.{join-same, piece-is, length-joined}
+use Rattle.eif_lemmas.proofs.Reading.{reading-accepted, reading-section}
+use Rattle.eif_lemmas.proofs.Table.{length-filled, join-same}
+use Rattle.plain_laws.proofs.PlanRules.{types-fine-same, Planned}
+use Rattle.plain_laws.proofs.Joined.{piece-is, length-joined}
 use Rattle.plain_laws.proofs.Written.{read-kind, read-count, read-offset, read-size, read-data}
 use Rattle.plain_laws.proofs.WriteBack.{plan, piece, sound-head, kind-is, length-piece-is}
 use Rattle.plain_laws.proofs.Plainness.{plan-planned}
+use Rattle.staged.proofs.Accept.{count-is}
 
 -- ---- one place of a plan changed
 
@@ -38,25 +37,25 @@ module _ (l : List Place) (k size : ℕ) (h : k < length l) where
   abbrev changed : List Place
   changed = set l k (withLength (placeAt l k) size)
 
-  pub place-same : placeAt changed k ≡ withLength (placeAt l k) size
+  place-same : placeAt changed k ≡ withLength (placeAt l k) size
   place-same = getD-set-same l k (withLength (placeAt l k) size) blankPlace h
 
-  pub place-other : (j : ℕ) → (j ≡ k → ⊥) → placeAt changed j ≡ placeAt l j
+  place-other : (j : ℕ) → (j ≡ k → ⊥) → placeAt changed j ≡ placeAt l j
   place-other j n = getD-set-other l k j (withLength (placeAt l k) size) blankPlace n
 
-  kind-kept : (j : ℕ) → plannedKind changed j ≡ plannedKind l j
-  kind-kept j =
+  -- what is alike of the changed place is alike of each
+  pub kept-at : {A : Type 0} (f : Place → A) → f (withLength (placeAt l k) size) ≡ f (placeAt l k) → (j : ℕ) → f (placeAt changed j) ≡ f (placeAt l j)
+  kept-at f same j =
       ⊎-elim
-      (λ (e : j ≡ k). rw e (ap (λ (x : Place). x .kind) place-same))
-      (λ (n : j ≡ k → ⊥). ap (λ (x : Place). x .kind) (place-other j n))
+      (λ (e : j ≡ k). rw e (ap f place-same ∙ same))
+      (λ (n : j ≡ k → ⊥). ap f (place-other j n))
       (equal-or-not j k)
 
+  pub kind-kept : (j : ℕ) → plannedKind changed j ≡ plannedKind l j
+  kind-kept = kept-at (λ x. x .kind) refl
+
   pub flags-kept : (j : ℕ) → placeAt changed j .flags ≡ placeAt l j .flags
-  flags-kept j =
-      ⊎-elim
-      (λ (e : j ≡ k). rw e (ap (λ (x : Place). x .flags) place-same))
-      (λ (n : j ≡ k → ⊥). ap (λ (x : Place). x .flags) (place-other j n))
-      (equal-or-not j k)
+  flags-kept = kept-at (λ x. x .flags) refl
 
 -- ---- the base is accepted
 
@@ -74,23 +73,18 @@ module _ (s r : List ℕ) (k : ℕ) (ok : verdictOf s ≡ Accepted) where
   abbrev pub freshImage : List ℕ
   freshImage = plainImage (changedPlan (length r)) partsJoined
 
-  few : countOf s ≤ placeCount
-  few = sound-head s ok .few
-
   pub plan-is : (size : ℕ) → stagedPlan s k size ≡ changedPlan size
   unfolding stagedPlan
   plan-is size = ap (λ (x : Reading). withPlace (planOf x) k size) (reading-accepted s ok)
 
   pub part-is : (j : ℕ) → j < countOf s → stagedPart s r k j ≡ partAt j
   unfolding stagedPart
-  part-is j h =
-      ap (λ (x : Reading). choose (eqb j k) r (dataOf s (getD (x .sections) j blankSection))) (reading-accepted s ok)
-      ∙ ap (λ (x : Section). choose (eqb j k) r (dataOf s x)) (filled-at (sectionAt s) blankSection blankSection placeCount (countOf s) j h few)
+  part-is j h = ap (λ (x : Section). choose (eqb j k) r (dataOf s x)) (reading-section s ok j h)
 
   pub parts-are : stagedJoined s r k ≡ partsJoined
   unfolding stagedJoined
   parts-are =
-      ap (λ (x : Reading). joinFrom (stagedPart s r k) (x .count) 0) (reading-accepted s ok)
+      ap (λ (n : ℕ). joinFrom (stagedPart s r k) n 0) (count-is s ok)
       ∙ join-same (stagedPart s r k) partAt (countOf s) 0 (λ j h. part-is j (omega arith))
 
   pub afresh-is : afresh s r k ≡ freshImage
@@ -114,7 +108,7 @@ module _ (s r : List ℕ) (k : ℕ) (ok : verdictOf s ≡ Accepted) where
     places-long = length-map (sectionsOf s) placeOf ∙ length-filled (sectionAt s) blankSection placeCount (countOf s)
 
     pub in-places : k < length l
-    in-places = let n = places-long in let f = few in omega arith
+    in-places = let n = places-long in let f = sound-head s ok .fields .few in omega arith
 
     pub size-kept : (j : ℕ) → j < countOf s → length (partAt j) ≡ plannedSize (changedPlan (length r) .places) j
     size-kept j q =
@@ -138,15 +132,8 @@ module _ (s r : List ℕ) (k : ℕ) (ok : verdictOf s ≡ Accepted) where
       changed-planned =
           let a = plan-planned s ok in
           record {
-            low = a .low;
-            high = a .high;
-            some = a .some;
-            few = a .few;
-            allowed = λ i q. ap (allowedIn (versionOf s)) (same-kind i) ∙ a .allowed i q;
-            order = λ i q.
-                ap (λ (x : ℕ). orderFault (plannedKind m) x i) (same-kind i)
-                ∙ order-same (plannedKind m) (plannedKind l) (plannedKind l i) i (λ j g. same-kind j) ∙ a .order i q;
-            none-missing = missing-same (plannedKind m) (plannedKind l) (versionOf s) (countOf s) (λ j g. same-kind j) ∙ a .none-missing;
+            fields = a .fields;
+            types = types-fine-same (versionOf s) (plannedKind m) (plannedKind l) (countOf s) (λ j g. same-kind j) (a .types);
             small = small;
             sized = length-joined m (countOf s) partAt size-kept;
           }

@@ -9,10 +9,9 @@ use mathlib.Core.Logic.{⊎-elim}
 use native.Mathlib.Omega.{arith}
 use borrow.Author.Tests.{eq-eqb, ne-eqb, lt-ltb, le-ltb}
 use lib.Dec.{eqb}
-use lib.ListN.{length, getD, set, take, drop, drop-of-length-le}
+use lib.ListN.{length, set, take, drop, drop-of-length-le}
 use lib.Seq.{take-length, drop-nil}
 use Rattle.octets.specs.Lists.{All, joinedBy}
-use Rattle.octets.proofs.Over.{le-or-lt}
 use Rattle.eif.specs.Numbers.{placeCount, sizeLimit}
 use Rattle.octets.specs.Logic.{choose}
 use Rattle.eif.specs.Table.{filled}
@@ -21,19 +20,18 @@ use Rattle.eif.specs.Reading.{verdictOf, blankSection, sectionAt, sectionsOf, r
 use Rattle.eif.specs.Plan.{plainSize}
 use Rattle.eif.specs.Roll.{Record, flagsRecord, rollOf, recordsOf, rollBytes, recordsBy}
 use Rattle.eif.specs.Stream.{streamSections, streamOf}
-use Rattle.eif.specs.declared.Reading.{Reading}
 use Rattle.eif.specs.declared.Section.{Section}
 use Rattle.eif.specs.declared.Stream.{Stream}
 use Rattle.eif.specs.declared.Verdict.the-variants.{Accepted}
-use Rattle.octets.proofs.Logic.{equal-or-not}
-use Rattle.eif_lemmas.proofs.Reading.{reading-accepted}
-use Rattle.eif_lemmas.proofs.Table.{all-filled, filled-at, length-filled}
-use Rattle.eif_lemmas.proofs.Accept.{length-data, sound-at}
+use Rattle.octets.proofs.Logic.{equal-or-not, le-or-lt}
+use Rattle.eif_lemmas.proofs.Table.{all-filled, length-filled}
+use Rattle.eif_lemmas.proofs.Accept.{Inside, length-data, sound-at}
+use Rattle.eif_lemmas.proofs.Reading.{reading-section}
 use Rattle.plain_laws.proofs.Written.{size-small, read-flags}
 use Rattle.plain_laws.proofs.WriteBack.{piece, sound-head}
 use Rattle.staged.specs.Staged.{afresh}
 use Rattle.staged.specs.View.{moved, stagedSections, heldBy, heldStart, Holds}
-use Rattle.staged.proofs.Accept.{Stages}
+use Rattle.staged.proofs.Accept.{Stages, base-flags, base-sections, base-small}
 use Rattle.staged.proofs.Afresh.{partAt, partsJoined, changedPlan, freshImage, plan-is, afresh-is, part-replaced, size-kept, changed-planned, fresh-count, fresh-kind, fresh-data}
 use Rattle.staged.proofs.Same.{same-records, same-stream, set-filled}
 
@@ -59,7 +57,7 @@ module _ (s r : List ℕ) (x : Section) where
   start-after base replacement h = simp (le-ltb _ _ h)
 
   -- a section that lies in the base
-  pub held-inside : x .position .0 + x .length .0 ≤ length s → heldBy s r x ≡ dataOf s x
+  pub held-inside : Inside s x → heldBy s r x ≡ dataOf s x
   held-inside h =
       ⊎-elim
       (λ (g : length s ≤ x .position .0).
@@ -69,6 +67,10 @@ module _ (s r : List ℕ) (x : Section) where
       ∙ sym (ap (λ (n : ℕ). take n (drop (x .position .0) s)) z))
       (λ (g : x .position .0 < length s). held-base g)
       (le-or-lt (length s) (x .position .0))
+
+  -- and whose data is then as long as it says
+  pub holds-inside : Inside s x → Holds (heldBy s r) x
+  holds-inside h = ap length (held-inside h) ∙ length-data s x h
 
 -- with nothing after the base it is the base's
 pub held-alone : (s : List ℕ) (x : Section) → heldBy s [] x ≡ dataOf s x
@@ -84,21 +86,32 @@ held-alone s x =
 -- ---- the sections of the view
 
 module _ (s r : List ℕ) (k : ℕ) where
-  -- section i as the view lists it
-  abbrev pub stagedAt : ℕ → Section
-  stagedAt i = choose (eqb i k) (moved (sectionAt s k) (length s) (length r)) (sectionAt s i)
+  -- the replaced section as the view lists it, and section i
+  abbrev movedSection : Section
+  movedSection = moved (sectionAt s k) (length s) (length r)
 
-  replaced-data : heldBy s r (moved (sectionAt s k) (length s) (length r)) ≡ r
+  abbrev pub stagedAt : ℕ → Section
+  stagedAt i = choose (eqb i k) movedSection (sectionAt s i)
+
+  -- what holds of the moved section and of the base's section i holds of section i of the view
+  staged-by : (P : Section → Type 0) (i : ℕ) → P movedSection → P (sectionAt s i) → P (stagedAt i)
+  staged-by P i p q = by (eqb i k)
+    where
+      by : (b : Bool) → P (choose b movedSection (sectionAt s i))
+      by true = p
+      by false = q
+
+  replaced-data : heldBy s r movedSection ≡ r
   replaced-data =
       let z : length s - length s ≡ 0 = omega arith in
-      held-after s r (moved (sectionAt s k) (length s) (length r)) (omega arith)
+      held-after s r movedSection (omega arith)
       ∙ ap (λ (n : ℕ). take (length r) (drop n r)) z ∙ take-length r
 
   module _ (ok : verdictOf s ≡ Accepted) where
     pub held-is : (i : ℕ) → i < countOf s → heldBy s r (stagedAt i) ≡ partAt s r k ok i
     held-is i h = by (eqb i k)
       where
-        by : (b : Bool) → heldBy s r (choose b (moved (sectionAt s k) (length s) (length r)) (sectionAt s i)) ≡ choose b r (piece s i)
+        by : (b : Bool) → heldBy s r (choose b movedSection (sectionAt s i)) ≡ choose b r (piece s i)
         by true = replaced-data
         by false = held-inside s r (sectionAt s i) (sound-at s ok i h .ends)
 
@@ -113,11 +126,9 @@ module _ (s r : List ℕ) (k : ℕ) where
       pub sections-are : stagedSections (readImage s .sections) k (length s) (length r) ≡ filled stagedAt blankSection placeCount (countOf s)
       unfolding stagedSections
       sections-are =
-          let few = sound-head s ok .few in
-          ap (λ (x : Reading). set (x .sections) k (moved (getD (x .sections) k blankSection) (length s) (length r))) (reading-accepted s ok)
-          ∙ ap (λ (y : Section). set (sectionsOf s) k (moved y (length s) (length r)))
-          (filled-at (sectionAt s) blankSection blankSection placeCount (countOf s) k h few)
-          ∙ set-filled (sectionAt s) blankSection (moved (sectionAt s k) (length s) (length r)) placeCount (countOf s) k h few
+          let few = sound-head s ok .fields .few in
+          ap₂ (λ (l : List Section) (x : Section). set l k (moved x (length s) (length r))) (base-sections s ok) (reading-section s ok k h)
+          ∙ set-filled (sectionAt s) blankSection movedSection placeCount (countOf s) k h few
 
 -- ---- their records and streams are those of the image written afresh
 
@@ -170,28 +181,15 @@ module _ (s r : List ℕ) (k j : ℕ) (a : Stages s (length r) k j) where
   -- each is as long as the list says, and no longer than an image
 
   holds-at : (i : ℕ) → i < countOf s → Holds (heldBy s r) (stagedAt s r k i)
-  holds-at i h = by (eqb i k)
-    where
-      by : (b : Bool) → Holds (heldBy s r) (choose b (moved (sectionAt s k) (length s) (length r)) (sectionAt s i))
-      by true = ap length (replaced-data s r k)
-      by false =
-          let q = sound-at s ok i h .ends in
-          ap length (held-inside s r (sectionAt s i) q) ∙ length-data s (sectionAt s i) q
+  holds-at i h = staged-by s r k (Holds (heldBy s r)) i (ap length (replaced-data s r k)) (holds-inside s r (sectionAt s i) (sound-at s ok i h .ends))
 
   small-at : (i : ℕ) → i < countOf s → stagedAt s r k i .length .0 ≤ sizeLimit
-  small-at i h = by (eqb i k)
-    where
-      by : (b : Bool) → choose b (moved (sectionAt s k) (length s) (length r)) (sectionAt s i) .length .0 ≤ sizeLimit
-      by true = replacement-small
-      by false = let q = sound-at s ok i h .ends in let m = sound-head s ok .small in omega arith
-
-  blank-holds : Holds (heldBy s r) blankSection
-  blank-holds = ap length (held-inside s r blankSection (omega arith))
+  small-at i h = staged-by s r k (λ (x : Section). x .length .0 ≤ sizeLimit) i replacement-small (base-small s ok i h)
 
   pub holds-all : All (Holds (heldBy s r)) stagedList
   holds-all =
       rw (sections-are s r k ok (a .replaced))
-      (all-filled (Holds (heldBy s r)) (stagedAt s r k) blankSection placeCount (countOf s) blank-holds holds-at)
+      (all-filled (Holds (heldBy s r)) (stagedAt s r k) blankSection placeCount (countOf s) (holds-inside s r blankSection (omega arith)) holds-at)
 
   pub small-all : All (λ (x : Section). x .length .0 ≤ sizeLimit) stagedList
   small-all =
@@ -204,7 +202,7 @@ module _ (s r : List ℕ) (k j : ℕ) (a : Stages s (length r) k j) where
   -- the flags of the image written afresh are the base's, which fit in two bytes
   pub flags-are : readImage s .flags < 2 ^ 16 → headerFlagsOf (afresh s r k) ≡ readImage s .flags
   flags-are h =
-      let e : readImage s .flags ≡ headerFlagsOf s = ap (λ (x : Reading). x .flags) (reading-accepted s ok) in
+      let e = base-flags s ok in
       let g : headerFlagsOf s < 2 ^ 16 = omega arith in
       ap headerFlagsOf (afresh-is s r k ok)
       ∙ read-flags (changedPlan s r k ok (length r)) (partsJoined s r k ok) (changed-planned s r k ok (a .replaced) within) g ∙ sym e

@@ -7,11 +7,11 @@ use mathlib.Core.List.{List, []}
 use native.Mathlib.Omega.{arith}
 use borrow.Author.Tests.{eq-eqb, ne-eqb}
 use lib.Dec.{eqb}
-use lib.ListN.{length, getD, take, drop}
+use lib.ListN.{length, take, drop}
 use lib.Seq.{getD-set-other, take-length}
 use Rattle.eif.specs.Numbers.{placeCount}
 use Rattle.octets.specs.Logic.{choose}
-use Rattle.eif.specs.Reading.{blankSection, dataOf, readImage}
+use Rattle.eif.specs.Reading.{blankSection, dataOf, readImage, sectionIn}
 use Rattle.eif.specs.declared.Refusal.{Refusal}
 use Rattle.eif.specs.declared.Section.{Section}
 use Rattle.eif.specs.declared.Verdict.the-variants.{Accepted, Refused}
@@ -19,6 +19,11 @@ use Rattle.plain_laws.proofs.WriteBack.{sound-head}
 use Rattle.staged.specs.Staged.{stagedPart, stagedVerdict, shownPart}
 use Rattle.staged.specs.View.{moved, stagedSections, shownStart, placeFor, stagedPlace}
 use Rattle.staged.proofs.Accept.{staged→}
+
+-- a section that is not replaced stands in the view's list as in the base's
+section-kept : (l : List Section) (k j at size : ℕ) → (j ≡ k → ⊥) → sectionIn (stagedSections l k at size) j ≡ sectionIn l j
+unfolding stagedSections
+section-kept l k j at size n = getD-set-other l k j (moved (sectionIn l k) at size) blankSection n
 
 module _ (s r : List ℕ) (k j : ℕ) where
   pub shown-refused : (x : Refusal) → stagedVerdict s (length r) k j ≡ Refused x → shownPart s r k j ≡ []
@@ -33,12 +38,10 @@ module _ (s r : List ℕ) (k j : ℕ) where
 
     -- any other is that of the base, as the view lists it
     pub listed-kept : (j ≡ k → ⊥)
-        → dataOf s (getD (stagedSections (readImage s .sections) k (length s) (length r)) j blankSection) ≡ shownPart s r k j
-    unfolding shownPart stagedPart stagedSections
+        → dataOf s (sectionIn (stagedSections (readImage s .sections) k (length s) (length r)) j) ≡ shownPart s r k j
+    unfolding shownPart stagedPart
     listed-kept n =
-        let l = readImage s .sections in
-        ap (dataOf s) (getD-set-other l k j (moved (getD l k blankSection) (length s) (length r)) blankSection n)
-        ∙ sym (simp (e, ne-eqb j k n))
+        ap (dataOf s) (section-kept (readImage s .sections) k j (length s) (length r) n) ∙ sym (simp (e, ne-eqb j k n))
 
 -- ---- where it stands in memory
 
@@ -52,13 +55,12 @@ module _ (s : List ℕ) (size k j : ℕ) (base given : ℕ × ℕ) where
     unfolding shownStart
     start-replaced q = simp (e, eq-eqb j k q)
 
-    pub start-kept : (j ≡ k → ⊥) → (x : Section) → x ≡ getD (stagedSections (readImage s .sections) k (length s) size) j blankSection
+    pub start-kept : (j ≡ k → ⊥) → (x : Section) → x ≡ sectionIn (stagedSections (readImage s .sections) k (length s) size) j
         → (base .0, base .1 + min (x .position .0) (length s)) ≡ shownStart s size k j base given
-    unfolding shownStart stagedSections
+    unfolding shownStart
     start-kept n x q =
-        let l = readImage s .sections in
         ap (λ (y : Section). (base .0, base .1 + min (y .position .0) (length s)))
-        (q ∙ getD-set-other l k j (moved (getD l k blankSection) (length s) size) blankSection n)
+        (q ∙ section-kept (readImage s .sections) k j (length s) size n)
         ∙ sym (simp (e, ne-eqb j k n))
 
 -- ---- where it lies: the same, by its place
@@ -71,26 +73,25 @@ module _ (s : List ℕ) (size k j : ℕ) where
   module _ (e : stagedVerdict s size k j ≡ Accepted) where
     -- the number of a section is one of a place
     pub place-in : j < placeCount
-    place-in = let a = staged→ s size k j e in let f = sound-head s (a .accepted) .few in let h = a .shown in omega arith
+    place-in = let a = staged→ s size k j e in let f = sound-head s (a .accepted) .fields .few in let h = a .shown in omega arith
 
     pub place-replaced : j ≡ k → placeFor Accepted 1 0 size ≡ stagedPlace s size k j
     unfolding stagedPlace
     place-replaced q = simp (e, eq-eqb j k q)
 
-    pub place-kept : (j ≡ k → ⊥) → (x : Section) → x ≡ getD (stagedSections (readImage s .sections) k (length s) size) j blankSection
+    pub place-kept : (j ≡ k → ⊥) → (x : Section) → x ≡ sectionIn (stagedSections (readImage s .sections) k (length s) size) j
         → placeFor Accepted 0 (x .position .0) (x .length .0) ≡ stagedPlace s size k j
-    unfolding stagedPlace stagedSections
+    unfolding stagedPlace
     place-kept n x q =
-        let l = readImage s .sections in
         ap (λ (y : Section). placeFor Accepted 0 (y .position .0) (y .length .0))
-        (q ∙ getD-set-other l k j (moved (getD l k blankSection) (length s) size) blankSection n)
+        (q ∙ section-kept (readImage s .sections) k j (length s) size n)
         ∙ sym (simp (e, ne-eqb j k n))
 
 -- the bytes there are what is shown
 pub place-shows : (s r : List ℕ) (k j : ℕ) → stagedVerdict s (length r) k j ≡ Accepted
     → take (stagedPlace s (length r) k j .length .0) (drop (stagedPlace s (length r) k j .start) (choose (eqb j k) r s)) ≡ shownPart s r k j
 unfolding stagedPlace shownPart stagedPart
-place-shows s r k j e = rw e (by (getD (readImage s .sections) j blankSection) (eqb j k))
+place-shows s r k j e = rw e (by (sectionIn (readImage s .sections) j) (eqb j k))
   where
     by : (x : Section) (b : Bool) → take (choose b (length r) (x .length .0)) (drop (choose b 0 (x .position .0)) (choose b r s)) ≡ choose b r (dataOf s x)
     by x true = take-length r

@@ -55,12 +55,15 @@ afresh s r k = plainImage (stagedPlan s k (length r)) (stagedJoined s r k)
 
 -- ---- the refusals: the base's, 27 for either number, 1 for the image written afresh; size is the replacement's length
 
+-- the view's own, by the base's number of sections and the plan of the image written afresh
+abbrev pub viewVerdict : ℕ → Plan → ℕ → ℕ → Verdict
+viewVerdict count plan k j =
+    choose (either (leb count k) (leb count j)) (refuse noSuchSection 0)
+    (choose (ltb sizeLimit (plainSize plan)) (refuse imageTooLong 0)
+    Accepted)
+
 unfoldable pub stagedVerdict : List ℕ → ℕ → ℕ → ℕ → Verdict
-stagedVerdict s size k j =
-    andThen (verdictOf s)
-    (choose (either (leb (readImage s .count) k) (leb (readImage s .count) j)) (refuse noSuchSection 0)
-    (choose (ltb sizeLimit (plainSize (stagedPlan s k size))) (refuse imageTooLong 0)
-    Accepted))
+stagedVerdict s size k j = andThen (verdictOf s) (viewVerdict (readImage s .count) (stagedPlan s k size) k j)
 
 -- ---- what is shown of section j: its data, or where it is refused no byte
 

@@ -27,12 +27,14 @@ moved x at size = record { kind = x .kind; flags = x .flags; position = record {
 unfoldable pub stagedSections : List Section → ℕ → ℕ → ℕ → List Section
 stagedSections l k at size = set l k (moved (sectionIn l k) at size)
 
-abbrev pub stagedFor : Verdict → ℕ → List Section → Staged
-stagedFor verdict flags l =
-    record { verdict = verdict; flags = beside verdict flags 0; sections = beside verdict l (replicate placeCount blankSection) }
-
+-- beside a refusal everything is zero
 abbrev pub blankStaged : Verdict → Staged
 blankStaged verdict = record { verdict = verdict; flags = 0; sections = replicate placeCount blankSection }
+
+abbrev pub stagedFor : Verdict → ℕ → List Section → Staged
+stagedFor verdict flags l =
+    let blank = blankStaged verdict in
+    record { verdict = verdict; flags = beside verdict flags (blank .flags); sections = beside verdict l (blank .sections) }
 
 unfoldable pub stagedView : List ℕ → ℕ → ℕ → ℕ → Staged
 stagedView s size k j =

@@ -3,19 +3,16 @@
 -- Assumes nothing.
 use mathlib.Core.Path.{_≡_, refl, ap}
 use mathlib.Core.List.{[]}
-use lib.Dec.{leb, ltb}
-use Rattle.eif.specs.declared.Verdict.the-variants.{Accepted}
 use Rattle.eif.specs.declared.Verdict.{Verdict}
 use Rattle.eif.specs.Worked.{workedImage, worked-accepted}
-use Rattle.eif.specs.Plan.{plainSize, planOf}
+use Rattle.eif.specs.Plan.{planOf}
 use Rattle.eif.specs.Layout.{viewOf}
-use Rattle.octets.specs.Logic.{choose, either}
 use Rattle.octets.specs.Bytes.{field, beValue}
-use Rattle.eif.specs.Numbers.{imageTooShort, noSuchSection, sizeLimit, imageTooLong}
+use Rattle.eif.specs.Numbers.{imageTooShort}
 use Rattle.eif.specs.Answers.{refuse, andThen}
 use Rattle.eif.specs.Rules.{fieldFault}
 use Rattle.eif.specs.Reading.{headerFault, judged, early, verdictIn, positionIn, readingOf, readView}
-use Rattle.staged.specs.Staged.{stagedVerdict, withPlace, stagedPlan}
+use Rattle.staged.specs.Staged.{viewVerdict, stagedVerdict, withPlace, stagedPlan}
 
 pub base-first : stagedVerdict [] 0 0 0 ≡ refuse imageTooShort 0
 unfolding stagedVerdict verdictIn early judged headerFault fieldFault positionIn
@@ -27,8 +24,6 @@ unfolding stagedVerdict stagedPlan readView field beValue
 no-fourth-section =
     ap
     (λ (v : Verdict).
-    let n = readingOf (viewOf workedImage) v .count in
-    andThen v
-    (choose (either (leb n 3) (leb n 0)) (refuse noSuchSection 0)
-    (choose (ltb sizeLimit (plainSize (withPlace (planOf (readingOf (viewOf workedImage) v)) 3 0))) (refuse imageTooLong 0) Accepted)))
+    let r = readingOf (viewOf workedImage) v in
+    andThen v (viewVerdict (r .count) (withPlace (planOf r) 3 0) 3 0))
     worked-accepted

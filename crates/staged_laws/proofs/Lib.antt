@@ -1,3 +1,4 @@
 pub mod Order
+pub mod Limit
 pub mod Staged
 pub mod Registers

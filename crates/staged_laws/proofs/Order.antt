@@ -4,22 +4,21 @@ use Prim.Native.Nat.{ℕ}
 use mathlib.Core.Path.{_≡_, refl, sym, ap, ap₂, _∙_}
 use mathlib.Core.Bool.{Bool, true, false}
 use mathlib.Core.List.{List}
-use lib.Dec.{ltb, leb}
+use lib.Dec.{leb}
 use lib.ListN.{length}
 use Rattle.staged.specs.View.{stagedPlace}
-use Rattle.eif.specs.Numbers.{sizeLimit, imageTooLong, noSuchSection}
+use Rattle.eif.specs.Numbers.{noSuchSection}
 use Rattle.octets.specs.Logic.{either, choose}
 use Rattle.eif.specs.Answers.{refuse, andThen}
 use Rattle.eif.specs.Output.{roomVerdict}
 use Rattle.eif.specs.Layout.{countOf}
 use Rattle.eif.specs.Reading.{verdictOf, readImage}
-use Rattle.eif.specs.Plan.{plainSize}
 use Rattle.eif.specs.Roll.{rollBytes}
 use Rattle.eif.specs.Order.{firstThatApplies, imageRules}
 use Rattle.eif.specs.declared.Verdict.{Verdict}
 use Rattle.eif.specs.declared.Verdict.the-variants.{Accepted, Refused}
 use Rattle.eif_laws.proofs.FirstApplies.{read-first, first-append}
-use Rattle.staged.specs.Staged.{stagedPlan, afresh, stagedVerdict, stagedRollVerdict, stagedRollLength}
+use Rattle.staged.specs.Staged.{stagedPlan, afresh, viewVerdict, stagedVerdict, stagedRollVerdict, stagedRollLength}
 use Rattle.staged.specs.Order.{stagedRules, stagedRollRules}
 use Rattle.staged.proofs.Accept.{count-is}
 
@@ -29,12 +28,9 @@ both-tests true c x y = refl
 both-tests false c x y = refl
 
 module _ (s : List ℕ) (size k j : ℕ) where
-  abbrev long : Bool
-  long = ltb sizeLimit (plainSize (stagedPlan s k size))
-
   -- the tests of the view by a number of sections
   abbrev by : ℕ → Verdict
-  by n = choose (either (leb n k) (leb n j)) (refuse noSuchSection 0) (choose long (refuse imageTooLong 0) Accepted)
+  by n = viewVerdict n (stagedPlan s k size) k j
 
   -- where the base is accepted its reading's count is the header's
   same-count : (v : Verdict) → verdictOf s ≡ v → andThen v (by (readImage s .count)) ≡ andThen v (by (countOf s))
@@ -45,7 +41,7 @@ module _ (s : List ℕ) (size k j : ℕ) where
   unfolding stagedVerdict stagedRules firstThatApplies
   staged-first =
       same-count (verdictOf s) refl
-      ∙ ap₂ andThen (read-first s) (both-tests (leb (countOf s) k) (leb (countOf s) j) (refuse noSuchSection 0) (choose long (refuse imageTooLong 0) Accepted))
+      ∙ ap₂ andThen (read-first s) (both-tests (leb (countOf s) k) (leb (countOf s) j) (refuse noSuchSection 0) _)
       ∙ sym (first-append (imageRules s) _)
 
 pub staged-roll-first : (s r : List ℕ) (k room : ℕ) → stagedRollVerdict s r k room ≡ firstThatApplies (stagedRollRules s r k room)

@@ -6,20 +6,19 @@ use mathlib.Core.Bool.{Bool, true, false}
 use mathlib.Core.List.{List}
 use borrow.Author.Tests.{le-leb, lt-leb}
 use lib.Dec.{ltb, leb}
-use lib.ListN.{length, getD, set}
+use lib.ListN.{length}
 use Rattle.eif.specs.Numbers.{sizeLimit, imageTooLong, noSuchSection}
-use Rattle.octets.specs.Logic.{choose, either}
 use Rattle.eif.specs.Answers.{refuse}
-use Rattle.eif.specs.Reading.{blankSection, readImage}
+use Rattle.eif.specs.Reading.{readImage}
 use Rattle.eif.specs.Plan.{plainSize, planOf}
-use Rattle.staged.specs.Staged.{withPlace, stagedPlan, stagedVerdict}
+use Rattle.staged.specs.Staged.{withPlace, stagedPlan, viewVerdict, stagedVerdict}
 use Rattle.eif.specs.declared.Reading.{Reading}
 use Rattle.eif.specs.declared.Refusal.{Refusal}
 use Rattle.eif.specs.declared.Verdict.{Verdict}
 use Rattle.eif.specs.declared.Verdict.the-variants.{Accepted, Refused}
 use Rattle.eif_lemmas.proofs.Reading.{verdict-is, told-accepted}
 use Rattle.staged.specs.declared.Staged.{Staged}
-use Rattle.staged.specs.View.{moved, stagedSections, blankStaged, stagedFor, stagedView}
+use Rattle.staged.specs.View.{stagedSections, blankStaged, stagedFor, stagedView}
 
 module _ (s : List ℕ) (x : Reading) (e : x ≡ readImage s) (size k j : ℕ) where
   abbrev Answer : Verdict → Type 0
@@ -31,10 +30,7 @@ module _ (s : List ℕ) (x : Reading) (e : x ≡ readImage s) (size k j : ℕ) w
 
   module _ (ok : x .verdict ≡ Accepted) where
     -- a refusal of the staged view itself
-    refused-by : (r : Refusal)
-        → choose (either (leb (readImage s .count) k) (leb (readImage s .count) j)) (refuse noSuchSection 0)
-        (choose (ltb sizeLimit (plainSize (stagedPlan s k size))) (refuse imageTooLong 0) Accepted) ≡ Refused r
-        → Answer (Refused r)
+    refused-by : (r : Refusal) → viewVerdict (readImage s .count) (stagedPlan s k size) k j ≡ Refused r → Answer (Refused r)
     unfolding stagedView stagedVerdict
     refused-by r h = let v = told-accepted s x e ok in simp (v, h)
 
@@ -66,12 +62,12 @@ module _ (s : List ℕ) (x : Reading) (e : x ≡ readImage s) (size k j : ℕ) w
         unfolding stagedVerdict
         accepted h = let v = told-accepted s x e ok in simp (v, there, there-too, long-is false h)
 
-        pub fine : Long false → record { verdict = x .verdict; flags = x .flags; sections = set (x .sections) k (moved (getD (x .sections) k blankSection) (length s) size) } ≡ stagedView s size k j
-        unfolding stagedView stagedSections
+        pub fine : Long false → record { verdict = x .verdict; flags = x .flags; sections = stagedSections (x .sections) k (length s) size } ≡ stagedView s size k j
+        unfolding stagedView
         fine h =
-            ap (λ (v : Verdict). record { verdict = v; flags = x .flags; sections = set (x .sections) k (moved (getD (x .sections) k blankSection) (length s) size) }) ok
-            ∙ ap (λ (y : Reading). stagedFor Accepted (y .flags) (set (y .sections) k (moved (getD (y .sections) k blankSection) (length s) size))) e
-            ∙ ap (λ (v : Verdict). stagedFor v (readImage s .flags) (set (readImage s .sections) k (moved (getD (readImage s .sections) k blankSection) (length s) size))) (sym (accepted h))
+            ap (λ (v : Verdict). record { verdict = v; flags = x .flags; sections = stagedSections (x .sections) k (length s) size }) ok
+            ∙ ap (λ (y : Reading). stagedFor Accepted (y .flags) (stagedSections (y .sections) k (length s) size)) e
+            ∙ ap (λ (v : Verdict). stagedFor v (readImage s .flags) (stagedSections (readImage s .sections) k (length s) size)) (sym (accepted h))
 
 -- ---- what the view says to a caller
 

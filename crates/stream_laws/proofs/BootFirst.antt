@@ -6,7 +6,6 @@ use mathlib.Core.Bool.{Bool, true, false, not}
 use mathlib.Core.List.{List, [], _∷_, _++_}
 use mathlib.Core.Logic.{⊎-elim}
 use native.Mathlib.Omega.{arith}
-use Rattle.octets.proofs.Over.{le-or-lt}
 use borrow.Author.Tests.{leb-true, ltb-true, lt-ltb, eq-eqb, ne-eqb}
 use lib.Dec.{eqb, ltb}
 use lib.ListN.{length, getD, take}
@@ -20,8 +19,10 @@ use Rattle.eif.specs.Stream.{laterRamdisk, keeps, kept, streamSections, section
 use Rattle.eif.specs.Acceptance.{MeetsRules}
 use Rattle.eif.specs.declared.Section.{Section}
 use Rattle.eif.specs.declared.Stream.the-variants.{Whole, Boot, App}
-use Rattle.octets.proofs.Logic.{both-true, equal-or-not, not-both}
-use Rattle.eif_lemmas.proofs.Table.{filled-at, filled-past}
+use Rattle.octets.proofs.Logic.{both-true, equal-or-not, not-both, le-or-lt}
+use Rattle.eif_lemmas.proofs.Accept.{section-is}
+use Rattle.eif_lemmas.proofs.Table.{filled-past}
+use Rattle.eif_laws.proofs.Acceptance.{accepted-exactly-when}
 use Rattle.stream_laws.specs.Sums.{ramdisksBefore}
 use Rattle.stream_laws.proofs.Sections.{later-in}
 
@@ -66,7 +67,6 @@ abbrev Early : ℕ → List Section → Type 0
 Early before l = (i : ℕ) → Single l i → before + ramdisksIn sectionKind (take i l) ≤ 1
 
 early-rest : (before : ℕ) (x : Section) (xs : List Section) → Early before (x ∷ xs) → Early (before + ramdiskIn (x .kind)) xs
-unfolding ramdisksIn
 early-rest before x xs h i q = let g = h (suc i) (after x xs i q) in omega arith
 
 nothing-after : (before : ℕ) (x : Section) (xs : List Section) → Early before (x ∷ xs) → laterRamdisk (x .kind) before ≡ true
@@ -91,7 +91,6 @@ whole-is-parts before (x ∷ xs) h =
 
 -- none among the first sections, if none of these is a ramdisk
 none-before : (l : List Section) (i : ℕ) → ((j : ℕ) → j < i → getD l j blankSection .kind ≡ ramdisk → ⊥) → ramdisksIn sectionKind (take i l) ≡ 0
-unfolding ramdisksIn
 none-before [] zero lacks = refl
 none-before [] (suc i) lacks = refl
 none-before (x ∷ xs) zero lacks = refl
@@ -102,7 +101,7 @@ none-before (x ∷ xs) (suc i) lacks =
 
 module _ (s : List ℕ) (meets : MeetsRules s) where
   place : (i : ℕ) → i < countOf s → getD (sectionsOf s) i blankSection ≡ sectionAt s i
-  place i h = filled-at (sectionAt s) blankSection blankSection placeCount (countOf s) i h (meets .known-count .1)
+  place = section-is s (accepted-exactly-when s .1 meets)
 
   used : (i : ℕ) → Single (sectionsOf s) i → i < countOf s
   used i h =

@@ -14,7 +14,7 @@ use Rattle.eif.specs.Reading.{verdictOf}
 use Rattle.eif.specs.Stream.{streamOf, streamPart, copyVerdict, copyAnswer, copyOutput}
 use Rattle.eif.specs.declared.Stream.{Stream}
 use Rattle.eif.specs.declared.Verdict.the-variants.{Accepted}
-use Rattle.octets.proofs.Over.{le-or-lt}
+use Rattle.octets.proofs.Logic.{le-or-lt}
 use Rattle.stream_laws.specs.Pieces.{copied, verdicts, room}
 
 -- ---- two parts of a list
@@ -79,7 +79,7 @@ module _ (s : List ℕ) (stream : Stream) where
 
     -- the pieces joined are the stream's part that the buffers have room for
     pub pieces-join : (from : ℕ) (ds : List (List ℕ)) → from ≤ length (streamOf s stream) → copied s stream from ds ≡ streamPart s stream from (room ds)
-    unfolding copied room
+    unfolding copied
     pieces-join from [] h = refl
     pieces-join from (d ∷ ds) h =
         rw (count-is from h d)

@@ -1,18 +1,19 @@
 -- The sections that a stream keeps: what holds of every section holds of them, the length of their data, and numbers of them added up.
 -- Assumes nothing.
 use Prim.Native.Nat.{ℕ, _+_, _≤_}
-use mathlib.Core.Path.{_≡_, refl, sym, ap, ap₂, _∙_}
+use mathlib.Core.Path.{_≡_, refl, sym, ap, _∙_}
 use mathlib.Core.Bool.{Bool, true, false, not}
-use mathlib.Core.List.{List, [], _∷_, _++_}
+use mathlib.Core.List.{List, [], _∷_, _++_, map}
 use native.Mathlib.Omega.{arith}
 use native.Mathlib.Nat.{add-zero, add-assoc}
 use borrow.Author.Tests.{eqb-true}
 use lib.Dec.{eqb, ltb}
-use lib.ListN.{length, length-append}
+use lib.ListN.{length}
 use Rattle.octets.proofs.Logic.{not-both}
-use Rattle.octets.specs.Lists.{All, joinedBy}
+use Rattle.octets.specs.Lists.{All, sumBy}
 use Rattle.eif.specs.Numbers.{ramdisk}
 use Rattle.octets.specs.Logic.{both, choose}
+use Rattle.octets.proofs.Lists.{joined-length, sum-same, all-map}
 use Rattle.eif.specs.Reading.{ramdiskIn, dataOf, ramdisksIn, sectionKind}
 use Rattle.eif.specs.Rules.{bootType}
 use Rattle.eif.specs.Stream.{laterRamdisk, keeps, kept, streamSections, sectionsData}
@@ -20,7 +21,7 @@ use Rattle.eif.specs.declared.Section.{Section}
 use Rattle.eif.specs.declared.Stream.{Stream}
 use Rattle.eif.specs.declared.Stream.the-variants.{Whole, Boot, App}
 use Rattle.eif_lemmas.proofs.Accept.{Inside, length-data}
-use Rattle.stream_laws.specs.Sums.{measuredIn, sumOf, lengthOf}
+use Rattle.stream_laws.specs.Sums.{lengthOf}
 
 -- ---- types
 
@@ -47,7 +48,7 @@ module _ {A : Type 0} (stream : Stream) (kindOf : A → ℕ) where
 
   -- of two lists joined
   pub kept-append : (before : ℕ) (k l : List A) → kept stream kindOf before (k ++ l) ≡ kept stream kindOf before k ++ kept stream kindOf (before + ramdisksIn kindOf k) l
-  unfolding kept ramdisksIn
+  unfolding kept
   kept-append before [] l = ap (λ (n : ℕ). kept stream kindOf n l) (sym (add-zero before))
   kept-append before (x ∷ xs) l =
       let next : ℕ = before + ramdiskIn (kindOf x) in
@@ -82,27 +83,32 @@ module _ {A : Type 0} (stream : Stream) (kindOf : A → ℕ) where
         let next : ℕ = before + ramdiskIn (kindOf x) in
         all-by x (kept stream kindOf next xs) (keeps stream (kindOf x) before) (a .0) (all-kept next xs (a .1))
 
+map-by : {A B : Type 0} (f : A → B) (b : Bool) (x : A) (l : List A) (r : List B) → map f l ≡ r → map f (choose b (x ∷ l) l) ≡ choose b (f x ∷ r) r
+map-by f true x l r e = ap (λ k. f x ∷ k) e
+map-by f false x l r e = e
+
+-- what is kept of what a function gives of each is that of what is kept
+pub kept-map : {A B : Type 0} (stream : Stream) (kindOf : B → ℕ) (f : A → B) (before : ℕ) (l : List A)
+    → map f (kept stream (λ x. kindOf (f x)) before l) ≡ kept stream kindOf before (map f l)
+unfolding kept
+kept-map stream kindOf f before [] = refl
+kept-map stream kindOf f before (x ∷ xs) =
+    let next : ℕ = before + ramdiskIn (kindOf (f x)) in
+    map-by f (keeps stream (kindOf (f x)) before) x (kept stream (λ y. kindOf (f y)) next xs) (kept stream kindOf next (map f xs)) (kept-map stream kindOf f next xs)
+
 pub all-stream : (P : Section → Type 0) (stream : Stream) (l : List Section) → All P l → All P (streamSections stream l)
 all-stream P stream l a = all-kept stream sectionKind P 0 l a
 
 -- ---- the length of data
 
 module _ (s : List ℕ) where
-  pub length-of-joined : (l : List Section) → length (sectionsData s l) ≡ sumOf (λ x. length (dataOf s x)) l
-  unfolding joinedBy sumOf
-  length-of-joined [] = refl
-  length-of-joined (x ∷ xs) = length-append (dataOf s x) (sectionsData s xs) ∙ ap (λ (n : ℕ). length (dataOf s x) + n) (length-of-joined xs)
-
-  pub length-joined : (l : List Section) → All (Inside s) l → length (sectionsData s l) ≡ sumOf lengthOf l
-  unfolding All joinedBy sumOf
-  length-joined [] a = refl
-  length-joined (x ∷ xs) a = length-append (dataOf s x) (sectionsData s xs) ∙ ap₂ (λ (m n : ℕ). m + n) (length-data s x (a .0)) (length-joined xs (a .1))
+  pub length-joined : (l : List Section) → All (Inside s) l → length (sectionsData s l) ≡ sumBy lengthOf l
+  length-joined l a = joined-length (dataOf s) l ∙ sum-same (λ x. length (dataOf s x)) lengthOf l (all-map (Inside s) _ (length-data s) l a)
 
 -- ---- numbers added up
 
 module _ (f : Section → ℕ) where
-  sum-by : (x : Section) (xs : List Section) (b : Bool) → sumOf f (choose b (x ∷ xs) xs) ≡ choose b (f x) 0 + sumOf f xs
-  unfolding sumOf
+  sum-by : (x : Section) (xs : List Section) (b : Bool) → sumBy f (choose b (x ∷ xs) xs) ≡ choose b (f x) 0 + sumBy f xs
   sum-by x xs true = refl
   sum-by x xs false = omega arith
 
@@ -113,8 +119,8 @@ module _ (f : Section → ℕ) where
   one-of false true n e = not-both (sym e)
   one-of false false n e = omega arith
 
-  pub sums-add : (before : ℕ) (l : List Section) → sumOf f (kept Boot sectionKind before l) + sumOf f (kept App sectionKind before l) ≡ sumOf f (kept Whole sectionKind before l)
-  unfolding kept keeps sumOf
+  pub sums-add : (before : ℕ) (l : List Section) → sumBy f (kept Boot sectionKind before l) + sumBy f (kept App sectionKind before l) ≡ sumBy f (kept Whole sectionKind before l)
+  unfolding kept keeps
   sums-add before [] = refl
   sums-add before (x ∷ xs) =
       let next : ℕ = before + ramdiskIn (x .kind) in
@@ -123,9 +129,3 @@ module _ (f : Section → ℕ) where
       let b = sum-by x (kept App sectionKind next xs) later in
       let d = sum-by x (kept Whole sectionKind next xs) (bootType (x .kind)) in
       omega (arith, one-of (bootType (x .kind)) later (f x) (later-in (x .kind) before (eqb (x .kind) ramdisk) refl), sums-add next xs)
-
--- Whole keeps the sections of the measured types
-pub whole-kept : (before : ℕ) (l : List Section) → kept Whole sectionKind before l ≡ measuredIn l
-unfolding kept keeps measuredIn
-whole-kept before [] = refl
-whole-kept before (x ∷ xs) = ap (λ (r : List Section). choose (bootType (x .kind)) (x ∷ r) r) (whole-kept (before + ramdiskIn (x .kind)) xs)

@@ -7,6 +7,7 @@ use Rattle.eif.specs.Stream.{copyAnswer, copyOutput}
 use Rattle.eif.specs.declared.Copied.{Copied}
 use Rattle.eif.specs.declared.Stream.{Stream}
 use Rattle.eif.specs.declared.Verdict.{Verdict}
+use Rattle.octets.specs.Lists.{sumBy}
 
 -- what a call from a position answers, for a buffer
 abbrev copyOf : List ℕ → Stream → ℕ → List ℕ → Copied
@@ -24,6 +25,5 @@ verdicts s stream from [] = []
 verdicts s stream from (d ∷ ds) = copyOf s stream from d .verdict ∷ verdicts s stream (from + copyOf s stream from d .count) ds
 
 -- the room that the buffers have together
-unfoldable pub room : List (List ℕ) → ℕ
-room [] = 0
-room (d ∷ ds) = length d + room ds
+abbrev pub room : List (List ℕ) → ℕ
+room ds = sumBy length ds

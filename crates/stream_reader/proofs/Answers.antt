@@ -1,6 +1,6 @@
 -- The answers of copying and of a stream's length, by what the image's verdict is and where the position stands.
 -- Assumes nothing.
-use Prim.Native.Nat.{ℕ, _-_, _<_, _≤_, min, _^_}
+use Prim.Native.Nat.{ℕ, _-_, _<_, _≤_, min, _^_, _*_}
 use mathlib.Core.Path.{_≡_, ap, _∙_}
 use mathlib.Core.List.{List}
 use native.Mathlib.Omega.{arith}
@@ -50,10 +50,20 @@ module _ (s : List ℕ) (list : StreamSections) (from : ℕ) (d : List ℕ) wher
 
 -- ---- from a stream of an image
 
--- the bytes of the listed sections of a stream
+-- the sections of a stream as they are listed, and their bytes
+pub listed-are : (stream : Stream) (l : List Section) → take (sectionsAnswer stream l .count) (sectionsAnswer stream l .sections) ≡ streamSections stream l
+unfolding sectionsAnswer
+listed-are stream l = take-table blankSection (streamSections stream l)
+
 pub listed-is : (s : List ℕ) (stream : Stream) (l : List Section) → listedBytes s (sectionsAnswer stream l) ≡ sectionsData s (streamSections stream l)
-unfolding listedBytes sectionsAnswer
-listed-is s stream l = ap (sectionsData s) (take-table blankSection (streamSections stream l))
+unfolding listedBytes
+listed-is s stream l = ap (sectionsData s) (listed-are stream l)
+
+-- no more than 32 images' bytes
+pub stream-bound : (s : List ℕ) (stream : Stream) (l : List Section) → length s ≤ sizeLimit → length l ≡ placeCount → length (sectionsData s (streamSections stream l)) ≤ placeCount * sizeLimit
+stream-bound s stream l h e =
+    let j = joined-bound s (streamSections stream l) sizeLimit h in
+    omega (arith, kept-fits stream sectionKind 0 l)
 
 module _ (s : List ℕ) (stream : Stream) where
   pub length-refused : (r : Refusal) → verdictOf s ≡ Refused r → lengthFor (Refused r) 0 ≡ lengthAnswer s stream
@@ -89,8 +99,7 @@ module _ (s : List ℕ) (r : Reading) (is : r ≡ readImage s) where
     stream-fits =
         let l = r .sections in
         let n : length l ≡ placeCount = ap length (sections-are s r is told) ∙ length-filled (section (viewOf s)) blankSection placeCount (countOf s) in
-        let k = kept-fits stream sectionKind 0 l in
-        let b = joined-bound s (streamSections stream l) sizeLimit (passes s ok .head .small) in
+        let b = stream-bound s stream l (passes s ok .head .small) n in
         omega (arith, ap length (listed-is s stream l))
 
     module _ (from : ℕ) (d : List ℕ) where

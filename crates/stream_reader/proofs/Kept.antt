@@ -12,6 +12,7 @@ use lib.Seq.{take-suc, set-at, length-take-le}
 use Rattle.eif.specs.Table.{inTable}
 use Rattle.eif.specs.Numbers.{placeCount}
 use Rattle.octets.specs.Logic.{choose}
+use Rattle.octets.proofs.Lists.{sum-append}
 use Rattle.eif.specs.Rules.{bootType}
 use Rattle.eif.specs.Reading.{ramdiskIn, blankSection, ramdisksIn, sectionKind}
 use Rattle.eif.specs.Stream.{laterRamdisk, keeps, kept}
@@ -39,9 +40,7 @@ module _ (kind before : ℕ) where
 -- ---- one place after the other
 
 ramdisks-snoc : (k : List Section) (x : Section) → ramdisksIn sectionKind (k ++ (x ∷ [])) ≡ ramdisksIn sectionKind k + ramdiskIn (x .kind)
-unfolding ramdisksIn
-ramdisks-snoc [] x = omega arith
-ramdisks-snoc (y ∷ ys) x = let r = ramdisks-snoc ys x in omega arith
+ramdisks-snoc k x = let e = sum-append (λ y. ramdiskIn (y .kind)) k (x ∷ []) in omega arith
 
 module _ (stream : Stream) (l : List Section) where
   -- what is kept of the first i places

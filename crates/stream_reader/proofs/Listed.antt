@@ -10,14 +10,13 @@ use native.Mathlib.Numerals.{add-one}
 use lib.ListN.{length, getD, take, drop, length-append, length-drop, length-take, drop-of-length-le}
 use lib.Seq.{take-suc, take-add, take-nil}
 use borrow.Rule.Slice.PartAt.{part-to-end}
-use Rattle.octets.proofs.Lists.{drop-both, take-min, drop-min}
+use Rattle.octets.proofs.Lists.{drop-both, take-min, drop-min, joined-append}
 use Rattle.octets.specs.Over.{over}
-use Rattle.octets.proofs.Over.{le-or-lt, length-over, over-append, over-out}
+use Rattle.octets.proofs.Logic.{le-or-lt}
+use Rattle.octets.proofs.Over.{length-over, over-append, over-out}
 use Rattle.eif.specs.Reading.{blankSection, dataOf}
 use Rattle.eif.specs.Stream.{sectionsData}
 use Rattle.eif.specs.declared.Section.{Section}
-use Rattle.octets.specs.Lists.{joinedBy}
-use Rattle.octets.proofs.Lists.{joined-append}
 
 -- as many elements as there are
 pub cut : {A : Type 0} (l : List A) (n k : ℕ) → k ≡ min n (length l) → take k l ≡ take n l
@@ -42,7 +41,6 @@ clipped s x start size e f =
 -- ---- one section after the other
 
 joined-one : (s : List ℕ) (x : Section) → sectionsData s (x ∷ []) ≡ dataOf s x
-unfolding joinedBy
 joined-one s x = append-nil (dataOf s x)
 
 module _ (s : List ℕ) (l : List Section) where
@@ -108,7 +106,6 @@ over-more o p d from skip done e f =
 -- ---- the length of all of it
 
 pub joined-bound : (s : List ℕ) (l : List Section) (bound : ℕ) → length s ≤ bound → length (sectionsData s l) ≤ length l * bound
-unfolding joinedBy
 joined-bound s [] bound h = omega arith
 joined-bound s (x ∷ xs) bound h =
     let r = joined-bound s xs bound h in

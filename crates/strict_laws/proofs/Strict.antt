@@ -2,12 +2,11 @@
 -- grammar says it; otherwise its answer is the ordinary one's, or 21. And its refusal is the first that applies in its order.
 -- Assumes nothing.
 use Prim.Native.Nat.{ℕ, zero, suc, _+_, _<_, _≤_}
-use mathlib.Core.Path.{_≡_, refl, sym, ap, ap₂, _∙_, subst}
+use mathlib.Core.Path.{_≡_, refl, sym, ap, ap₂, _∙_}
 use mathlib.Core.Bool.{Bool, true, false, not, false≢true}
 use mathlib.Core.List.{List}
 use mathlib.Core.Logic.{_⊎_, inl, inr, ⊎-elim}
 use native.Mathlib.Omega.{arith}
-use native.Mathlib.Nat.{eq-or-lt-of-le}
 use borrow.Author.Tests.{eq-eqb, eqb-true, not-true, not-false}
 use lib.Dec.{eqb}
 use Rattle.eif.specs.Table.{joinFrom}
@@ -17,7 +16,7 @@ use Rattle.json.specs.declared.JsonVerdict.the-variants.{Text, Fault}
 use Rattle.json_machine.specs.Machine.{jsonVerdict}
 use Rattle.json_laws.proofs.Laws.{accepted-exactly-when}
 use Rattle.eif.specs.Numbers.{metadata, metadataVersion}
-use Rattle.octets.specs.Logic.{both, choose}
+use Rattle.octets.specs.Logic.{both}
 use Rattle.eif.specs.Answers.{andThen}
 use Rattle.eif.specs.Layout.{viewOf, countOf, versionOf}
 use Rattle.eif.specs.Reading.{verdictOf, sectionAt, dataOf, readingOf, readView, readImage}
@@ -28,10 +27,11 @@ use Rattle.eif.specs.declared.Verdict.{Verdict}
 use Rattle.eif.specs.declared.Verdict.the-variants.{Accepted, Refused}
 use Rattle.octets.proofs.Logic.{both-true, true-or-false}
 use Rattle.eif_lemmas.proofs.Reading.{verdict-kept}
-use Rattle.eif_lemmas.proofs.Verdicts.{then-accepted, refused-not}
+use Rattle.eif_lemmas.proofs.Verdicts.{then-accepted, refused-not, refusal-none→, →refusal-none}
 use Rattle.eif_laws.proofs.Acceptance as acceptance
-use Rattle.eif_laws.proofs.FirstApplies.{first-append, read-first}
-use Rattle.strict_reader.specs.Strict.{MetadataIsJson, tellsText, notJson, refuseMetadata, metadataVerdict, strictVerdict, readStrict, metadataRules, strictRules}
+use Rattle.eif_laws.proofs.FirstApplies.{first-append, walk-first, read-first}
+use Rattle.eif.specs.Rules.{firstRefusal}
+use Rattle.strict_reader.specs.Strict.{MetadataIsJson, tellsText, notJson, refuseMetadata, metadataVerdict, strictVerdict, readStrict, metadataRules, strictRules, textVerdict}
 use Rattle.strict_laws.specs.Refused.{Refused21}
 
 -- ---- one section: the test says what the grammar says
@@ -68,21 +68,12 @@ module _ (s : List ℕ) (x : Section) where
 
 module _ (s : List ℕ) (sections : ℕ → Section) where
   all-pass→ : (n i : ℕ) → metadataVerdict s sections n i ≡ Accepted → (j : ℕ) → i ≤ j → j < i + n → notJson s (sections j) ≡ false
-  unfolding metadataVerdict
-  all-pass→ zero i e j a b = absurd (omega arith)
-  all-pass→ (suc n) i e j a b =
-      let t = refused-not _ _ _ e in
-      ⊎-elim
-      (λ p. subst (λ (k : ℕ). notJson s (sections k) ≡ false) p (t .0))
-      (λ l. all-pass→ n (suc i) (t .1) j l (omega arith))
-      (eq-or-lt-of-le a)
+  unfolding textVerdict
+  all-pass→ n i e j a b = refused-not _ _ _ (refusal-none→ (λ k. textVerdict s (sections k) k) n i e j a b) .0
 
   →all-pass : (n i : ℕ) → ((j : ℕ) → i ≤ j → j < i + n → notJson s (sections j) ≡ false) → metadataVerdict s sections n i ≡ Accepted
-  unfolding metadataVerdict
-  →all-pass zero i h = refl
-  →all-pass (suc n) i h =
-      let e = h i (omega arith) (omega arith) in
-      simp e (→all-pass n (suc i) (λ j a b. h j (omega arith) (omega arith)))
+  unfolding textVerdict
+  →all-pass n i h = →refusal-none (λ k. textVerdict s (sections k) k) n i (λ j a b. simp (h j a b))
 
   -- a section that fails, and the verdict on it
   pub record Fails (n i : ℕ) : Type 0 where
@@ -93,18 +84,18 @@ module _ (s : List ℕ) (sections : ℕ → Section) where
     pub verdict : metadataVerdict s sections n i ≡ refuseMetadata (sections index) index
 
   fails-here : (n i : ℕ) → notJson s (sections i) ≡ true → Fails (suc n) i
-  unfolding metadataVerdict
+  unfolding firstRefusal textVerdict
   fails-here n i e = record { index = i; from = omega arith; to = omega arith; fails = e; verdict = simp e }
 
   fails-later : (n i : ℕ) → notJson s (sections i) ≡ false → Fails n (suc i) → Fails (suc n) i
-  unfolding metadataVerdict
+  unfolding firstRefusal textVerdict
   fails-later n i e f =
       let a = f .from in
       let b = f .to in
       record { index = f .index; from = omega arith; to = omega arith; fails = f .fails; verdict = simp e (f .verdict) }
 
   pass-or-fail : (n i : ℕ) → (metadataVerdict s sections n i ≡ Accepted) ⊎ Fails n i
-  unfolding metadataVerdict
+  unfolding firstRefusal textVerdict
   pass-or-fail zero i = inl refl
   pass-or-fail (suc n) i =
       ⊎-elim
@@ -173,15 +164,14 @@ no-metadata-same s other = ⊎-elim (λ e. strict-same s e) (λ f. absurd (none 
 
 -- ---- the refusal is the first that applies
 
-metadata-first : (s : List ℕ) (n i : ℕ) → metadataVerdict s (sectionAt s) n i ≡ firstThatApplies (joinFrom (metadataRules s) n i)
-unfolding metadataVerdict joinFrom firstThatApplies
-metadata-first s zero i = refl
-metadata-first s (suc n) i = ap (choose (notJson s (sectionAt s i)) (refuseMetadata (sectionAt s i) i)) (metadata-first s n (suc i))
+metadata-first : (s : List ℕ) → firstThatApplies (joinFrom (metadataRules s) (countOf s) 0) ≡ metadataVerdict s (sectionAt s) (countOf s) 0
+unfolding textVerdict firstThatApplies
+metadata-first s = walk-first (λ v. v) refl (λ v w. refl) (metadataRules s) (λ j. textVerdict s (sectionAt s j) j) (λ i. refl) (countOf s) 0
 
 pub strict-first : (s : List ℕ) → strictVerdict s ≡ firstThatApplies (strictRules s)
 unfolding strictVerdict strictRules
 strict-first s =
-    ap₂ andThen (read-first s) (metadata-first s (countOf s) 0) ∙ sym (first-append (imageRules s) (joinFrom (metadataRules s) (countOf s) 0))
+    ap₂ andThen (read-first s) (sym (metadata-first s)) ∙ sym (first-append (imageRules s) (joinFrom (metadataRules s) (countOf s) 0))
 
 -- the reading carries that verdict
 pub strict-verdict : (s : List ℕ) → readStrict s .verdict ≡ strictVerdict s

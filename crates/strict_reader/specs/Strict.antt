@@ -1,7 +1,7 @@
 -- The stricter reading (FORMAT.md, Stricter reading): the ordinary one, and then 21 for a metadata section whose data is not one JSON
 -- text. What is a text is said by the grammar of the crate json; that the test here says the same: `strict_laws/Strict.strict-exactly-when`.
 -- Assumes nothing.
-use Prim.Native.Nat.{ℕ, zero, suc, _<_}
+use Prim.Native.Nat.{ℕ, _<_}
 use mathlib.Core.Path.{_≡_}
 use mathlib.Core.Bool.{Bool, true, false, not}
 use mathlib.Core.List.{List, [], _∷_, _++_}
@@ -21,6 +21,7 @@ use Rattle.eif.specs.declared.Reading.{Reading}
 use Rattle.eif.specs.declared.Section.{Section}
 use Rattle.eif.specs.declared.Verdict.{Verdict}
 use Rattle.eif.specs.declared.Verdict.the-variants.{Accepted}
+use Rattle.eif.specs.Rules.{firstRefusal}
 
 -- ---- what the stricter reading asks, with no order and no test
 
@@ -42,11 +43,13 @@ notJson s x = both (eqb (x .kind) metadata) (not (tellsText (jsonVerdict (dataOf
 abbrev pub refuseMetadata : Section → ℕ → Verdict
 refuseMetadata x i = refuseAt metadataNotJson i (x .position .0)
 
+-- at one section, which is the i-th
+unfoldable pub textVerdict : List ℕ → Section → ℕ → Verdict
+textVerdict s x i = choose (notJson s x) (refuseMetadata x i) Accepted
+
 -- at the n sections from place i on, given by place, up to the first that fails
-unfoldable pub metadataVerdict : List ℕ → (ℕ → Section) → ℕ → ℕ → Verdict
-metadataVerdict s sections zero i = Accepted
-metadataVerdict s sections (suc n) i =
-    choose (notJson s (sections i)) (refuseMetadata (sections i) i) (metadataVerdict s sections n (suc i))
+abbrev pub metadataVerdict : List ℕ → (ℕ → Section) → ℕ → ℕ → Verdict
+metadataVerdict s sections n i = firstRefusal (λ j. textVerdict s (sections j) j) n i
 
 -- ---- the reading
 

@@ -314,23 +314,9 @@ fn depth_cases() -> Vec<TextCase> {
         case("33 open, none closed", nested(objects, 33, 0), Some(past));
         case("1,000 open", nested(objects, 1000, 1000), Some(past));
     }
-    let text = [
-        b"[",
-        &nested(false, 31, 31)[..],
-        b",",
-        &nested(true, 31, 31)[..],
-        b"]",
-    ]
-    .concat();
-    case("32 open, twice", text, None);
-    let text = [
-        b"[",
-        &nested(false, 31, 31)[..],
-        b",",
-        &nested(false, 32, 32)[..],
-        b"]",
-    ]
-    .concat();
+    let after_31 = |second: &[u8]| [b"[", &nested(false, 31, 31)[..], b",", second, b"]"].concat();
+    case("32 open, twice", after_31(&nested(true, 31, 31)), None);
+    let text = after_31(&nested(false, 32, 32));
     case("33 open the second time", text, Some(1 + 62 + 1 + 31));
     case(
         "brackets in a string",

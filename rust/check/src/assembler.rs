@@ -1,7 +1,7 @@
 //! Records of transfers: shuffled, repeated, dropped, contradicting, foreign and damaged; states that no call made;
 //! and the library held to the twin on them.
 
-use crate::compare::{parts, same, twin_parts, Input};
+use crate::compare::{in_rust, parts, same, twin_parts, Input};
 use crate::{Call, Rng, Tally};
 use eif::assembler::PIECE_LENGTH as PIECE;
 use eif::raw::assembler::{self as raw, State, Stepped};
@@ -119,10 +119,8 @@ fn compare_rust(
     let (image, marks) = (before.image.lend(image), before.marks.lend(marks));
     let view = rust.step(input.bytes, image, marks).map_err(parts);
     let closed = (stepped.state.opened == 0).then_some(stepped.length as usize);
-    let expected = match stepped.number {
-        0 => Ok(closed),
-        number => Err((number, stepped.index, stepped.position)),
-    };
+    let numbers = (stepped.number, stepped.index, stepped.position);
+    let expected = in_rust(closed, numbers);
     same(input, "answer in Rust", view, expected);
     same(input, "state in Rust", State::from(rust), stepped.state);
     same(input, "buffers in Rust", &before, after);

@@ -4,7 +4,8 @@ use crate::strict::compare_strict;
 use crate::{Call, Message, Output, PlanInput, ReadingInput, Rng, Tally};
 use eif::raw::{self, Answer, Reading, RegistersAnswer, RollReading, StreamSections};
 use eif::{
-    DataLength, Digest, FilePosition, Refusal, RollPosition, SectionType, Stream, StreamPosition,
+    DataLength, Digest, FilePosition, Refusal, Registers, RollPosition, SectionType, Stream,
+    StreamPosition,
 };
 use eif_cases::MAX_SECTIONS;
 use eif_twin as twin;
@@ -55,6 +56,14 @@ pub(crate) fn twin_parts(refusal: twin::Refusal) -> Parts {
     (refusal.number, refusal.index, refusal.position)
 }
 
+/// What the Rust interface answers where the C interface answers these numbers and, accepted, this value.
+pub(crate) fn in_rust<T>(value: T, numbers: Parts) -> Result<T, Parts> {
+    match numbers {
+        (0, ..) => Ok(value),
+        refusal => Err(refusal),
+    }
+}
+
 fn twin_answer(answer: Result<u64, twin::Refusal>) -> Answer {
     match answer.map_err(twin_parts) {
         Ok(length) => Answer {
@@ -102,18 +111,21 @@ fn twin_stream(stream: Stream) -> twin::Stream {
     }
 }
 
+/// The reading beside a refusal: all else is zero, and there is no first ramdisk.
+pub fn refused_reading((number, index, position): Parts) -> Reading {
+    Reading {
+        number,
+        index,
+        position,
+        first_ramdisk: raw::NO_RAMDISK,
+        ..Reading::default()
+    }
+}
+
 pub(crate) fn twin_reading(answer: &Result<twin::Reading, twin::Refusal>) -> Reading {
     let reading = match answer {
         Ok(reading) => reading,
-        Err(refusal) => {
-            return Reading {
-                number: refusal.number,
-                index: refusal.index,
-                position: refusal.position,
-                first_ramdisk: raw::NO_RAMDISK,
-                ..Reading::default()
-            }
-        }
+        Err(refusal) => return refused_reading(twin_parts(*refusal)),
     };
     Reading {
         version: reading.version,
@@ -159,7 +171,7 @@ fn twin_roll_reading(answer: &Result<twin::Roll, twin::Refusal>) -> RollReading 
     }
 }
 
-pub(crate) fn twin_registers(answer: Result<[[u8; 48]; 3], twin::Refusal>) -> RegistersAnswer {
+fn twin_registers(answer: Result<[[u8; 48]; 3], twin::Refusal>) -> RegistersAnswer {
     match answer.map_err(twin_parts) {
         Ok(registers) => RegistersAnswer {
             registers: registers.map(Digest),
@@ -202,10 +214,8 @@ pub(crate) fn compare_output(
     let rust_answer = rust(rust_output.lend());
     let same_bytes = output == rust_output;
     assert!(same_bytes, "{what}: other output bytes, for {input}");
-    let expected = match answer.number {
-        0 => Ok(answer.length as usize),
-        number => Err((number, answer.index, answer.position)),
-    };
+    let numbers = (answer.number, answer.index, answer.position);
+    let expected = in_rust(answer.length as usize, numbers);
     same(input, what, rust_answer.map_err(parts), expected);
     answer.number
 }
@@ -251,7 +261,22 @@ pub(crate) fn compare_length(
     c.number
 }
 
-/// Reads an image, takes its streams and writes its roll.
+/// Holds registers to the twin's, by the C interface and the Rust interface. Answers the answer number.
+pub(crate) fn compare_registers(
+    input: &Input,
+    what: &str,
+    c: RegistersAnswer,
+    rust: Result<Registers, Refusal>,
+    twin: Result<[[u8; 48]; 3], twin::Refusal>,
+) -> u8 {
+    same(input, what, c, twin_registers(twin));
+    let expected = in_rust(c.registers, (c.number, c.index, c.position));
+    let rust = rust.map(|registers| registers.0).map_err(parts);
+    same(input, what, rust, expected);
+    c.number
+}
+
+/// Reads an image, takes its streams, writes its roll and computes its registers.
 pub fn compare_image(rng: &mut Rng, ordinal: u64, image: &[u8], tally: &mut Tally) {
     let input = &Input {
         kind: "image",
@@ -276,7 +301,14 @@ pub fn compare_image(rng: &mut Rng, ordinal: u64, image: &[u8], tally: &mut Tall
     }
 
     compare_roll_of(rng, input, tally);
-    compare_registers(input, tally);
+    let number = compare_registers(
+        input,
+        "registers",
+        raw::registers(image),
+        eif::registers(image),
+        twin::registers(image),
+    );
+    tally.add(Call::Registers, number);
 }
 
 /// Measures and writes the roll of an image.
@@ -303,19 +335,6 @@ fn compare_roll_of(rng: &mut Rng, input: &Input, tally: &mut Tally) {
         |out| twin::write_roll(image, out),
     );
     tally.add(Call::RollWrite, number);
-}
-
-fn compare_registers(input: &Input, tally: &mut Tally) {
-    let answer = raw::registers(input.bytes);
-    let twin_answer = twin_registers(twin::registers(input.bytes));
-    same(input, "registers", answer, twin_answer);
-    let expected = match answer.number {
-        0 => Ok(answer.registers),
-        number => Err((number, answer.index, answer.position)),
-    };
-    let rust = eif::registers(input.bytes).map(|registers| registers.0);
-    same(input, "registers", rust.map_err(parts), expected);
-    tally.add(Call::Registers, answer.number);
 }
 
 /// The Rust interface's view of an image.
@@ -358,16 +377,11 @@ fn any_position(rng: &mut Rng, length: u64) -> u64 {
 fn compare_stream(rng: &mut Rng, input: &Input, stream: Stream, tally: &mut Tally) {
     let image = input.bytes;
     let twin_stream = twin_stream(stream);
-    let answer = match stream {
-        Stream::Whole => raw::whole_length(image),
-        Stream::Boot => raw::boot_length(image),
-        Stream::App => raw::app_length(image),
-    };
     let length = twin::stream_length(image, twin_stream);
     let number = compare_length(
         input,
         "stream length",
-        answer,
+        raw::stream_length(image, stream),
         eif::stream_length(image, stream).map(|length| length.0 as usize),
         length.map(|length| length as usize),
     );
@@ -381,11 +395,7 @@ fn compare_stream(rng: &mut Rng, input: &Input, stream: Stream, tally: &mut Tall
         input,
         "stream copy",
         (rng.output_length(rest), rng.next() as u8),
-        |out| match stream {
-            Stream::Whole => raw::copy_whole(image, StreamPosition(from), out),
-            Stream::Boot => raw::copy_boot(image, StreamPosition(from), out),
-            Stream::App => raw::copy_app(image, StreamPosition(from), out),
-        },
+        |out| raw::copy_stream(image, stream, StreamPosition(from), out),
         |out| eif::copy_stream(image, stream, StreamPosition(from), out),
         |out| twin::copy_stream(image, twin_stream, from, out),
     );
@@ -394,11 +404,7 @@ fn compare_stream(rng: &mut Rng, input: &Input, stream: Stream, tally: &mut Tall
 
 /// The sections of a stream, of any reading.
 fn compare_sections(input: &Input, reading: &Reading, stream: Stream) -> StreamSections {
-    let list = match stream {
-        Stream::Whole => raw::whole_sections(*reading),
-        Stream::Boot => raw::boot_sections(*reading),
-        Stream::App => raw::app_sections(*reading),
-    };
+    let list = raw::stream_sections(*reading, stream);
     let all = reading.sections.each_ref().map(twin_section);
     let kept = twin::stream_sections(&all, twin_stream(stream));
     let twin = StreamSections {

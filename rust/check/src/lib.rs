@@ -26,7 +26,8 @@ mod texts;
 pub use arriving::{compare_arriving, compare_arriving_state, state_of, LENGTHS};
 pub use assembler::{compare_transfer, compare_transfer_call, TransferBuffers};
 pub use compare::{
-    compare_image, compare_message, compare_plan, compare_reading, compare_roll, parts, Parts,
+    compare_image, compare_message, compare_plan, compare_reading, compare_roll, parts,
+    refused_reading, Parts,
 };
 pub use images::{accepted_layout, any_image, any_image_of};
 pub use messages::{any_message, Message};

@@ -1,7 +1,7 @@
 //! A base with one section replaced: generated inputs, and the library's answers held to the twin's.
 
 use crate::compare::{
-    compare_length, compare_output, parts, same, twin_parts, twin_registers, Input,
+    compare_length, compare_output, compare_registers, parts, same, twin_parts, Input,
 };
 use crate::{accepted_layout, any_image, any_image_of, Call, Rng, Tally};
 use eif::raw::staged::{self as raw, StagedPart};
@@ -175,7 +175,14 @@ pub fn compare_staged(rng: &mut Rng, ordinal: u64, given: &StagedInput, tally: &
 
     let length = afresh.and_then(|image| twin::roll_length(&image));
     compare_staged_roll(rng, input, given, length, tally);
-    compare_staged_registers(input, replacement, replaced, tally);
+    let number = compare_registers(
+        input,
+        "staged registers",
+        raw::staged_registers(base, replacement, replaced),
+        staged::registers(base, replacement, replaced as usize),
+        twin::staged_registers(base, replacement, replaced),
+    );
+    tally.add(Call::StagedRegisters, number);
 }
 
 fn compare_staged_roll(
@@ -203,19 +210,4 @@ fn compare_staged_roll(
         |out| twin::write_staged_roll(base, replacement, replaced, out),
     );
     tally.add(Call::StagedRollWrite, number);
-}
-
-fn compare_staged_registers(input: &Input, replacement: &[u8], replaced: u64, tally: &mut Tally) {
-    let base = input.bytes;
-    let answer = raw::staged_registers(base, replacement, replaced);
-    let expected = twin_registers(twin::staged_registers(base, replacement, replaced));
-    same(input, "staged registers", answer, expected);
-    let expected = match answer.number {
-        0 => Ok(answer.registers),
-        number => Err((number, answer.index, answer.position)),
-    };
-    let rust = staged::registers(base, replacement, replaced as usize);
-    let rust = rust.map(|registers| registers.0).map_err(parts);
-    same(input, "staged registers", rust, expected);
-    tally.add(Call::StagedRegisters, answer.number);
 }

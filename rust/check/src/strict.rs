@@ -1,6 +1,6 @@
 //! JSON texts and strict readings held to the twin's.
 
-use crate::compare::{parts, same, twin_reading, Input};
+use crate::compare::{in_rust, parts, same, twin_reading, Input};
 use crate::{Call, Tally};
 use eif::raw;
 use eif_twin as twin;
@@ -48,10 +48,8 @@ pub(crate) fn compare_strict(input: &Input, tally: &mut Tally) {
     }
     let rust = eif::read_strict(input.bytes);
     let rust = rust.map(|image| (image.bytes(), image.sections().len()));
-    let expected = match answer.number {
-        0 => Ok((input.bytes, usize::from(answer.count))),
-        number => Err((number, answer.index, answer.position)),
-    };
+    let numbers = (answer.number, answer.index, answer.position);
+    let expected = in_rust((input.bytes, usize::from(answer.count)), numbers);
     same(
         input,
         "strict reading in Rust",

@@ -7,7 +7,7 @@ use eif_cases::{
     two_sections, worked_image, Layout, Section, ACCEPTED, CHECKSUM_AT, FLAGS_RECORD, HEADER,
     RECORD_HEAD, SECTION_HEADER, WORKED_LENGTH, WORKED_OFFSETS, WORKED_ROLL,
 };
-use eif_check::parts;
+use eif_check::{parts, refused_reading};
 use std::io::Read;
 
 fn worked_plan() -> Plan {
@@ -127,17 +127,10 @@ fn rolls() {
 fn images() {
     for case in image_cases() {
         let reading = raw::read(&case.image);
-        let (number, index, position) = (reading.number, reading.index, reading.position);
-        assert_eq!((number, index, position), case.answer, "{}", case.name);
-        if case.answer != ACCEPTED {
-            let refused = raw::Reading {
-                number,
-                index,
-                position,
-                first_ramdisk: raw::NO_RAMDISK,
-                ..raw::Reading::default()
-            };
-            assert_eq!(reading, refused, "{}", case.name);
+        let answer = (reading.number, reading.index, reading.position);
+        assert_eq!(answer, case.answer, "{}", case.name);
+        if answer != ACCEPTED {
+            assert_eq!(reading, refused_reading(answer), "{}", case.name);
         }
     }
 }
@@ -230,9 +223,10 @@ fn a_refused_image_has_no_stream_sections() {
     for case in cases.iter().filter(|case| case.answer != ACCEPTED) {
         let reading = raw::read(&case.image);
         let none = raw::StreamSections::default();
-        assert_eq!(raw::whole_sections(reading), none, "{}", case.name);
-        assert_eq!(raw::boot_sections(reading), none, "{}", case.name);
-        assert_eq!(raw::app_sections(reading), none, "{}", case.name);
+        for stream in Stream::ALL {
+            let list = raw::stream_sections(reading, stream);
+            assert_eq!(list, none, "{} {stream}", case.name);
+        }
     }
 }
 
@@ -276,10 +270,10 @@ fn lengths_beside_a_refusal_are_zero() {
     assert_eq!(raw::roll_write(&image, &mut out), refused(14));
     assert_eq!(raw::roll_write(&[], &mut out), refused(2));
     assert_eq!(
-        raw::copy_app(&image, StreamPosition(1), &mut out),
+        raw::copy_stream(&image, Stream::App, StreamPosition(1), &mut out),
         refused(19)
     );
-    assert_eq!(raw::whole_length(&[]), refused(2));
+    assert_eq!(raw::stream_length(&[], Stream::Whole), refused(2));
     assert_eq!(raw::write(raw::Plan::default(), &[], &mut out), refused(4));
     assert_eq!(raw::roll_read(&[]).count, 0);
     assert_eq!(out, [0xaa; 53]);

@@ -6,7 +6,8 @@
 use eif::{json, raw};
 use eif_cases::{image_cases, strict_cases, text_cases, Layout, Section, ACCEPTED};
 use eif_check::{
-    any_text, compare_image, compare_text, in_threads, json_text, variable, Rng, Tally,
+    any_text, compare_image, compare_text, in_threads, json_text, refused_reading, variable, Rng,
+    Tally,
 };
 use std::io::{self, Write};
 use std::path::Path;
@@ -244,16 +245,9 @@ fn strict_readings() {
     }
     for case in strict_cases() {
         let reading = raw::read_strict(&case.image);
-        let (number, index, position) = case.answer;
-        let expected = match number {
-            0 => raw::read(&case.image),
-            number => raw::Reading {
-                number,
-                index,
-                position,
-                first_ramdisk: raw::NO_RAMDISK,
-                ..raw::Reading::default()
-            },
+        let expected = match case.answer {
+            (0, ..) => raw::read(&case.image),
+            refusal => refused_reading(refusal),
         };
         assert_eq!(reading, expected, "{}", case.name);
     }

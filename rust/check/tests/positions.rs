@@ -4,7 +4,7 @@
 use eif::raw;
 use eif::{Arriving, DataLength, Place, Plan, Refusal, SectionType, Stream, StreamPosition};
 use eif_cases::{located_images, located_plans, located_rolls, worked_image, Answer};
-use eif_check::parts;
+use eif_check::{parts, refused_reading};
 
 /// Every number in the answers, once.
 fn numbers(answers: impl Iterator<Item = Answer>) -> Vec<u8> {
@@ -56,13 +56,7 @@ fn images() {
 fn all_else_is_zero() {
     for case in located_images() {
         let (number, index, position) = case.answer;
-        let reading = raw::Reading {
-            number,
-            index,
-            position,
-            first_ramdisk: raw::NO_RAMDISK,
-            ..raw::Reading::default()
-        };
+        let reading = refused_reading(case.answer);
         assert_eq!(raw::read(&case.image), reading, "{}", case.name);
         let registers = raw::RegistersAnswer {
             number,

@@ -1,5 +1,6 @@
 //! Reading inputs: files, and standard input by the name `-`.
 
+use crate::args::Args;
 use crate::progress::Progress;
 use crate::status::{complain, Status, Trouble};
 use crate::words;
@@ -81,8 +82,20 @@ pub fn arrive(name: &OsStr, keep: Keep) -> Result<Arrived, Trouble> {
     })
 }
 
+/// The option of a subcommand that can read strictly.
+pub const STRICT: &str = "--strict";
+
+/// How such a subcommand has its inputs read: strictly where it is told so, and otherwise while they arrive.
+pub fn reader(args: &Args, keep: Keep) -> impl Fn(&OsStr) -> Result<Arrived, Trouble> {
+    let strict = args.has(STRICT);
+    move |name| match strict {
+        true => read_strictly(name),
+        false => arrive(name, keep),
+    }
+}
+
 /// Has an input read strictly. Its metadata is looked at, so its bytes are kept.
-pub fn read_strictly(name: &OsStr) -> Result<Arrived, Trouble> {
+fn read_strictly(name: &OsStr) -> Result<Arrived, Trouble> {
     let Input { name, bytes } = read(name)?;
     let answer = eif::read_strict(&bytes).map(|image| (*image).clone());
     Ok(Arrived {

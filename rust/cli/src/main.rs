@@ -8,6 +8,7 @@ mod args;
 mod commands;
 mod content;
 mod disk;
+mod help;
 mod input;
 mod json;
 mod objects;
@@ -51,7 +52,7 @@ fn run(words: &[OsString]) -> Result<Status, Trouble> {
     };
     let args = args::parse(&command.options, rest)?;
     if args.has("--help") {
-        return output::print(command.help.as_bytes()).map(|()| Status::Fine);
+        return output::print(command.help.concat().as_bytes()).map(|()| Status::Fine);
     }
     (command.run)(args)
 }

@@ -194,10 +194,7 @@ fn an_image_that_is_refused() {
     fs::remove_file(folder.path("out")).unwrap();
     let both = [folder.get("bad"), folder.get("sent")].concat();
     let ended = folder.eif_with_input("assemble --output out", &both);
-    assert_eq!(ended.status, 0);
-    assert!(ended
-        .text()
-        .ends_with("what to do: fetch it again\nout: accepted\n"));
+    ended.ends(0, "what to do: fetch it again\nout: accepted\n");
     is_whole(&folder, &image);
 }
 
@@ -432,9 +429,6 @@ fn nothing_at_all() {
     assert!(folder.names().is_empty());
     let sent = [open_record(0), close_record()].concat();
     let ended = folder.eif_with_input("assemble --output out", &sent);
-    assert_eq!(ended.status, 1);
-    assert!(ended
-        .text()
-        .starts_with("out.part: refused 2 at 0 byte 0: "));
+    ended.starts(1, "out.part: refused 2 at 0 byte 0: ");
     assert_eq!(folder.names(), ["out.part"]);
 }

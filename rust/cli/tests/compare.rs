@@ -71,9 +71,8 @@ fn the_samples_are_the_accident() {
         names[0].as_os_str(),
         names[1].as_os_str(),
     ]);
-    assert_eq!(ended.status, 1);
     let line = "the same ramdisks in another order: A has 3, 4; B has 4, 3";
-    assert!(ended.text().contains(line), "{}", ended.text());
+    ended.has(1, line);
 }
 
 #[test]
@@ -172,12 +171,17 @@ not part of the roll:
     assert_eq!((status, &text[..]), (0, expected));
 }
 
+/// An image, and the same with these flags.
+fn with_flags(flags: u16) -> [Layout; 2] {
+    let a = of_ramdisks(&[b"r"]);
+    let b = Layout { flags, ..a.clone() };
+    [a, b]
+}
+
 /// The same kernel, command line and ramdisks for the other processor are not the same boot content.
 #[test]
 fn another_architecture_is_named() {
-    let a = of_ramdisks(&[b"r"]);
-    let mut b = a.clone();
-    b.flags = 1;
+    let [a, mut b] = with_flags(1);
     let first = "first difference, record 0: A has flags 0x0000 (x86_64); \
                  B has flags 0x0001 (aarch64): another architecture";
     assert_eq!(differences(&a, &b), [first]);
@@ -191,9 +195,7 @@ fn another_architecture_is_named() {
 /// All sixteen flags are compared, not the processor alone.
 #[test]
 fn other_flags_are_named() {
-    let a = of_ramdisks(&[b"r"]);
-    let mut b = a.clone();
-    b.flags = 0x8000;
+    let [a, b] = with_flags(0x8000);
     let first = "first difference, record 0: A has flags 0x0000 (x86_64); \
                  B has flags 0x8000 (x86_64): other flags";
     assert_eq!(differences(&a, &b), [first]);
@@ -207,10 +209,9 @@ fn a_saved_roll_of_another_architecture() {
     folder.pack("b", &["old"], "--arch aarch64 --force");
     folder.eif("roll a --output a.roll").says(0, "");
     let ended = folder.eif("compare a.roll b");
-    assert_eq!(ended.status, 1);
     let line = "first difference, record 0: A has flags 0x0000 (x86_64); \
                 B has flags 0x0001 (aarch64): another architecture\n";
-    assert!(ended.text().contains(line), "{}", ended.text());
+    ended.has(1, line);
     assert!(!ended.text().contains("next difference"));
 }
 
@@ -250,12 +251,10 @@ fn a_padded_image_is_refused() {
     folder.put("a", padded.image());
     padded.sections[2].gap = 1 << 20;
     folder.put("b", padded.image());
+    let refused =
+        "b: refused 20 at 2 byte 44: section not packed, or bytes after the last section\n";
     for words in ["compare a b", "compare b a"] {
-        let ended = folder.eif(words);
-        assert_eq!(ended.status, 1);
-        let refused =
-            "b: refused 20 at 2 byte 44: section not packed, or bytes after the last section\n";
-        assert!(ended.text().starts_with(refused), "{}", ended.text());
+        folder.eif(words).starts(1, refused);
     }
 }
 
@@ -269,12 +268,10 @@ fn a_saved_roll_stands_for_its_image() {
     let same = format!("same boot content\nA is a\nB is a.roll\nB is a roll: {rest}");
     folder.eif("compare a a.roll").says(0, &same);
     let ended = folder.eif("compare a.roll b");
-    assert_eq!(ended.status, 1);
-    let lines = ended.text();
-    assert!(
-        lines.contains("A has record 3 (ramdisk, 9 bytes); B has section 3 (ramdisk, 23 bytes)")
-    );
-    assert!(lines.contains("the same ramdisks in another order: A has 3, 4; B has 4, 3"));
+    let line = "A has record 3 (ramdisk, 9 bytes); B has section 3 (ramdisk, 23 bytes)";
+    ended.has(1, line);
+    let line = "the same ramdisks in another order: A has 3, 4; B has 4, 3";
+    ended.has(1, line);
     let rolls = folder.eif("compare a.roll a.roll");
     let same = format!("same boot content\nA is a.roll\nB is a.roll\nA and B are rolls: {rest}");
     rolls.says(0, &same);
@@ -292,14 +289,7 @@ fn a_refused_file_is_no_match() {
     folder.put("cut", &roll[..roll.len() - 1]);
     for words in ["compare a cut", "compare cut a", "compare cut cut"] {
         let ended = folder.eif(words);
-        assert_eq!(ended.status, 1);
-        assert!(
-            ended.text().starts_with("cut: refused 2 at 0 byte 0: "),
-            "{}",
-            ended.text()
-        );
-        assert!(ended
-            .text()
-            .contains("as a boot roll: refused 16 at 4 byte 66: "));
+        ended.starts(1, "cut: refused 2 at 0 byte 0: ");
+        ended.has(1, "as a boot roll: refused 16 at 4 byte 66: ");
     }
 }

@@ -70,9 +70,7 @@ fn ramdisks_of_1_mib() {
         .says(0, "a: accepted\nb: accepted\n");
     folder.eif("extract a 3 --output back").says(0, "");
     assert!(folder.get("back") == folder.get("two"));
-    let ended = folder.eif("compare a b");
-    assert_eq!(ended.status, 1);
-    assert!(ended.text().contains("A has 2, 3; B has 3, 2"));
+    folder.eif("compare a b").has(1, "A has 2, 3; B has 3, 2");
 }
 
 #[test]
@@ -144,12 +142,8 @@ fn large_the_longest_image() {
     assert_eq!(folder.eif("show --json longest").status, 0);
     folder.eif("roll longest --output roll").says(0, "");
     let said = folder.eif("compare longest roll");
-    assert!(said.text().starts_with("same boot content\n"));
-    assert_eq!(said.status, 0);
-    assert!(folder
-        .eif("show roll")
-        .text()
-        .starts_with("roll: boot roll\n"));
+    said.starts(0, "same boot content\n");
+    folder.eif("show roll").starts(0, "roll: boot roll\n");
     folder.put_sparse("zeros", [], zeros);
     folder.eif("extract longest 1 --output kernel").says(0, "");
     let same = Command::new("cmp")

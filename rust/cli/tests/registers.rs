@@ -95,8 +95,7 @@ fn a_roll_is_no_image() {
     folder.pack("image", &["old"], "");
     folder.eif("roll image --output roll").says(0, "");
     let ended = folder.eif("registers roll");
-    assert_eq!(ended.status, 1);
-    assert!(ended.text().starts_with("roll: refused 2 at 0 byte 0: "));
+    ended.starts(1, "roll: refused 2 at 0 byte 0: ");
 }
 
 /// The keys and values that `nitro-cli describe-eif` prints.

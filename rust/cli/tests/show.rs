@@ -174,9 +174,7 @@ fn every_number_of_the_roll_reader_is_told() {
              byte {position}: {place}\n    \
              what to do: {advice}\n"
         );
-        let ended = folder.eif("show roll");
-        assert_eq!(ended.status, 1);
-        assert!(ended.text().ends_with(&lines), "{}", ended.text());
+        folder.eif("show roll").ends(1, &lines);
     }
 }
 
@@ -251,9 +249,7 @@ fn a_roll_of_the_old_form_is_told_so() {
          from its image\n"
     );
     for words in ["show old.roll", "compare old.roll packed.eif"] {
-        let ended = folder.eif(words);
-        assert_eq!(ended.status, 1);
-        assert!(ended.text().ends_with(&lines), "{}", ended.text());
+        folder.eif(words).ends(1, &lines);
     }
 }
 
@@ -302,10 +298,9 @@ fn every_number_of_the_reader_is_told() {
         let (meaning, advice) = (reason.meaning(), reason.advice());
         let line = format!("case.eif: refused {number} at {index} byte {position}: {meaning}\n");
         ended.says(1, &line);
-        let shown = folder.eif("show case.eif");
         let place = place(case.answer);
         let lines = format!("{line}  byte {position}: {place}\n  what to do: {advice}\n");
-        assert!(shown.text().starts_with(&lines), "{}", shown.text());
+        folder.eif("show case.eif").starts(1, &lines);
     }
 }
 

@@ -79,9 +79,7 @@ fn a_claim_that_differs() {
         let parts = claim(0, claimed);
         folder.put("image", image(&section(&[&parts.bytes()])));
         let lines = claim_lines(0, &claimed, &value, "differs");
-        let ended = folder.eif("signature image");
-        assert_eq!(ended.status, 1);
-        assert!(ended.text().ends_with(&lines), "{}", ended.text());
+        folder.eif("signature image").ends(1, &lines);
     }
 }
 
@@ -96,9 +94,7 @@ fn a_register_that_is_not_computed() {
             "    claimed   PCR{index} {value}\n    PCR{index} is not computed here: only PCR0, PCR1 and PCR2 \
              are\n    not compared, not verified\n"
         );
-        let ended = folder.eif("signature image");
-        assert_eq!(ended.status, 1);
-        assert!(ended.text().ends_with(&lines), "{}", ended.text());
+        folder.eif("signature image").ends(1, &lines);
     }
 }
 
@@ -137,10 +133,8 @@ fn every_algorithm_and_byte_strings() {
         let certificate = Item::Bytes(vec![0x30; 1000]);
         let entry = entry(certificate, Item::Bytes(parts.bytes()));
         folder.put("image", image(&encode(&Item::Array(vec![entry]))));
-        let ended = folder.eif("signature image");
-        assert_eq!(ended.status, 0);
         let line = format!("\n  signature 0: {name}, certificate of 1000 bytes\n");
-        assert!(ended.text().contains(&line), "{}", ended.text());
+        folder.eif("signature image").has(0, &line);
     }
 }
 
@@ -157,11 +151,8 @@ fn without_a_signature() {
     let refusal = eif::read(&worked_image()[..585]).unwrap_err();
     let advice = refusal.reason().advice();
     let ended = folder.eif("signature image");
-    assert_eq!(ended.status, 1);
-    assert!(ended.text().starts_with(&format!("image: {refusal}\n")));
-    assert!(ended
-        .text()
-        .ends_with(&format!("\n  what to do: {advice}\n")));
+    ended.starts(1, &format!("image: {refusal}\n"));
+    ended.ends(1, &format!("\n  what to do: {advice}\n"));
 }
 
 /// Sections, where in their data they are at fault, and what should be there.
@@ -242,8 +233,7 @@ fn a_long_section_is_a_line() {
         "at byte {} there should be the section's end, as the specification allows 32,768 bytes\n",
         DATA_AT + 32_768
     );
-    assert_eq!(ended.status, 1);
-    assert!(ended.text().contains(&line), "{}", ended.text());
+    ended.has(1, &line);
 }
 
 /// Whatever the section holds, the command answers: `common` sees that it does not panic.
@@ -392,8 +382,7 @@ fn the_sample_is_signed() {
     folder.put("image", &sample);
     folder.put("a", std::fs::read(repository("samples/a.eif")).unwrap());
     let ended = folder.eif("signature image");
-    assert_eq!(ended.status, 0);
-    assert!(ended.text().ends_with("\n    equal, not verified\n"));
+    ended.ends(0, "\n    equal, not verified\n");
     assert_eq!(folder.eif("compare image a").status, 0);
     let image = eif::read(&sample).unwrap();
     let (certificate, parts) = only_signature(image.section_data(5));

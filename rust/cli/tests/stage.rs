@@ -176,8 +176,7 @@ fn a_staged_pair_is_compared() {
     // With a saved roll, and from a pipe.
     folder.eif("roll afresh --output roll").says(0, "");
     let ended = folder.eif_with_input("compare roll base --replace 4=-", &folder.get("mended"));
-    assert_eq!(ended.status, 0);
-    assert!(ended.text().starts_with(same), "{}", ended.text());
+    ended.starts(0, same);
 }
 
 /// The accident, seen before an image is written: the ramdisk that A has at 4 stands for that at 3.
@@ -188,8 +187,7 @@ fn another_order_is_seen() {
     folder.pack("b", &["new", "new"], "");
     let ended = folder.eif("compare a b --replace 3=old");
     let line = "the same ramdisks in another order: A has 2, 3; B has 3, 2";
-    assert_eq!(ended.status, 1);
-    assert!(ended.text().contains(line), "{}", ended.text());
+    ended.has(1, line);
 }
 
 /// Of a section that is in no roll, its data and length as they would be.
@@ -220,12 +218,10 @@ fn what_is_not_part_of_the_roll() {
 fn a_staged_side_that_is_refused() {
     let folder = with_images();
     let ended = folder.eif("compare base base --replace 5=mended");
-    assert_eq!(ended.status, 1);
     let start = "base with section 5 replaced by mended: refused 27 at 0 byte 0: ";
-    assert!(ended.text().starts_with(start), "{}", ended.text());
+    ended.starts(1, start);
     // A roll has no sections to replace.
     folder.eif("roll base --output roll").says(0, "");
     let ended = folder.eif("compare base roll --replace 4=mended");
-    assert_eq!(ended.status, 1);
-    assert!(ended.text().starts_with("roll: refused 2 at 0 byte 0: "));
+    ended.starts(1, "roll: refused 2 at 0 byte 0: ");
 }

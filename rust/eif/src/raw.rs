@@ -5,7 +5,7 @@
 //! pointer and length be a slice's and that an output overlap no input, which the types here see to.
 
 use crate::{
-    DataLength, Digest, FilePosition, Place, RollPosition, SectionType, StreamPosition,
+    DataLength, Digest, FilePosition, Place, RollPosition, SectionType, Stream, StreamPosition,
     DIGEST_LENGTH, HEADER_LENGTH, MAX_SECTIONS, REGISTERS, SECTION_HEADER_LENGTH,
 };
 use std::mem::{align_of, offset_of, size_of};
@@ -155,8 +155,7 @@ pub struct RollReading {
     pub records: [RollRecord; MAX_SECTIONS],
 }
 
-/// The sections of a stream: what [`whole_sections`], [`boot_sections`] and [`app_sections`] answer and
-/// [`copy_sections`] takes.
+/// The sections of a stream: what [`stream_sections`] answers and [`copy_sections`] takes.
 #[repr(C)]
 #[derive(Clone, Copy, Debug, Default, PartialEq, Eq)]
 pub struct StreamSections {
@@ -431,52 +430,35 @@ pub fn write(plan: Plan, data: &[u8], out: &mut [u8]) -> Answer {
     unsafe { c::eif_write(plan, data.as_ptr(), data.len(), out.as_mut_ptr(), out.len()) }
 }
 
-/// `eif_whole_length`.
-pub fn whole_length(image: &[u8]) -> Answer {
-    of_slice(c::eif_whole_length, image)
+/// `eif_whole_length`, `eif_boot_length` or `eif_app_length`.
+pub fn stream_length(image: &[u8], stream: Stream) -> Answer {
+    let length = match stream {
+        Stream::Whole => c::eif_whole_length,
+        Stream::Boot => c::eif_boot_length,
+        Stream::App => c::eif_app_length,
+    };
+    of_slice(length, image)
 }
 
-/// `eif_boot_length`.
-pub fn boot_length(image: &[u8]) -> Answer {
-    of_slice(c::eif_boot_length, image)
+/// `eif_copy_whole`, `eif_copy_boot` or `eif_copy_app`.
+pub fn copy_stream(image: &[u8], stream: Stream, from: StreamPosition, out: &mut [u8]) -> Answer {
+    let copy = match stream {
+        Stream::Whole => c::eif_copy_whole,
+        Stream::Boot => c::eif_copy_boot,
+        Stream::App => c::eif_copy_app,
+    };
+    copied(copy, image, from, out)
 }
 
-/// `eif_app_length`.
-pub fn app_length(image: &[u8]) -> Answer {
-    of_slice(c::eif_app_length, image)
-}
-
-/// `eif_copy_whole`.
-pub fn copy_whole(image: &[u8], from: StreamPosition, out: &mut [u8]) -> Answer {
-    copied(c::eif_copy_whole, image, from, out)
-}
-
-/// `eif_copy_boot`.
-pub fn copy_boot(image: &[u8], from: StreamPosition, out: &mut [u8]) -> Answer {
-    copied(c::eif_copy_boot, image, from, out)
-}
-
-/// `eif_copy_app`.
-pub fn copy_app(image: &[u8], from: StreamPosition, out: &mut [u8]) -> Answer {
-    copied(c::eif_copy_app, image, from, out)
-}
-
-/// `eif_whole_sections`.
-pub fn whole_sections(reading: Reading) -> StreamSections {
+/// `eif_whole_sections`, `eif_boot_sections` or `eif_app_sections`.
+pub fn stream_sections(reading: Reading, stream: Stream) -> StreamSections {
+    let sections = match stream {
+        Stream::Whole => c::eif_whole_sections,
+        Stream::Boot => c::eif_boot_sections,
+        Stream::App => c::eif_app_sections,
+    };
     // SAFETY: there is no pointer.
-    unsafe { c::eif_whole_sections(reading) }
-}
-
-/// `eif_boot_sections`.
-pub fn boot_sections(reading: Reading) -> StreamSections {
-    // SAFETY: there is no pointer.
-    unsafe { c::eif_boot_sections(reading) }
-}
-
-/// `eif_app_sections`.
-pub fn app_sections(reading: Reading) -> StreamSections {
-    // SAFETY: there is no pointer.
-    unsafe { c::eif_app_sections(reading) }
+    unsafe { sections(reading) }
 }
 
 /// `eif_copy_sections`.
@@ -551,6 +533,14 @@ impl Answer {
     }
 }
 
+impl RegistersAnswer {
+    /// The registers, or the refusal.
+    pub(crate) fn accepted(self) -> Result<crate::Registers, crate::Refusal> {
+        let refused = crate::Refusal::check(self.number, self.index, self.position);
+        refused.map(|()| crate::Registers(self.registers))
+    }
+}
+
 /// The bytes of an answer.
 #[cfg(test)]
 fn bytes_of<T: Copy>(answer: &T) -> &[u8] {
@@ -600,7 +590,7 @@ mod tests {
             for copy in [c::eif_copy_whole, c::eif_copy_boot, c::eif_copy_app] {
                 assert_eq!(copy(null(), 0, start, null_mut(), 0).number, 2);
             }
-            let list = whole_sections(read(&[]));
+            let list = stream_sections(read(&[]), Stream::Whole);
             let copied = c::eif_copy_sections(null(), 0, list, start, null_mut(), 0);
             assert_eq!(copied, Answer::default());
             assert_eq!(c::eif_roll_write(null(), 0, null_mut(), 0).number, 2);
@@ -624,7 +614,7 @@ mod tests {
             let (start, length) = (image.as_ptr(), image.len());
             let whole = c::eif_copy_whole(start, length, from, null_mut(), 0);
             assert_eq!(whole, Answer::default());
-            let list = whole_sections(read(&image));
+            let list = stream_sections(read(&image), Stream::Whole);
             let copied = c::eif_copy_sections(start, length, list, from, null_mut(), 0);
             assert_eq!(copied, Answer::default());
             let roll = c::eif_roll_write(start, length, null_mut(), 0);
@@ -646,8 +636,8 @@ mod tests {
             let copy = text.to_vec();
             assert_eq!(bytes_of(&json_check(text)), bytes_of(&json_check(&copy)));
         }
-        for sections in [whole_sections, boot_sections, app_sections] {
-            let lists = [image, &copy].map(|image| sections(read(image)));
+        for stream in Stream::ALL {
+            let lists = [image, &copy].map(|image| stream_sections(read(image), stream));
             assert_eq!(bytes_of(&lists[0]), bytes_of(&lists[1]));
         }
         let mut roll = [0; 42];
@@ -677,8 +667,8 @@ mod tests {
         for reading in [read(&image), read(&[]), read_strict(&image)] {
             assert_eq!((reading.reserved, reading.reserved_after), (0, 0));
             assert!(reading.sections.iter().all(|s| s.reserved == 0));
-            for sections in [whole_sections, boot_sections, app_sections] {
-                let list = sections(reading).sections;
+            for stream in Stream::ALL {
+                let list = stream_sections(reading, stream).sections;
                 assert!(list.iter().all(|s| s.reserved == 0));
             }
         }

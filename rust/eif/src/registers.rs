@@ -45,7 +45,5 @@ impl fmt::Display for Registers {
 ///
 /// The image's own refusal.
 pub fn registers(image: &[u8]) -> Result<Registers, Refusal> {
-    let answer = raw::registers(image);
-    Refusal::check(answer.number, answer.index, answer.position)?;
-    Ok(Registers(answer.registers))
+    raw::registers(image).accepted()
 }

@@ -110,9 +110,7 @@ pub fn roll_to_vec(base: &[u8], replacement: &[u8], replaced: usize) -> Result<V
 ///
 /// The base's own refusal, then 27, then 1.
 pub fn registers(base: &[u8], replacement: &[u8], replaced: usize) -> Result<Registers, Refusal> {
-    let answer = raw::staged_registers(base, replacement, replaced as u64);
-    Refusal::check(answer.number, answer.index, answer.position)?;
-    Ok(Registers(answer.registers))
+    raw::staged_registers(base, replacement, replaced as u64).accepted()
 }
 
 /// The image written afresh, by [`write()`](crate::write()). It is a second image, with the joined data

@@ -38,15 +38,6 @@ impl Stream {
             Stream::App => "app",
         }
     }
-
-    /// Its sections, of an image that was read.
-    fn sections_of(self, reading: raw::Reading) -> raw::StreamSections {
-        match self {
-            Stream::Whole => raw::whole_sections(reading),
-            Stream::Boot => raw::boot_sections(reading),
-            Stream::App => raw::app_sections(reading),
-        }
-    }
 }
 
 impl fmt::Display for Stream {
@@ -69,7 +60,7 @@ impl FromStr for Stream {
 impl<'a> Image<'a> {
     /// The data of a stream's sections in its order, borrowed from the image. Joined they are the stream.
     pub fn stream_sections(&self, stream: Stream) -> StreamSections<'a> {
-        let list = stream.sections_of(self.answer());
+        let list = raw::stream_sections(self.answer(), stream);
         StreamSections {
             image: self.bytes(),
             sections: list.sections.into_iter().take(list.count as usize),
@@ -96,7 +87,7 @@ impl<'a> Image<'a> {
         from: StreamPosition,
         out: &mut [u8],
     ) -> Result<usize, Refusal> {
-        let list = stream.sections_of(self.answer());
+        let list = raw::stream_sections(self.answer(), stream);
         raw::copy_sections(self.bytes(), list, from, out).accepted_part()
     }
 }
@@ -163,12 +154,7 @@ impl Read for StreamReader<'_> {
 ///
 /// The image's own refusal.
 pub fn stream_length(image: &[u8], stream: Stream) -> Result<DataLength, Refusal> {
-    let answer = match stream {
-        Stream::Whole => raw::whole_length(image),
-        Stream::Boot => raw::boot_length(image),
-        Stream::App => raw::app_length(image),
-    };
-    answer.accepted().map(DataLength)
+    raw::stream_length(image, stream).accepted().map(DataLength)
 }
 
 /// Copies a stream of `image`, from position `from` on, to the start of `out`, and answers how many
@@ -186,12 +172,7 @@ pub fn copy_stream(
     from: StreamPosition,
     out: &mut [u8],
 ) -> Result<usize, Refusal> {
-    let answer = match stream {
-        Stream::Whole => raw::copy_whole(image, from, out),
-        Stream::Boot => raw::copy_boot(image, from, out),
-        Stream::App => raw::copy_app(image, from, out),
-    };
-    answer.accepted_part()
+    raw::copy_stream(image, stream, from, out).accepted_part()
 }
 
 /// A stream of `image`, whole. The image is read once.

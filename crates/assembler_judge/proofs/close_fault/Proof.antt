@@ -37,7 +37,7 @@ module _ (c : tie.Else1) where
   not-short = sym (c .before .is-short .ensures) ∙ c .if1 .left
 
   room : piecesOf (st .length) ≤ length y
-  room = long-enough st image (length y) not-short .1
+  room = long-enough st image (length y) not-short .mark-room
 
   rest : choose (not (allHeld (take (piecesOf (st .length)) y))) pieceMissing 0 ≡ closeFault st image y
   unfolding closeFault

@@ -65,8 +65,10 @@ module _ (c : tie.Else2) where
   fits =
       let g = grid-in _ _ _ (on-grid (c .before .before)) in
       let m = long-enough (st p) (length (x p)) (length (y p)) not-short in
-      let a = piece-in _ _ _ (g .0) (g .2) in
-      let b = place-in _ _ (g .0) in
+      let i = m .image-room in
+      let j = m .mark-room in
+      let a = piece-in _ _ _ (g .inside) (g .sized) in
+      let b = place-in _ _ (g .inside) in
       (omega arith, omega arith)
 
 returns : tie.Need-returns

@@ -76,7 +76,7 @@ take-piece-requires : tie.Need-take-piece-requires
 take-piece-requires c κs =
     let q = c .before .before .before .before in
     let t = accepted-piece (st q) (r q) (x q) (y q) (fine q) (kind-is q pieceKind (c .before .before .if3 .taken)) in
-    (t .whole, lt-of-lt-of-le (place-in _ _ (t .inside)) (t .enough .mark-room))
+    (t .whole, lt-of-lt-of-le (place-in _ _ (t .grid .inside)) (t .enough .mark-room))
 
 returns-3 : tie.Need-returns-3
 returns-3 c =

@@ -8,9 +8,10 @@ use native.Mathlib.Numerals.{add-one}
 use lib.ListN.{length, drop, getD}
 use Rattle.octets.specs.Over.{over}
 use Rattle.octets.proofs.Over.{length-over}
+use Rattle.octets.proofs.Each.{joined-over, joined-done}
 use Rattle.cose.specs.Cbor.{unsigned, headBytes, numbersBytes}
 use Rattle.cose.specs.Sign1.{registerSize}
-use Rattle.cose_lemmas.proofs.Head.{numbers-size, size-end, numbers-over, numbers-done}
+use Rattle.cose_lemmas.proofs.Head.{numbers-size, size-end}
 use Rattle.cose_writer.proofs.put_values.Statement.{statement}
 use Rattle.cose_writer.proofs.put_values.Tie as tie
 
@@ -36,7 +37,7 @@ loop-again c =
       ap length (p .1 .1) ∙ length-over (l .out) (l .at) (headBytes unsigned (getD v (l .i) 0)) ∙ l .inv .2,
       omega arith,
       ap₂ (λ (d : List ℕ) (n : ℕ). over d n (numbersBytes (drop (suc (l .i)) v))) (p .1 .1) (p .0)
-          ∙ numbers-over v (l .i) (omega arith) (l .out) (l .at) ∙ l .inv .4,
+          ∙ joined-over (headBytes unsigned) v 0 (l .i) (omega arith) (l .out) (l .at) ∙ l .inv .4,
     )
 
 returns : tie.Need-returns Inv-loop μ-loop
@@ -45,7 +46,7 @@ returns c =
     let v = c .before .before .before .args .t3 in
     let size : length v ≡ registerSize = search needs in
     let e = size-end v (l .i) (omega arith) in
-    (omega arith, (omega arith, sym (numbers-done v (l .i) (omega arith) (l .out) (l .at)) ∙ l .inv .4))
+    (omega arith, (omega arith, sym (joined-done (headBytes unsigned) v 0 (l .i) (omega arith) (l .out) (l .at)) ∙ l .inv .4))
 
 pub put-values-spec : {M : Type 1} → statement M
 put-values-spec =

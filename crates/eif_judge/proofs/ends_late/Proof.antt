@@ -8,7 +8,7 @@ use borrow.Author.Needs.{needs}
 use borrow.Author.Tests.{lt-ltb, le-ltb}
 use lib.Dec.{ltb}
 use Rattle.eif.specs.Layout.{sectionHeaderSize}
-use Rattle.octets.proofs.Over.{le-or-lt}
+use Rattle.octets.proofs.Logic.{le-or-lt}
 use Rattle.eif_judge.proofs.ends_late.Statement.{statement}
 use Rattle.eif_judge.proofs.ends_late.Tie as tie
 

@@ -32,7 +32,7 @@ module _ (c : tie.After-be162) where
   clean = sym (c .before .before .before .header-fault .ensures (now (c .before .before .before .before .before .before .args .headers))) ∙ c .before .before .if1 .left
 
   few : c .be162 .result ≤ placeCount
-  few = rw (c .be162 .ensures) (header view clean .few)
+  few = rw (c .be162 .ensures) (header view clean .fields .few)
 
 -- ---- after the walk
 

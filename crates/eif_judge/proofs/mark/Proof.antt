@@ -30,36 +30,36 @@ loop-again : tie.Need-loop-again Inv-loop μ-loop
 loop-again c =
     let l = c .before .before .loop in
     let a = c .before .before .before .args in
-    let n : suc (32 - l .j) ≡ 32 - (l .j - 1) = omega arith in
+    let n : suc (placeCount - l .j) ≡ placeCount - (l .j - 1) = omega arith in
     let e : suc (l .j - 1) ≡ l .j = omega arith in
-    let size : length (a .t1) ≡ 32 = search needs in
+    let size : length (a .t1) ≡ placeCount = search needs in
     let step = mark-one (a .t1) (l .j - 1) (omega arith) (c .if1 .taken) ∙ ap (λ (k : ℕ). 1 + 2 * markOf (drop k (a .t1))) e in
     let v = l .inv .2 in
-    let d = twice (32 - l .j) (l .inv .1) in
+    let d = twice (placeCount - l .j) (l .inv .1) in
     (omega arith, rw (← n) (omega arith), omega arith)
 
 loop-again-2 : tie.Need-loop-again-2 Inv-loop μ-loop
 loop-again-2 c =
     let l = c .before .before .loop in
     let a = c .before .before .before .args in
-    let n : suc (32 - l .j) ≡ 32 - (l .j - 1) = omega arith in
+    let n : suc (placeCount - l .j) ≡ placeCount - (l .j - 1) = omega arith in
     let e : suc (l .j - 1) ≡ l .j = omega arith in
-    let size : length (a .t1) ≡ 32 = search needs in
+    let size : length (a .t1) ≡ placeCount = search needs in
     let step = mark-other (a .t1) (l .j - 1) (omega arith) (c .if1 .left) ∙ ap (λ (k : ℕ). 0 + 2 * markOf (drop k (a .t1))) e in
     let v = l .inv .2 in
-    let d = twice (32 - l .j) (l .inv .1) in
+    let d = twice (placeCount - l .j) (l .inv .1) in
     (omega arith, rw (← n) (omega arith), omega arith)
 
 mul-m : tie.Need-mul-m Inv-loop μ-loop
 mul-m c =
     let l = c .before .loop in
-    let h = doubled (32 - l .j) (l .inv .1) (omega arith) in
+    let h = doubled (placeCount - l .j) (l .inv .1) (omega arith) in
     omega arith
 
 add-m : tie.Need-add-m Inv-loop μ-loop
 add-m c =
     let l = c .before .before .loop in
-    let h = doubled (32 - l .j) (l .inv .1) (omega arith) in
+    let h = doubled (placeCount - l .j) (l .inv .1) (omega arith) in
     omega arith
 
 returns : tie.Need-returns Inv-loop μ-loop

@@ -13,7 +13,7 @@ use denote.Ref.{now}
 use lib.ListN.{getD, set}
 use Rattle.eif.specs.Numbers.{placeCount}
 use Rattle.eif.specs.Answers.{refuse}
-use Rattle.eif.specs.Rules.{orderFault, firstFault}
+use Rattle.eif.specs.Rules.{orderFault, firstFault, firstRefusal}
 use Rattle.eif.specs.Table.{filled}
 use Rattle.eif.specs.Layout.{View, start}
 use Rattle.eif.specs.Reading.{entryFault, sectionFault}
@@ -53,7 +53,7 @@ module _ (c : tie.At-sections Inv-loop μ-loop Inv-sections μ-sections) where
   -- the rules' number at this section is the verdict on all
   stop : (v : Verdict) (k : ℕ) → v ≡ refuse k (c .sections .i) → c .sections .i < count → (k ≡ 0 → ⊥) → sectionFault view (c .sections .i) ≡ k
       → v ≡ firstFault (sectionFault view) count 0
-  stop v k r h z e = r ∙ walk-stop (sectionFault view) (c .sections .i) count k h z e ∙ c .sections .inv .3
+  stop v k r h z e = r ∙ walk-stop (sectionFault view) (c .sections .i) count h k z e ∙ c .sections .inv .3
 
 -- ---- after the section was read
 
@@ -125,7 +125,7 @@ sections-again c =
     )
 
 returns : tie.Need-returns Inv-loop μ-loop Inv-sections μ-sections
-unfolding firstFault
+unfolding firstRefusal
 returns c =
     let l = c .before .sections in
     let e : l .i ≡ count (c .before) = omega arith in

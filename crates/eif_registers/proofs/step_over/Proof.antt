@@ -18,9 +18,10 @@ use Rattle.sha384.specs.declared.State.{State}
 use Rattle.staged.specs.View.{heldBy}
 use Rattle.eif_registers.specs.Registers.{registerFrom, hashed, stepRegister, stepRegisters}
 use Rattle.eif_registers.proofs.Answers.{one-by-one}
-use Rattle.eif_registers.proofs.Hashed.{listed-are, listed-few}
+use Rattle.eif_registers.proofs.Hashed.{listed-few}
 use Rattle.eif_registers.proofs.step_over.Statement.{statement}
 use Rattle.eif_registers.proofs.step_over.Tie as tie
+use Rattle.stream_reader.proofs.Answers.{listed-are}
 
 sized : (c : tie.Start) → length (c .args .all) ≡ placeCount
 sized c = search needs

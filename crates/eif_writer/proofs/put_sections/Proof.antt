@@ -19,11 +19,12 @@ use Rattle.plain_laws.proofs.Shape.{packed-zero, packed-suc, before-zero, befor
 use Rattle.eif_writer.proofs.Pieces.{ends-inside, data-inside, section-over, sections-done}
 use Rattle.eif_writer.proofs.put_sections.Statement.{statement}
 use Rattle.eif_writer.proofs.put_sections.Tie as tie
+use Rattle.eif.specs.Table.{joinFrom}
 
 abbrev Inv-loop : tie.InvT-loop
 Inv-loop out₀ count lent places at₀ from₀ i₀ out at from i =
     (i ≤ count) × (at ≡ packedAt places i) × (from ≡ dataBefore places i) × (length out ≡ length out₀)
-    × (over out at (sectionBytes places lent (count - i) i) ≡ over out₀ headerSize (sectionBytes places lent count 0))
+    × (over out at (joinFrom (sectionBytes places lent) (count - i) i) ≡ over out₀ headerSize (joinFrom (sectionBytes places lent) count 0))
 
 abbrev μ-loop : tie.MeasureT-loop
 μ-loop out₀ count lent places at₀ from₀ i₀ out at from i = count - i

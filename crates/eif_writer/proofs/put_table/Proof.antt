@@ -12,7 +12,7 @@ use lib.ListN.{length, drop, getD}
 use Rattle.octets.specs.Bytes.{beBytes, beBytesEach}
 use Rattle.octets.specs.Over.{over}
 use Rattle.octets.proofs.Over.{length-over}
-use Rattle.octets.proofs.Each.{each-over, each-done}
+use Rattle.octets.proofs.Each.{each-over, joined-done}
 use Rattle.eif.specs.Numbers.{placeCount}
 use Rattle.eif.specs.Layout.{entrySize}
 use Rattle.eif_writer.proofs.put_table.Statement.{statement}
@@ -49,7 +49,7 @@ returns c =
     let a = c .before .before .before .args in
     let l = c .before .loop in
     let size : length (a .t3) ≡ placeCount = search needs in
-    sym (each-done entrySize (a .t3) (l .i) (omega arith) (l .out) (a .at + entrySize * l .i)) ∙ l .inv .2
+    sym (joined-done (beBytes entrySize) (a .t3) 0 (l .i) (omega arith) (l .out) (a .at + entrySize * l .i)) ∙ l .inv .2
 
 pub put-table-spec : {M : Type 1} → statement M
 put-table-spec =

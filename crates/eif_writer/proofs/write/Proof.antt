@@ -14,10 +14,11 @@ use Rattle.eif.specs.declared.Verdict.the-variants.{Accepted}
 use Rattle.eif_lemmas.proofs.Room.{wrote-refused, wrote-short, wrote-fine}
 use Rattle.plain_laws.proofs.PlanRules.{Planned, planned→}
 use Rattle.plan_judge.proofs.Size.{limited-in, image-limited}
-use Rattle.eif_writer.specs.Parts.{withChecksum}
+use Rattle.eif_checksum.specs.Put.{withChecksum}
 use Rattle.eif_writer.proofs.Image.{with-checksum-plain}
 use Rattle.eif_writer.proofs.write.Statement.{statement}
 use Rattle.eif_writer.proofs.write.Tie as tie
+use Rattle.eif.specs.Layout.{checksumAt}
 
 module _ (c : tie.After-judge) where
   abbrev plan : Plan
@@ -47,7 +48,7 @@ module _ (c : tie.After-image-size) where
   planned = planned→ (plan j) (length (lent j)) ok
 
   size-is : c .image-size .result ≡ plainSize (plan j)
-  size-is = c .image-size .ensures ∙ sym (limited-in (plainSize (plan j)) (planned .small) ∙ image-limited (plan j) (planned .few))
+  size-is = c .image-size .ensures ∙ sym (limited-in (plainSize (plan j)) (planned .small) ∙ image-limited (plan j) (planned .fields .few))
 
 returns : tie.Need-returns
 unfolding writeAnswer writeOutput writeVerdict
@@ -75,7 +76,7 @@ returns-3 c =
     let room : plainSize (plan (j s)) ≤ length (out (j s)) = omega arith in
     let r = wrote-fine (verdict (j s)) (plainSize (plan (j s))) (image (j s)) (out (j s)) (ok s) room in (
       ap₂ (λ (v : Verdict) (m : ℕ). record { verdict = v; length = m }) (s .before .enum-told .given .1) n ∙ r .0,
-      z .put-checksum .ensures ∙ ap (withChecksum (y .put-sections .last .0)) n
+      z .put .ensures ∙ ap (λ (m : ℕ). withChecksum (y .put-sections .last .0) m checksumAt) n
           ∙ with-checksum-plain (plan (j s)) (lent (j s)) (out (j s)) (x .put-header .last .0) (y .put-sections .last .0) (planned s .sized) room (x .put-header .ensures) (y .put-sections .ensures)
           ∙ r .1,
     )
@@ -91,9 +92,9 @@ write-spec =
     (λ c κs. search needs)
     (λ c κs. search needs)
     returns-2
-    (λ c κs. let p = planned (c .before .before .before) in (p .few, p .small))
+    (λ c κs. let p = planned (c .before .before .before) in (p .fields .few, p .small))
     (λ c. search needs)
-    (λ c κs. let p = planned (c .before .before .before .before .before .before .before .before) in ((p .few, p .small), p .sized))
+    (λ c κs. let p = planned (c .before .before .before .before .before .before .before .before) in ((p .fields .few, p .small), p .sized))
     (λ c κs. search needs)
     (λ c. search needs)
     returns-3)

@@ -6,7 +6,7 @@ use native.Mathlib.Omega.{arith}
 use native.Mathlib.Nat.{sub-zero, sub-self}
 use denote.Ref.{now}
 use lib.ListN.{length}
-use Rattle.eif.specs.Rules.{typeFault, firstFault}
+use Rattle.eif.specs.Rules.{typeFault, firstFault, firstRefusal}
 use Rattle.eif.specs.declared.Verdict.the-variants.{Accepted}
 use Rattle.eif_lemmas.proofs.Verdicts.{walk-stop, walk-on}
 use Rattle.type_judge.specs.Kinds.{listedKind}
@@ -30,7 +30,7 @@ returns c =
     let f = typeFault (a .version) (listedKind l) in
     c .refuse .ensures
     ∙ types-stop (a .version) (listedKind l) (length l) (record { number = t .result; index = i; position = 0 })
-    (walk-stop f i (length l) (t .result) (omega arith) (c .before .if1 .taken) (sym (t .ensures)) ∙ c .before .before .before .before .loop .inv .1)
+    (walk-stop f i (length l) (omega arith) (t .result) (c .before .if1 .taken) (sym (t .ensures)) ∙ c .before .before .before .before .loop .inv .1)
 
 loop-again : tie.Need-loop-again Inv-loop μ-loop
 loop-again c =
@@ -44,7 +44,7 @@ loop-again c =
 -- past the last section the walk accepts
 module _ (c : tie.After-loop Inv-loop μ-loop) where
   walked : Accepted ≡ firstFault (typeFault (c .before .before .before .args .version) (listedKind (now (c .before .before .before .args .kinds)))) (length (now (c .before .before .before .args .kinds))) 0
-  unfolding firstFault
+  unfolding firstRefusal
   walked =
       let l = now (c .before .before .before .args .kinds) in
       let z : c .before .loop .i ≡ length l = omega arith in

@@ -12,9 +12,10 @@ use lib.ListN.{length, replicate}
 use Rattle.eif.specs.Numbers.{placeCount, recordCut}
 use Rattle.eif.specs.Table.{filled}
 use Rattle.eif.specs.Roll.{recordHeadSize, endType, recordAt, recordKind, listedAt, blankRecord, headFault, bodyFault, endFrom}
+use Rattle.eif_lemmas.proofs.Head.{body-zero}
 use Rattle.eif_lemmas.proofs.Table.{length-filled, filled-next}
 use Rattle.roll_reader.specs.Walk.{recordFault, stoppedAt}
-use Rattle.roll_reader.proofs.Records.{kind-here, record-next, listed-here, head-cut, head-clean, by-body, body-fits}
+use Rattle.roll_reader.proofs.Records.{kind-here, record-next, listed-here, head-cut, head-clean, by-body}
 use Rattle.roll_reader.proofs.Ending.{walk-head, walk-end, walk-stop, walk-on}
 use Rattle.roll_reader.proofs.walk.Statement.{statement}
 use Rattle.roll_reader.proofs.walk.Tie as tie
@@ -74,13 +75,13 @@ module _ (c : tie.After-le64 Inv-loop μ-loop) where
   rest-good = by-body (roll t) (i t) (sym (clean (typed .before))) other ∙ good (typed .before)
 
   free : i t < placeCount
-  free = body-fits (roll t) (i t) rest-good .0
+  free = body-zero (roll t) (i t) rest-good .0
 
   next : at t + recordHeadSize + c .le64 .result ≡ recordAt (roll t) (suc (i t))
   next = record-next (roll t) (i t) (at t) (here t) (c .le64 .result) (c .le64 .ensures)
 
   inside : at t + recordHeadSize + c .le64 .result ≤ length (roll t)
-  inside = omega (arith, next, body-fits (roll t) (i t) rest-good .1)
+  inside = omega (arith, next, body-zero (roll t) (i t) rest-good .1)
 
 blank-requires : tie.Need-blank-requires Inv-loop μ-loop
 blank-requires c κs = search needs

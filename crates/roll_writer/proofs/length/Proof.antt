@@ -1,5 +1,5 @@
 -- `roll_writer::length` meets its contract: the image's refusal, or the size of the roll of its sections. Assumes nothing.
-use mathlib.Core.Path.{refl, sym, ap, _∙_}
+use mathlib.Core.Path.{sym, ap, _∙_}
 use borrow.Author.Needs.{needs}
 use denote.Ref.{now}
 use lib.ListN.{length}
@@ -8,7 +8,6 @@ use Rattle.eif.specs.Roll.{rollBytes, rollLength}
 use Rattle.eif.specs.declared.Verdict.{Verdict}
 use Rattle.eif.specs.declared.Verdict.the-variants.{Accepted}
 use Rattle.eif_lemmas.proofs.Reading.{verdict-is, told-accepted}
-use Rattle.roll_writer.specs.Write.{sizeFor}
 use Rattle.roll_writer.proofs.Reading.{length-is, bounded}
 use Rattle.roll_writer.proofs.length.Statement.{statement}
 use Rattle.roll_writer.proofs.length.Tie as tie
@@ -32,7 +31,7 @@ returns-2 c =
     let w = c .before .before .before .before in
     let s = now (w .before .before .args .image) in
     let t = c .before .enum-told .given .1 in
-    c .length-of .ensures ∙ ap (writtenFor Accepted) (length-is s (w .read .result) (w .read .ensures) t (sizeFor (w .read .result .sections)) refl)
+    c .length-of .ensures ∙ ap (writtenFor Accepted) (length-is s (w .read .result) (w .read .ensures) t)
     ∙ ap (λ (v : Verdict). writtenFor v (length (rollBytes s))) (sym (told-accepted s (w .read .result) (w .read .ensures) t))
 
 pub length-spec : {M : Type 1} → statement M

@@ -1,6 +1,6 @@
 -- `roll_writer::length_staged` meets its contract: the view's refusal, or the size of the roll of its sections. Assumes nothing.
 use Prim.Native.Nat.{ℕ, _^_, _<_}
-use mathlib.Core.Path.{refl, sym, ap, _∙_}
+use mathlib.Core.Path.{sym, ap, _∙_}
 use mathlib.Core.List.{List}
 use borrow.Author.Needs.{needs}
 use denote.Ref.{now}
@@ -10,7 +10,6 @@ use Rattle.eif.specs.Roll.{rollBytes}
 use Rattle.eif.specs.declared.Verdict.{Verdict}
 use Rattle.eif.specs.declared.Verdict.the-variants.{Accepted}
 use Rattle.staged.specs.Staged.{afresh, stagedRollLength}
-use Rattle.roll_writer.specs.Write.{sizeFor}
 use Rattle.roll_writer.proofs.Staging.{verdict-is, ok, bounded, length-is}
 use Rattle.roll_writer.proofs.length_staged.Statement.{statement}
 use Rattle.roll_writer.proofs.length_staged.Tie as tie
@@ -51,8 +50,7 @@ returns-2 c =
     let w = c .before .before .before .before in
     let t = c .before .enum-told .given .1 in
     c .length-of .ensures
-    ∙ ap (writtenFor Accepted)
-    (length-is (base w) (given w) (k w) (w .judge .result) (w .judge .ensures) t (flags-fit w) (sizeFor (w .judge .result .sections)) refl)
+    ∙ ap (writtenFor Accepted) (length-is (base w) (given w) (k w) (w .judge .result) (w .judge .ensures) t (flags-fit w))
     ∙ ap (λ (v : Verdict). writtenFor v (size w)) (sym (ok (base w) (given w) (k w) (w .judge .result) (w .judge .ensures) t))
 
 pub length-staged-spec : {M : Type 1} → statement M

@@ -3,7 +3,7 @@ use native.Mathlib.Omega.{arith}
 use lib.Seq.{length-take-le}
 use Prim.Native.Nat.{_+_}
 use mathlib.Core.Path.{sym, ap, _∙_}
-use Rattle.sha384_block.specs.Fips.{digestOf}
+use Rattle.sha384_block.specs.Fips.{leastPadding, digestOf}
 use Rattle.sha384.specs.State.{takeBytes, fillingOf, digestFrom}
 use Rattle.sha384.specs.declared.Filling.{Filling}
 use borrow.Author.Needs.{needs}
@@ -17,7 +17,7 @@ slice-aggregate-take-bytes : tie.Need-slice-aggregate-take-bytes
 slice-aggregate-take-bytes c =
     let z = c .before .before .zeros-for in
     let e = c .before .padding-of .ensures .0 in
-    sym (length-take-le (z .result + 17) (c .before .padding-of .result) (omega (arith, z .ensures)))
+    sym (length-take-le (z .result + leastPadding) (c .before .padding-of .result) (omega (arith, z .ensures)))
 
 returns : tie.Need-returns
 unfolding digestFrom

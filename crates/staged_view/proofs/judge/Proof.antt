@@ -12,10 +12,9 @@ use Rattle.eif.specs.Reading.{readImage}
 use Rattle.eif.specs.declared.Reading.{Reading}
 use Rattle.eif.specs.declared.Section.{Section}
 use Rattle.eif.specs.declared.Verdict.the-variants.{Accepted}
-use Rattle.eif_lemmas.proofs.Reading.{told-accepted}
+use Rattle.eif_lemmas.proofs.Reading.{told-accepted, count-is}
 use Rattle.eif_lemmas.proofs.Accept.{passes}
-use Rattle.staged.proofs.Accept.{count-is}
-use Rattle.staged.specs.View.{blankStaged}
+use Rattle.staged.specs.View.{blankStaged, stagedSections}
 use Rattle.staged_view.proofs.View.{base-refused, no-replaced, no-shown, over-limit, fine}
 use Rattle.staged_view.proofs.judge.Statement.{statement}
 use Rattle.staged_view.proofs.judge.Tie as tie
@@ -36,9 +35,8 @@ module _ (c : tie.Else2) where
 
   few : got .count ≤ placeCount
   few =
-      let v = told-accepted file got got-is ok in
-      let n = ap (λ (x : Reading). x .count) got-is ∙ count-is file v in
-      let h = passes file v .head .few in
+      let n = count-is file got got-is ok in
+      let h = passes file (told-accepted file got got-is ok) .head .fields .few in
       omega arith
 
 returns : tie.Need-returns
@@ -91,6 +89,7 @@ array-set-from-sections c =
     omega (arith, z .before .if1 .left)
 
 returns-5 : tie.Need-returns-5
+unfolding stagedSections
 returns-5 c =
     let z = c .before .before .before .before .before in
     let a = z .before .before .before .before .before .before .before .before .args in

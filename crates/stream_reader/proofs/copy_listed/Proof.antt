@@ -7,7 +7,6 @@ use native.Mathlib.Omega.{arith}
 use borrow.Author.Needs.{needs}
 use denote.Ref.{now}
 use lib.ListN.{length, getD, drop, length-append, length-map, drop-of-length-le}
-use Rattle.octets.specs.Lists.{joinedBy}
 use Rattle.octets.specs.Over.{over}
 use Rattle.octets.proofs.Over.{length-over}
 use Rattle.eif.specs.Numbers.{placeCount}
@@ -52,7 +51,7 @@ unfolding over
 over-none d = refl
 
 loop-holds : tie.Need-loop-holds Inv-loop μ-loop
-unfolding joinedBy over
+unfolding over
 loop-holds c =
     let f = c .before .before .before .before .args .from .0 in
     (omega arith, omega arith, omega arith, ap (over (now (c .before .before .before .before .args .out)) 0) (sym (drop-of-length-le [] {i = f} (omega arith))))

@@ -10,7 +10,7 @@ use lib.ListN.{length, getD, set, length-append}
 use lib.Seq.{take-all}
 use Rattle.eif.specs.Table.{inTable}
 use Rattle.eif.specs.Numbers.{placeCount}
-use Rattle.eif.specs.Reading.{blankSection, ramdisksIn, sectionKind}
+use Rattle.eif.specs.Reading.{blankSection, sectionKind}
 use Rattle.eif.specs.Stream.{keeps, kept, sectionsAnswer}
 use Rattle.eif.specs.declared.Section.{Section}
 use Rattle.eif.specs.declared.StreamSections.{StreamSections}
@@ -30,7 +30,7 @@ size : (c : tie.Start Inv-loop μ-loop) → length (c .args .t1) ≡ placeCount
 size c = search needs
 
 loop-holds : tie.Need-loop-holds Inv-loop μ-loop
-unfolding inTable kept ramdisksIn
+unfolding inTable kept
 loop-holds c = (omega arith, refl, refl, refl, omega arith)
 
 add-before : tie.Need-add-before Inv-loop μ-loop

@@ -6,7 +6,6 @@ use native.Mathlib.Omega.{arith}
 use borrow.Author.Needs.{needs}
 use denote.Ref.{now}
 use lib.ListN.{length, getD, length-append, length-map}
-use Rattle.octets.specs.Lists.{joinedBy}
 use Rattle.eif.specs.Numbers.{placeCount}
 use Rattle.eif.specs.Reading.{blankSection, dataOf}
 use Rattle.eif.specs.Stream.{sectionsData, listedBytes}
@@ -58,7 +57,6 @@ module _ (c : tie.After-section-data Inv-loop μ-loop) where
       omega (arith, next)
 
 none-passed : (s : List ℕ) → 0 ≡ length (sectionsData s [])
-unfolding joinedBy
 none-passed s = refl
 
 add-sum : tie.Need-add-sum Inv-loop μ-loop

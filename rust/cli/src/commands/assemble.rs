@@ -7,7 +7,7 @@ use crate::progress::Progress;
 use crate::records::Records;
 use crate::status::{complain, Status, Trouble};
 use crate::transfer::{Taken, Transfer};
-use crate::{input, output, words};
+use crate::{help, input, output, words};
 use std::ffi::{OsStr, OsString};
 use std::fs::File;
 use std::io::{self, Read};
@@ -15,7 +15,8 @@ use std::io::{self, Read};
 pub const COMMAND: Command = Command {
     name: "assemble",
     summary: "put an image together from records, in any order",
-    help: "\
+    help: &[
+        "\
 usage: eif assemble --output FILE [--force] [RECORDS..]
 
 Takes the records that eif split makes, one after the other, from files or, where
@@ -34,11 +35,13 @@ An image that is refused is left in FILE.part, and the transfer is over. To give
 transfer up, remove FILE.part and FILE.marks. It needs memory for the image.
 
   --output FILE   where the image goes; always needed
-  --force         replace FILE if it exists
-
+",
+        help::FORCE,
+        "\n\
 Exit status: 0 the image is accepted and stands in FILE, 1 it is refused or the
 transfer is not closed yet, 2 wrong usage, input or output trouble.
 ",
+    ],
     options: output::OPTIONS,
     run,
 };

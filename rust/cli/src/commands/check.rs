@@ -4,13 +4,13 @@ use super::Command;
 use crate::args::{Args, Options};
 use crate::input::{self, Keep};
 use crate::status::{Status, Trouble};
-use crate::{output, words};
-use std::ffi::OsStr;
+use crate::{help, output, words};
 
 pub const COMMAND: Command = Command {
     name: "check",
     summary: "say of each image whether it is accepted",
-    help: "\
+    help: &[
+        "\
 usage: eif check [--strict] [--quiet | --explain] FILE..
 
 Reads each image as it comes, keeps none of it, and prints one line for it, as
@@ -23,11 +23,11 @@ eif show says of such a file what stands at that byte and what to do.
   --explain   a second line: of an accepted image what its checksum promises,
               of a refused one what to do
   --quiet     print nothing; the exit status tells
-
-Exit status: 0 all are accepted, 1 one is refused, 2 one cannot be read.
 ",
+        help::ACCEPTED,
+    ],
     options: Options {
-        flags: &["--strict", "--explain", "--quiet"],
+        flags: &[input::STRICT, "--explain", "--quiet"],
         values: &[],
     },
     run,
@@ -40,12 +40,7 @@ const PROMISE: &str = "  the checksum promises: no damage within four neighbouri
 
 fn run(args: Args) -> Result<Status, Trouble> {
     let names = args.some_operands("FILE")?;
-    let strict = args.has("--strict");
-    let read = |name: &OsStr| match strict {
-        true => input::read_strictly(name),
-        false => input::arrive(name, Keep::Nothing),
-    };
-    input::each(names, read, |input| {
+    input::each(names, input::reader(&args, Keep::Nothing), |input| {
         let (status, verdict, why) = match &input.answer {
             Ok(_) => (Status::Fine, "accepted".to_string(), PROMISE.to_string()),
             Err(refusal) => {

@@ -4,22 +4,25 @@ use super::Command;
 use crate::args::{self, Args};
 use crate::output::{self, Output};
 use crate::status::{Status, Trouble};
-use crate::{input, words};
+use crate::{help, input, words};
 
 pub const COMMAND: Command = Command {
     name: "extract",
     summary: "write the data of one section",
-    help: "\
+    help: &[
+        "\
 usage: eif extract IMAGE INDEX [--output FILE] [--force]
 
 Writes the data of section INDEX, as eif show numbers the sections, from 0.
 
-  --output FILE   write to FILE, whole or not at all; otherwise to standard output
-  --force         replace FILE if it exists
-
+",
+        help::OUTPUT,
+        help::FORCE,
+        "\n\
 Exit status: 0 written, 1 the image is refused, 2 there is no such section, wrong
 usage, input or output trouble.
 ",
+    ],
     options: output::OPTIONS,
     run,
 };

@@ -12,7 +12,7 @@ use std::io;
 pub const COMMAND: Command = Command {
     name: "json",
     summary: "say of each file whether it is one JSON text",
-    help: "\
+    help: &["\
 usage: eif json FILE..
 
 Says whether a file is exactly one JSON text (RFC 8259) in UTF-8, with at most 32
@@ -26,7 +26,7 @@ Bytes are counted from 0. Where several files are named, FILE and a colon stand
 before each line.
 
 Exit status: 0 all are texts, 1 one is none, 2 one cannot be read.
-",
+"],
     options: Options {
         flags: &[],
         values: &[],

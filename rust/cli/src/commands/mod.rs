@@ -24,8 +24,8 @@ pub struct Command {
     pub name: &'static str,
     /// One line for the overview.
     pub summary: &'static str,
-    /// What `--help` prints.
-    pub help: &'static str,
+    /// What `--help` prints, in parts.
+    pub help: &'static [&'static str],
     pub options: Options,
     pub run: fn(Args) -> Result<Status, Trouble>,
 }

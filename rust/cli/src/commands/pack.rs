@@ -12,7 +12,7 @@ use std::os::unix::ffi::OsStringExt;
 pub const COMMAND: Command = Command {
     name: "pack",
     summary: "pack an image from its parts, in the order given",
-    help: "\
+    help: &["\
 usage: eif pack --kernel FILE --cmdline TEXT --ramdisk FILE [--ramdisk FILE ..]
                 --output FILE [--force] [--metadata FILE] [--no-check]
                 [--arch x86_64|aarch64] [--format 2|3|4]
@@ -32,7 +32,7 @@ order in which they are named, never sorted.
   --force           replace FILE if it exists
 
 Exit status: 0 written, 1 refused, 2 wrong usage, input or output trouble.
-",
+"],
     options: Options {
         flags: &[output::FLAG, NO_CHECK],
         values: &[

@@ -3,14 +3,15 @@
 use super::Command;
 use crate::args::{Args, Options};
 use crate::status::{Status, Trouble};
-use crate::{input, objects, output, words};
+use crate::{help, input, objects, output, words};
 use eif::{Refusal, Registers};
 use std::ffi::OsStr;
 
 pub const COMMAND: Command = Command {
     name: "registers",
     summary: "compute the registers of an image",
-    help: "\
+    help: &[
+        "\
 usage: eif registers [--json] FILE..
 
 Computes the registers of each image, as the platform measures it: three lines
@@ -23,9 +24,9 @@ says of it.
 
   --json    one object for each file, one a line, with the keys that nitro-cli
             describe-eif prints; the manual lists them
-
-Exit status: 0 all are accepted, 1 one is refused, 2 one cannot be read.
 ",
+        help::ACCEPTED,
+    ],
     options: Options {
         flags: &["--json"],
         values: &[],

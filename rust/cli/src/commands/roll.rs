@@ -2,25 +2,26 @@
 
 use super::Command;
 use crate::args::Args;
-use crate::input;
 use crate::output::{self, Output};
 use crate::status::{Status, Trouble};
+use crate::{help, input};
 
 pub const COMMAND: Command = Command {
     name: "roll",
     summary: "write the boot roll of an image",
-    help: "\
+    help: &[
+        "\
 usage: eif roll IMAGE [--output FILE] [--force]
 
 Writes the boot roll of an image: its header flags, which tell the processor, then
 its kernel, command line and ramdisks in file order, with their lengths and bytes.
 eif show and eif compare read it.
 
-  --output FILE   write to FILE, whole or not at all; otherwise to standard output
-  --force         replace FILE if it exists
-
-Exit status: 0 written, 1 the image is refused, 2 input or output trouble.
 ",
+        help::OUTPUT,
+        help::FORCE,
+        help::WRITTEN,
+    ],
     options: output::OPTIONS,
     run,
 };

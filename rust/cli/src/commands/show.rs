@@ -6,15 +6,15 @@ use crate::content::{self, Content, Neither};
 use crate::input::{self, Arrived, Keep};
 use crate::json::{self, Object};
 use crate::status::{Status, Trouble};
-use crate::{objects, output, words};
+use crate::{help, objects, output, words};
 use eif::json::Fault;
 use eif::{Reading, Reason, Roll, RollRecord, Section, SectionType};
-use std::ffi::OsStr;
 
 pub const COMMAND: Command = Command {
     name: "show",
     summary: "show what an image or a roll holds",
-    help: "\
+    help: &[
+        "\
 usage: eif show [--strict] [--json] FILE..
 
 Shows each file: of an image its header fields and a row for each section in file
@@ -27,12 +27,12 @@ what to do.
 
   --strict  refuse an image whose metadata is not one JSON text too, by 21, and say
             where in the metadata; this needs memory for the image
-  --json    one object for each file, one a line; the manual lists the keys
-
-Exit status: 0 all are accepted, 1 one is refused, 2 one cannot be read.
 ",
+        help::JSON,
+        help::ACCEPTED,
+    ],
     options: Options {
-        flags: &["--strict", "--json"],
+        flags: &[input::STRICT, "--json"],
         values: &[],
     },
     run,
@@ -48,12 +48,7 @@ fn run(args: Args) -> Result<Status, Trouble> {
     } else {
         (text, Keep::Rolls)
     };
-    let strict = args.has("--strict");
-    let read = |name: &OsStr| match strict {
-        true => input::read_strictly(name),
-        false => input::arrive(name, keep),
-    };
-    input::each(names, read, |arrived| {
+    input::each(names, input::reader(&args, keep), |arrived| {
         let answer = content::of(arrived);
         output::print(&form(arrived, &answer))?;
         Ok(answer.map_or(Status::Refused, |_| Status::Fine))

@@ -2,15 +2,16 @@
 
 use super::Command;
 use crate::args::Args;
-use crate::input;
 use crate::output::{self, Output};
 use crate::status::{Status, Trouble};
+use crate::{help, input};
 use eif::assembler;
 
 pub const COMMAND: Command = Command {
     name: "split",
     summary: "make the records of an image, to be sent piece by piece",
-    help: "\
+    help: &[
+        "\
 usage: eif split IMAGE [--output FILE] [--force]
 
 Writes the records that bring an image over a bad link, one after the other: an
@@ -19,12 +20,11 @@ bytes (the last may be shorter), and a close record of 10 bytes. Each can be sen
 by itself, in any order after the first, and as often as one likes; eif assemble
 puts them together. A piece's record is 18 bytes longer than the piece.
 
-  --output FILE   write to FILE, whole or not at all; otherwise to standard output
-  --force         replace FILE if it exists
-
-Exit status: 0 written, 1 the image is refused, 2 wrong usage, input or output
-trouble.
 ",
+        help::OUTPUT,
+        help::FORCE,
+        help::WRITTEN,
+    ],
     options: output::OPTIONS,
     run,
 };

@@ -6,14 +6,15 @@ use crate::args::{self, Args, Options};
 use crate::input::{self, Input};
 use crate::output::{self, Output};
 use crate::status::{complain, Status, Trouble};
-use crate::{json, objects, words};
+use crate::{help, json, objects, words};
 use eif::{staged, Digest, Refusal, Registers, Sha384};
 use std::ffi::OsStr;
 
 pub const COMMAND: Command = Command {
     name: "stage",
     summary: "say what an image would be with one section replaced",
-    help: "\
+    help: &[
+        "\
 usage: eif stage BASE INDEX REPLACEMENT [--json] [--output FILE] [--force]
 
 Says what the image would be that is written afresh with the data of section INDEX
@@ -27,10 +28,12 @@ No image is written for that.
   --json          one object; the manual lists its keys
   --output FILE   also write that image to FILE, whole or not at all; - is standard
                   output, and then nothing else is printed there
-  --force         replace FILE if it exists
-
+",
+        help::FORCE,
+        "\n\
 Exit status: 0 accepted, 1 refused, 2 wrong usage, input or output trouble.
 ",
+    ],
     options: Options {
         flags: &["--json", output::FLAG],
         values: &[output::VALUE],

@@ -4,14 +4,15 @@ use super::Command;
 use crate::args::Args;
 use crate::output::{self, Output};
 use crate::status::{Status, Trouble};
-use crate::{input, words};
+use crate::{help, input, words};
 use eif::Stream;
 use std::ffi::OsStr;
 
 pub const COMMAND: Command = Command {
     name: "stream",
     summary: "write one of an image's measured streams",
-    help: "\
+    help: &[
+        "\
 usage: eif stream IMAGE whole|boot|app [--output FILE] [--force]
 
 Writes the bytes of a measured stream of an image, its sections in file order:
@@ -19,12 +20,11 @@ Writes the bytes of a measured stream of an image, its sections in file order:
     boot    kernel, command line and the first ramdisk if there is one
     app     the ramdisks but the first
 
-  --output FILE   write to FILE, whole or not at all; otherwise to standard output
-  --force         replace FILE if it exists
-
-Exit status: 0 written, 1 the image is refused, 2 wrong usage, input or output
-trouble.
 ",
+        help::OUTPUT,
+        help::FORCE,
+        help::WRITTEN,
+    ],
     options: output::OPTIONS,
     run,
 };

@@ -31,6 +31,31 @@ impl Ended {
         assert_eq!(self.error, "");
     }
 
+    /// Holds the exit status to what is expected, and standard output to this start.
+    #[track_caller]
+    pub fn starts(&self, status: i32, start: &str) {
+        self.meets(status, self.text().starts_with(start));
+    }
+
+    /// The same with a part of standard output.
+    #[track_caller]
+    pub fn has(&self, status: i32, part: &str) {
+        self.meets(status, self.text().contains(part));
+    }
+
+    /// The same with the end of standard output.
+    #[track_caller]
+    pub fn ends(&self, status: i32, end: &str) {
+        self.meets(status, self.text().ends_with(end));
+    }
+
+    /// Holds the exit status to what is expected, and standard output to a test that was made of it.
+    #[track_caller]
+    fn meets(&self, status: i32, as_expected: bool) {
+        assert_eq!(self.status, status, "{}", self.error);
+        assert!(as_expected, "{}", self.text());
+    }
+
     /// Holds the exit status and standard error to what is expected, and standard output to nothing.
     #[track_caller]
     pub fn complains(&self, status: i32, error: &str) {

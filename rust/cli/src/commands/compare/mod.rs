@@ -26,7 +26,7 @@ mod side;
 pub const COMMAND: Command = Command {
     name: "compare",
     summary: "say whether two images boot the same content, and where they differ",
-    help: "\
+    help: &["\
 usage: eif compare A B [--replace INDEX=FILE]
 
 Says whether A and B have the same header flags, which tell the processor, and
@@ -48,7 +48,7 @@ records and bytes count from 0.
                          and its reserved fields are not compared
 
 Exit status: 0 same, 1 different or refused, 2 one cannot be read.
-",
+"],
     options: Options {
         flags: &[],
         values: &[REPLACE],

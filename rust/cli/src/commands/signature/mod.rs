@@ -6,7 +6,7 @@ use super::Command;
 use crate::args::{Args, Options};
 use crate::json::{self, Object};
 use crate::status::{Status, Trouble};
-use crate::{input, objects, output, words};
+use crate::{help, input, objects, output, words};
 use eif::sign1::Claim;
 use eif::{Digest, Image, Reason, Refusal, Registers, SectionType};
 use section::{take_apart, Pair};
@@ -15,7 +15,8 @@ use std::ffi::OsStr;
 pub const COMMAND: Command = Command {
     name: "signature",
     summary: "show what the signature section of an image claims",
-    help: "\
+    help: &[
+        "\
 usage: eif signature [--json] FILE..
 
 Shows what the signature section of each image claims. NO SIGNATURE IS VERIFIED:
@@ -30,12 +31,14 @@ published structure: where in the file, and what should stand there. Of a
 COSE_Sign1 or of a file that is refused: the answer number, where, what it means
 and what to do.
 
-  --json    one object for each file, one a line; the manual lists the keys
-
+",
+        help::JSON,
+        "\n\
 Exit status: 0 each image has a signature, and all that its signatures claim is
 equal to what is computed; 1 one has none, or one that differs, is not compared
 or is not of the form, or one image is refused; 2 one cannot be read.
 ",
+    ],
     options: Options {
         flags: &["--json"],
         values: &[],
