@@ -2,7 +2,7 @@
 SHELL := /bin/sh
 .DEFAULT_GOAL := help
 .NOTPARALLEL:
-.PHONY: help run test test-large prove kit staticlib eif map written-test show-test c-test rust-test rust-lint install-test bench doc install
+.PHONY: help run test test-large prove kit python staticlib eif map written-test show-test c-test rust-test rust-lint install-test bench doc install
 
 IMAGE ?= samples/worked.eif
 PREFIX ?= /usr/local
@@ -16,6 +16,8 @@ ifeq ($(origin CXX),default)
 CXX := g++
 endif
 C_WARNINGS := -Wall -Wextra -Werror -pedantic
+# The tests in C that compile as C++ too.
+C_TESTS := worked boundary sign1 staged assembler
 VERSION := $(shell sed -n 's/^#define EIF_VERSION "\(.*\)"/\1/p' include/eif.h)
 
 # With EIF_LIB_DIR set, the archive in that folder is taken as it is. It is not exported: a make within this one would take it as set, and
@@ -42,6 +44,9 @@ help:
 
 kit:
 	@command -v $(RT) >/dev/null || { echo 'rt, the command of the Rattle kit, is not on the PATH: install the kit first'; exit 1; }
+
+python:
+	@tests/need.sh python3 python3 --version
 
 run: kit
 	@mkdir -p target
@@ -72,15 +77,13 @@ eif: $(archive)
 	@mkdir -p target/bin
 	install -m 755 rust/target/release/eif target/bin/eif
 
-map:
-	tests/need.sh python3 python3
+map: python
 	tools/map.py
 	tools/believe.py
 
 # What tools/ has written is what it would write, what the documents name is there, the name of a definition has one meaning, each import is
 # used, and the layout is that of rt fmt.
-written-test: kit
-	tests/need.sh python3 python3
+written-test: kit python
 	tools/map.py --check
 	tools/believe.py --check
 	tools/json_tables.py --check
@@ -89,29 +92,25 @@ written-test: kit
 	tools/imports.py
 	$(RT) fmt --check
 
-show-test: kit
-	$(RT) check eif_show
-	tests/show.sh target/bin/eif_show
-	$(RT) check eif_check
-	tests/check.sh target/bin/eif_check
-	$(RT) check eif_assemble
-	tests/assemble.sh target/bin/eif_assemble
+show-test: kit python
+	for name in show check assemble; do \
+	    $(RT) check eif_$$name && \
+	    tests/$$name.sh target/bin/eif_$$name || exit 1; \
+	done
 
 c-test: $(archive)
-	tests/need.sh gcc $(CC)
-	tests/need.sh g++ $(CXX)
+	tests/need.sh gcc $(CC) --version
+	tests/need.sh g++ $(CXX) --version
 	tests/header.sh $(CC)
 	tests/archive.sh $(EIF_LIB_DIR)/libeif_c.a include/eif.h
 	mkdir -p target/c-test
-	for name in worked boundary sign1 staged assembler; do \
+	for name in $(C_TESTS) stack station; do \
 	    $(CC) -std=c99 $(C_WARNINGS) -Iinclude tests/c/$$name.c $(EIF_LIB_DIR)/libeif_c.a -o target/c-test/$$name-c && \
-	    target/c-test/$$name-c && \
+	    target/c-test/$$name-c || exit 1; \
+	done
+	for name in $(C_TESTS); do \
 	    $(CXX) -std=c++11 $(C_WARNINGS) -Iinclude -x c++ tests/c/$$name.c -x none $(EIF_LIB_DIR)/libeif_c.a -o target/c-test/$$name-cpp && \
 	    target/c-test/$$name-cpp || exit 1; \
-	done
-	for name in stack station; do \
-	    $(CC) -std=c99 $(C_WARNINGS) -Iinclude tests/c/$$name.c $(EIF_LIB_DIR)/libeif_c.a -o target/c-test/$$name && \
-	    target/c-test/$$name || exit 1; \
 	done
 
 rust-test: $(archive)
@@ -128,8 +127,8 @@ rust-lint:
 
 # Tables on standard output and in target/bench/tables.md, plots in target/bench.
 bench: $(archive)
-	@tests/need_library.sh zlib1g libz.so.1
-	@tests/need_library.sh libdeflate0 libdeflate.so.0
+	@tests/need.sh zlib1g sh -c 'ldconfig -p | grep -q "[[:space:]]libz.so.1 "' || echo 'zlib is not compared'
+	@tests/need.sh libdeflate0 sh -c 'ldconfig -p | grep -q "[[:space:]]libdeflate.so.0 "' || echo 'libdeflate is not compared'
 	@mkdir -p target/bench
 	cd rust && $(CARGO) build --release $(CARGO_FLAGS) -p eif-bench
 	BENCH_PLOTS=target/bench BENCH_LARGE=$(BENCH_LARGE) rust/target/release/eif-bench $(BENCH) | tee target/bench/tables.md

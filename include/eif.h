@@ -163,8 +163,7 @@ static inline const char *eif_meaning(uint8_t number) {
     case EIF_TYPE_NOT_ALLOWED: return "type not allowed in this version";
     case EIF_RAMDISK_BEFORE_KERNEL: return "ramdisk with no kernel earlier in the file";
     case EIF_TYPE_REPEATED: return "second kernel, command line, signature or metadata";
-    case EIF_SECTION_MISSING:
-        return "kernel or command line missing, or metadata missing in version 4";
+    case EIF_SECTION_MISSING: return "kernel or command line missing, or metadata missing in version 4";
     case EIF_CHECKSUM_DIFFERS: return "checksum differs";
     case EIF_OUTPUT_TOO_SHORT: return "output buffer too short";
     case EIF_DATA_LENGTH_DIFFERS: return "data length differs from the plan's sum of lengths";

@@ -4,7 +4,7 @@ set -eu
 here=$(dirname "$0")
 wanted=$(sed -n 's/^rust-version = "\(.*\)"/\1/p' "$here/../rust/Cargo.toml")
 found=none
-if "$here/need.sh" cargo "$1"; then
+if "$here/need.sh" cargo "$1" --version; then
     found=$("$1" --version | awk '{ print $2 }')
     oldest=$(printf '%s\n%s\n' "$wanted" "$found" | sort -V | head -n 1)
     [ "$oldest" != "$wanted" ] || exit 0

@@ -30,6 +30,12 @@ longest() {
 }
 
 expect_worked
+python3 -c '
+from zlib import crc32
+image = open("samples/worked.eif", "rb").read()
+assert crc32(image[:544] + image[548:]) == int.from_bytes(image[544:548], "big") == 0x86c22731
+'
+echo "$script: the checksum of the worked example is zlib's: ok"
 byte_by_byte samples/worked.eif | expect 'a byte at a time, by a pipe' "$worked"
 { head -c 300 samples/worked.eif; sleep 0.1; tail -c +301 samples/worked.eif; } | expect 'in two parts, by a pipe' "$worked"
 head -c 547 samples/worked.eif | expect '547 bytes, by a pipe' 'refused 2 at 0 byte 0\n'

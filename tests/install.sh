@@ -6,8 +6,8 @@ for file in bin/eif include/eif.h lib/libeif_c.a lib/pkgconfig/eif.pc share/man/
     [ -s "$folder/$file" ] || { echo "install: no $file"; exit 1; }
 done
 "$folder/bin/eif" check samples/worked.eif >/dev/null
-version=$(sed -n 's/^#define EIF_VERSION "\(.*\)"/\1/p' include/eif.h)
-grep -q "^Version: $version\$" "$folder/lib/pkgconfig/eif.pc" || { echo 'install: another version in eif.pc'; exit 1; }
+version=$("$folder/bin/eif" --version)
+grep -q "^Version: ${version#eif }\$" "$folder/lib/pkgconfig/eif.pc" || { echo 'install: another version in eif.pc'; exit 1; }
 if command -v pkg-config >/dev/null; then
     flags=$(PKG_CONFIG_PATH=$folder/lib/pkgconfig pkg-config --cflags --libs eif)
 else

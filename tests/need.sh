@@ -1,7 +1,9 @@
 #!/bin/sh
-# need.sh PACKAGE COMMAND: sees that a command is there, and installs the Debian package that has it where it is not.
-set -eu
-command -v "$2" >/dev/null && exit 0
-echo "$2 is not here: installing the package $1"
-apt-get update -qq && apt-get install -y -qq "$1" >/dev/null
-command -v "$2" >/dev/null || { echo "$2 could not be installed"; exit 1; }
+# need.sh PACKAGE TEST..: sees that a test, a command, ends well, and installs the Debian package that it needs where it does not.
+set -u
+package=$1
+shift
+"$@" >/dev/null 2>&1 && exit 0
+echo "$* fails: installing the package $package" >&2
+{ apt-get update -qq && apt-get install -y -qq "$package"; } >/dev/null
+"$@" >/dev/null || { echo "$* still fails" >&2; exit 1; }

@@ -4,7 +4,7 @@
 Run in the repository's root: python3 tools/json_tables.py. With --check nothing is written, and the exit status is 1 where a file differs.
 
     crates/json_machine/specs/Table.antt    the tables
-    crates/json_machine/proofs/Modes.antt   the modes and their numbers
+    crates/json_machine/proofs/Modes.antt   the modes, their numbers, and that what is computed of all holds of each
     crates/json_check/src/tables.rt         the tables again, for the code
 
 Nothing has to be believed of this program: json_machine/proofs/Right.antt checks each entry of the tables against the grammar, and the
@@ -132,10 +132,16 @@ def const(name, numbers):
     return f"pub const {name}: [u8; {len(numbers)}] = [\n{body}];\n"
 
 
-def numbered(function, prefix, names, first):
-    lines = [f"{function} {prefix}{name} = {first + i}" for i, name in enumerate(names)]
-    return "\n".join(lines)
+def numbered(function, names, first):
+    return "\n".join(f"{function} {name} = {first + i}" for i, name in enumerate(names))
 
+
+def each(law, names):
+    return "\n".join(f"  {law} {name} = same-at {i} e" for i, name in enumerate(names))
+
+
+TOKENS = ["t-" + name for name in TOKEN]
+STRINGS = ["s-" + name for name in STRING]
 
 TABLE = f"""-- The tables of the machine, written by tools/json_tables.py. Nothing is assumed of them: proofs/Right.antt checks each entry
 -- against the grammar.
@@ -154,20 +160,20 @@ rows =
     {" ∷{0}    ".format(chr(10)).join("(" + " ∷ ".join(map(str, r)) + " ∷ [])" for r in rows)} ∷ []
 """
 
-ACTS = [f"to (m-token t-{name})" for name in TOKEN] + [f"to (m-string s-{name})" for name in STRING]
-ACTS += [f"to (m-name s-{name})" for name in STRING]
-
-MODES_FILE = f"""-- The modes of the machine and their numbers, written by tools/json_tables.py. Assumes nothing.
-use Prim.Native.Nat.{{ℕ}}
-use mathlib.Core.List.{{List, [], _∷_}}
+MODES_FILE = f"""-- The modes of the machine, their numbers, and that what is computed of all of them holds of each. Written by tools/json_tables.py.
+-- Assumes nothing.
+use Prim.Native.Nat.{{ℕ, _+_}}
+use mathlib.Core.Path.{{_≡_, ap}}
+use mathlib.Core.List.{{List, [], _∷_, _++_, map}}
+use lib.ListN.{{getD}}
 
 -- in a number, or in false, null or true
 pub data Token : Type 0 where
-  {" ".join("t-" + name for name in TOKEN)} : Token
+  {" ".join(TOKENS)} : Token
 
 -- in a string
 pub data Str : Type 0 where
-  {" ".join("s-" + name for name in STRING)} : Str
+  {" ".join(STRINGS)} : Str
 
 -- in the four modes from m-firstItem on and in a member's name, which kind the innermost open one has is known by the mode
 pub data Mode : Type 0 where
@@ -181,21 +187,39 @@ pub data Act : Type 0 where
   to : Mode → Act
   fault stop again openArray openObject close : Act
 
+-- all, in the order of their numbers
+abbrev pub tokens : List Token
+tokens = {" ∷ ".join(TOKENS)} ∷ []
+
+abbrev pub strings : List Str
+strings = {" ∷ ".join(STRINGS)} ∷ []
+
 -- by its number
 abbrev pub acts : List Act
 acts =
     to m-value ∷ to m-firstItem ∷ to m-firstMember ∷ to m-key ∷ to m-colon ∷ to m-after ∷ to m-after ∷ to m-after ∷
-    {cons(ACTS, 6)[:-len(" ∷ []")]} ∷
-    fault ∷ stop ∷ again ∷ openArray ∷ openObject ∷ close ∷ []
+    (map to (map m-token tokens ++ (map m-string strings ++ map m-name strings)) ++ (fault ∷ stop ∷ again ∷ openArray ∷ openObject ∷ close ∷ []))
 
 abbrev pub tokenNumber : Token → ℕ
-{numbered("tokenNumber", "t-", TOKEN, NUMBER["minus"])}
+{numbered("tokenNumber", TOKENS, NUMBER["minus"])}
 
 abbrev pub stringNumber : Str → ℕ
-{numbered("stringNumber", "s-", STRING, NUMBER["char"])}
+{numbered("stringNumber", STRINGS, NUMBER["char"])}
 
 abbrev pub nameNumber : Str → ℕ
-{numbered("nameNumber", "s-", STRING, NAME)}
+nameNumber s = stringNumber s + {len(STRINGS)}
+
+-- two functions of a mode agree in each of these modes, if the lists of their values in all of them are the same
+module _ {{A : Type 0}} (f g : Mode → A) where
+  same-at : {{k l : List A}} (i : ℕ) → k ≡ l → getD k i (f m-value) ≡ getD l i (f m-value)
+  same-at i e = ap (λ l. getD l i (f m-value)) e
+
+  pub each-token : map (λ t. f (m-token t)) tokens ≡ map (λ t. g (m-token t)) tokens → (t : Token) → f (m-token t) ≡ g (m-token t)
+{each("each-token e", TOKENS)}
+
+  -- m is m-string or m-name
+  pub each-string : (m : Str → Mode) → map (λ s. f (m s)) strings ≡ map (λ s. g (m s)) strings → (s : Str) → f (m s) ≡ g (m s)
+{each("each-string m e", STRINGS)}
 """
 
 CODE = f"""// The tables of the checker, written by tools/json_tables.py: Table.antt of json_machine says what the entries mean.

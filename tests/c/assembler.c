@@ -6,6 +6,8 @@
 #include "check.h"
 
 enum { LENGTH = 2 * EIF_PIECE_LENGTH + 3, ROOM = LENGTH + 5, PLACES = 4 };
+/* The bytes of a number: of a record's length, with which its head begins, and of the one after the head. */
+enum { NUMBER = 8, DATA_AT = EIF_RECORD_HEAD_LENGTH + NUMBER };
 
 /* The layout of each struct, as the Rust interface has it. A wrong size is a negative array length. */
 typedef char layout_of_state[sizeof(eif_assembler) == 32 ? 1 : -1];
@@ -20,7 +22,7 @@ static eif_assembler state;
 static uint8_t image[ROOM], marks[PLACES];
 
 static void put_number(uint8_t *bytes, uint64_t number) {
-    for (unsigned i = 0; i < 8; i++) {
+    for (unsigned i = 0; i < NUMBER; i++) {
         bytes[i] = (uint8_t)(number >> (8 * i));
     }
 }
@@ -29,15 +31,15 @@ static void put_number(uint8_t *bytes, uint64_t number) {
 static eif_assembler_stepped hand_over(unsigned kind, uint64_t number, const uint8_t *data,
                                        size_t data_length, size_t room, size_t places) {
     static uint8_t sent[EIF_MAX_TRANSFER_RECORD_LENGTH];
-    size_t rest = kind == EIF_CLOSE_RECORD ? 0 : 8 + data_length;
+    size_t rest = kind == EIF_CLOSE_RECORD ? 0 : NUMBER + data_length;
     put_number(sent, rest);
-    sent[8] = (uint8_t)kind;
-    sent[9] = 0;
-    put_number(sent + 10, number);
+    sent[NUMBER] = (uint8_t)kind;
+    sent[NUMBER + 1] = 0;
+    put_number(sent + EIF_RECORD_HEAD_LENGTH, number);
     if (data_length != 0) {
-        memcpy(sent + 18, data, data_length);
+        memcpy(sent + DATA_AT, data, data_length);
     }
-    return eif_assembler_step(state, sent, 10 + rest, image, room, marks, places);
+    return eif_assembler_step(state, sent, EIF_RECORD_HEAD_LENGTH + rest, image, room, marks, places);
 }
 
 static eif_assembler_stepped open_for(uint64_t length) {
@@ -105,9 +107,9 @@ static void try_transfer(void) {
 
 /* A length of 0 may come with a null pointer. */
 static void try_null(void) {
-    static const uint8_t open_record[18] = {8, 0, 0, 0, 0, 0, 0, 0, EIF_OPEN_RECORD};
+    static const uint8_t open_record[DATA_AT] = {NUMBER, 0, 0, 0, 0, 0, 0, 0, EIF_OPEN_RECORD};
     eif_assembler_stepped done =
-        eif_assembler_step(eif_assembler_new(), open_record, 18, NULL, 0, NULL, 0);
+        eif_assembler_step(eif_assembler_new(), open_record, sizeof open_record, NULL, 0, NULL, 0);
     check(done.number == EIF_ACCEPTED && done.state.opened == 1, "an image of no bytes");
     done = eif_assembler_step(done.state, NULL, 0, NULL, 0, NULL, 0);
     check(done.number == EIF_PIECE_RECORD_WRONG && done.state.opened == 1, "no record");

@@ -68,6 +68,17 @@ static inline void put_place(eif_plan *plan, unsigned i, uint16_t type, uint64_t
     plan->places[i].length.value = length;
 }
 
+/* A plan of as many sections as there can be: kernel, command line and ramdisks, each of so many bytes. */
+static inline eif_plan full_plan(uint16_t version, uint64_t length) {
+    eif_plan plan = begin_plan(version, 0, EIF_MAX_SECTIONS);
+    put_place(&plan, 0, EIF_KERNEL, length);
+    put_place(&plan, 1, EIF_COMMAND_LINE, length);
+    for (unsigned i = 2; i < EIF_MAX_SECTIONS; i++) {
+        put_place(&plan, i, EIF_RAMDISK, length);
+    }
+    return plan;
+}
+
 static inline eif_stream_position at(uint64_t value) {
     eif_stream_position position;
     position.value = value;

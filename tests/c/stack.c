@@ -1,17 +1,11 @@
 /*
  * How much stack each call takes: on an image of EIF_SHORT_LENGTH bytes at most held to EIF_SHORT_STACK_KIB, on
- * longer ones to LONG_STACK_KIB and EIF_STACK_KIB. Each call runs on a stack of its own that was filled with a pattern; what is
- * left of the pattern was not used.
+ * longer ones to LONG_STACK_KIB and EIF_STACK_KIB. Each call runs on a stack of its own.
  * Prints a line for each call and ends with status 0, or says which takes more and ends with status 1.
  */
-#define _XOPEN_SOURCE 700
-#include "eif.h"
+#include "stack.h"
 
-#include <stdio.h>
-#include <string.h>
-#include <ucontext.h>
-
-enum { STACK_LENGTH = 1 << 18, PATTERN = 0xa5, SECTIONS = EIF_MAX_SECTIONS, METADATA = 2 };
+enum { STACK_LENGTH = 1 << 18, SECTIONS = EIF_MAX_SECTIONS, METADATA = 2 };
 enum { TEXT_LENGTH = 2 * EIF_MAX_JSON_DEPTH };
 /* Lengths of sections, for an image of EIF_SHORT_LENGTH bytes at most and one on each side of LONGER bytes and of PARTED. */
 enum { SHORT_SECTION = 98, LONG_SECTION = 4000, LONGER_SECTION = 9000, LONGEST_SECTION = 542000 };
@@ -20,7 +14,6 @@ enum { LONGER = 1 << 18, PARTED = 1 << 24, LONG_STACK_KIB = 16 };
 enum { DATA_LENGTH = SECTIONS * LONGEST_SECTION, ROOM = 2 * DATA_LENGTH };
 
 static uint8_t stack[STACK_LENGTH];
-static ucontext_t here, there;
 
 static eif_plan plan;
 static uint8_t data[DATA_LENGTH], text[TEXT_LENGTH];
@@ -49,7 +42,7 @@ static eif_registers_answer staged_registers;
 static eif_assembler assembler;
 static eif_assembler_stepped stepped;
 /* An open record for an image of two pieces, the first of them, and room for both. */
-static const uint8_t open_record[18] = {8, 0, 0, 0, 0, 0, 0, 0, EIF_OPEN_RECORD, 0, 1, 16};
+static const uint8_t open_record[EIF_RECORD_HEAD_LENGTH + 8] = {8, 0, 0, 0, 0, 0, 0, 0, EIF_OPEN_RECORD, 0, 1, 16};
 static uint8_t piece_record[EIF_MAX_TRANSFER_RECORD_LENGTH] = {8, 16, 0, 0, 0, 0, 0, 0, EIF_PIECE_RECORD};
 static uint8_t assembled[2 * EIF_PIECE_LENGTH], marks[2];
 
@@ -120,22 +113,6 @@ static void call_assembler_piece(void) {
                                  sizeof assembled, marks, sizeof marks);
 }
 
-/* The bytes of stack that a function takes, with what the switch to it takes. */
-static size_t used(void (*function)(void)) {
-    size_t left = 0;
-    memset(stack, PATTERN, sizeof stack);
-    getcontext(&there);
-    there.uc_stack.ss_sp = stack;
-    there.uc_stack.ss_size = sizeof stack;
-    there.uc_link = &here;
-    makecontext(&there, function, 0);
-    swapcontext(&here, &there);
-    while (left < sizeof stack && stack[left] == PATTERN) {
-        left++;
-    }
-    return sizeof stack - left;
-}
-
 /* An image of as many sections as one can have: kernel, command line, metadata and ramdisks, each of so many
  * bytes but the metadata, which is the deepest JSON text. */
 static int prepare(size_t section) {
@@ -146,14 +123,8 @@ static int prepare(size_t section) {
     data_length = (SECTIONS - 1) * section + TEXT_LENGTH;
     memset(&claim, 0xff, sizeof claim);
     claim.algorithm = EIF_ES512;
-    plan.version = 4;
-    plan.count = SECTIONS;
-    for (unsigned i = 0; i < SECTIONS; i++) {
-        plan.places[i].type = (uint16_t)(i < METADATA ? i + 1 : EIF_RAMDISK);
-        plan.places[i].length.value = section;
-    }
-    plan.places[METADATA].type = EIF_METADATA;
-    plan.places[METADATA].length.value = TEXT_LENGTH;
+    plan = full_plan(4, section);
+    put_place(&plan, METADATA, EIF_METADATA, TEXT_LENGTH);
     answer = eif_write(plan, data, data_length, image, sizeof image);
     image_length = (size_t)answer.length;
     if (answer.number != EIF_ACCEPTED) {
@@ -205,17 +176,13 @@ static const struct {
     {"eif_assembler_step 2", call_assembler_piece},
 };
 
-/* Each call on an image of sections of so many bytes, within so many KiB. Answers how many take more. */
-static int try_calls(size_t section, size_t kib) {
-    int failures = 0;
-    size_t least = used(nothing);
-    if (!prepare(section)) {
-        printf("stack: no image to try\n");
-        return 1;
-    }
+/* Each call on an image of sections of so many bytes, within so many KiB. */
+static void try_calls(size_t section, size_t kib) {
+    size_t least = stack_used(stack, sizeof stack, nothing);
+    check(prepare(section), "an image to try");
     printf("stack: an image of %zu bytes\n", image_length);
     for (size_t i = 0; i < sizeof calls / sizeof calls[0]; i++) {
-        size_t bytes = used(calls[i].function) - least;
+        size_t bytes = stack_used(stack, sizeof stack, calls[i].function) - least;
         int fits = bytes <= kib * 1024;
         printf("stack: %-22s %6zu bytes%s\n", calls[i].name, bytes, fits ? "" : ": too many");
         failures += !fits || reading.number != 0 || arrived.reading.number != 0 ||
@@ -223,18 +190,17 @@ static int try_calls(size_t section, size_t kib) {
                     fed.number != 0 || sign1_reading.number != 0 ||
                     staged_part.number != 0 || staged_registers.number != 0 || stepped.number != 0;
     }
-    failures += json.is_text != 1 || marks[0] != 1 || marks[1] != 0;
-    return failures;
+    check(json.is_text == 1 && marks[0] == 1 && marks[1] == 0, "the text and the marks");
 }
 
 int main(void) {
-    int failures = try_calls(SHORT_SECTION, EIF_SHORT_STACK_KIB);
-    failures += image_length > EIF_SHORT_LENGTH;
-    failures += try_calls(LONG_SECTION, LONG_STACK_KIB);
-    failures += image_length >= LONGER;
-    failures += try_calls(LONGER_SECTION, EIF_STACK_KIB);
-    failures += image_length < EIF_HEADER_LENGTH + LONGER || image_length >= PARTED;
-    failures += try_calls(LONGEST_SECTION, EIF_STACK_KIB);
-    failures += image_length < EIF_HEADER_LENGTH + PARTED;
+    try_calls(SHORT_SECTION, EIF_SHORT_STACK_KIB);
+    check(image_length <= EIF_SHORT_LENGTH, "the length of the first image");
+    try_calls(LONG_SECTION, LONG_STACK_KIB);
+    check(image_length < LONGER, "the length of the second image");
+    try_calls(LONGER_SECTION, EIF_STACK_KIB);
+    check(image_length >= EIF_HEADER_LENGTH + LONGER && image_length < PARTED, "the length of the third image");
+    try_calls(LONGEST_SECTION, EIF_STACK_KIB);
+    check(image_length >= EIF_HEADER_LENGTH + PARTED, "the length of the fourth image");
     return failures != 0;
 }

@@ -1,20 +1,14 @@
 /*
  * The whole station in 64 KiB: checks a file that arrives in pieces of 4 KiB on a stack of that size, which
- * also holds the state and the piece. The stack was filled with a pattern, so that what is left of the
- * pattern was not used, and below it lies a page that cannot be touched.
+ * also holds the state and the piece. Below it lies a page that cannot be touched.
  * Prints how much was used and ends with status 0, or says what differs and ends with status 1.
  */
-#define _DEFAULT_SOURCE
-#define _XOPEN_SOURCE 700
-#include "eif.h"
+#include "stack.h"
 
-#include <stdio.h>
-#include <string.h>
 #include <sys/mman.h>
-#include <ucontext.h>
 
-enum { STATION = 65536, PAGE = 4096, PIECE = 4096, PATTERN = 0xa5, SECTIONS = 32 };
-enum { SECTION_LENGTH = 50000, DATA_LENGTH = SECTIONS * SECTION_LENGTH, IMAGE_ROOM = 2000000 };
+enum { STATION = 65536, PAGE = 4096, PIECE = 4096 };
+enum { SECTION_LENGTH = 50000, DATA_LENGTH = EIF_MAX_SECTIONS * SECTION_LENGTH, IMAGE_ROOM = 2000000 };
 
 /* What is sent; the station has no room for it. */
 static uint8_t data[DATA_LENGTH], image[IMAGE_ROOM];
@@ -23,8 +17,6 @@ static size_t image_length, sent;
 /* What the station says. */
 static uint8_t number;
 static uint16_t count;
-
-static ucontext_t here, there;
 
 /* The radio: the next bytes of the file, as many as there is room for. */
 static size_t receive(uint8_t *piece, size_t room) {
@@ -49,39 +41,21 @@ static void station(void) {
 
 /* As many sections as an image can have, and more bytes than the station has. */
 static int prepare(void) {
-    static eif_plan plan;
     eif_answer answer;
     memset(data, 0x5a, sizeof data);
-    plan.version = 2;
-    plan.count = SECTIONS;
-    for (unsigned i = 0; i < SECTIONS; i++) {
-        plan.places[i].type = (uint16_t)(i < 2 ? i + 1 : EIF_RAMDISK);
-        plan.places[i].length.value = SECTION_LENGTH;
-    }
-    answer = eif_write(plan, data, sizeof data, image, sizeof image);
+    answer = eif_write(full_plan(2, SECTION_LENGTH), data, sizeof data, image, sizeof image);
     image_length = (size_t)answer.length;
     return answer.number == EIF_ACCEPTED;
 }
 
 /* The bytes of the stack that the station took, or 0 where there is no stack to try it on. */
 static size_t used(void) {
-    size_t left = 0;
     uint8_t *memory = (uint8_t *)mmap(NULL, PAGE + STATION, PROT_READ | PROT_WRITE,
                                       MAP_PRIVATE | MAP_ANONYMOUS, -1, 0);
     if (memory == MAP_FAILED || mprotect(memory, PAGE, PROT_NONE) != 0) {
         return 0;
     }
-    memset(memory + PAGE, PATTERN, STATION);
-    getcontext(&there);
-    there.uc_stack.ss_sp = memory + PAGE;
-    there.uc_stack.ss_size = STATION;
-    there.uc_link = &here;
-    makecontext(&there, station, 0);
-    swapcontext(&here, &there);
-    while (left < STATION && memory[PAGE + left] == PATTERN) {
-        left++;
-    }
-    return STATION - left;
+    return stack_used(memory + PAGE, STATION, station);
 }
 
 int main(void) {
@@ -91,7 +65,7 @@ int main(void) {
         return 1;
     }
     bytes = used();
-    if (bytes == 0 || number != EIF_ACCEPTED || count != SECTIONS || sent != image_length) {
+    if (bytes == 0 || number != EIF_ACCEPTED || count != EIF_MAX_SECTIONS || sent != image_length) {
         printf("station: the image is not accepted\n");
         return 1;
     }

@@ -6,8 +6,9 @@ use mathlib.Core.List.{List}
 use native.Mathlib.Omega.{arith}
 use native.Mathlib.Numerals.{add-one}
 use borrow.Author.Tests.{eq-eqb, ne-eqb}
+use borrow.Rule.Slice.PartAt.{part-to-end}
 use lib.ListN.{length, take, drop, length-drop, length-take, drop-of-length-le}
-use lib.Seq.{take-nil, take-all, take-take}
+use lib.Seq.{take-nil, take-take}
 use Rattle.octets.proofs.Lists.{take-min, drop-min}
 use Rattle.octets.specs.Over.{over}
 use Rattle.crc32.specs.Crc.{crcFrom}
@@ -63,7 +64,7 @@ pub sum-parts : (c n : ℕ) (piece : List ℕ) {end start : ℕ} → end ≡ min
 sum-parts c n piece {end} {start} a b =
     ap₂ (λ (x y : List ℕ). crcFrom (crcFrom c x) y)
     (ap (λ (k : ℕ). take k piece) a ∙ take-min (checksumAt - n) piece)
-    (take-all (length piece - start) (drop start piece) (simp length-drop (omega arith)) ∙ ap (λ (k : ℕ). drop k piece) b ∙ drop-min (checksumEnd - n) piece)
+    (part-to-end piece start ∙ ap (λ (k : ℕ). drop k piece) b ∙ drop-min (checksumEnd - n) piece)
     ∙ sym (crcFrom-append c (take (checksumAt - n) piece) (drop (checksumEnd - n) piece))
 
 -- ---- the state

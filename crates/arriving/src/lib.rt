@@ -44,18 +44,6 @@ pub struct Finished {
     pub reading: Reading,
 }
 
-// ---- numbers
-
-// How far a position lies past another; 0 where it does not.
-fn past(position: u64, other: u64) -> u64
-    ensures { λ r. ⌜ r ≡ position - other ⌝ }
-{
-    if position < other {
-        return 0;
-    }
-    position - other
-}
-
 // ---- the sections' own headers
 
 // Where the own header of a section is kept from.
@@ -63,7 +51,7 @@ fn kept_from(header: &[u8], i: usize) -> u64
     requires { ⌜ i < placeCount ⌝ }
     ensures { λ r. ⌜ r ≡ keptFrom (now (header .entry)) i ⌝ }
 {
-    let offset = octets::be64(header, Header::OFFSETS_AT + Header::ENTRY_SIZE * i);
+    let offset = eif_judge::offset_at(header, i as u8);
     if offset < Header::SIZE as u64 {
         return Header::SIZE as u64;
     }
@@ -75,8 +63,8 @@ fn keep_header(headers: &mut [u8], at: usize, from: u64, taken: u64, piece: &[u8
     requires { ⌜ at + sectionHeaderSize ≤ length (now headers) ⌝ }
     ensures { λ _. ⌜ now (headers .exit) ≡ keptOver (now (headers .entry)) at from taken (now (piece .entry)) ⌝ }
 {
-    let held = past(taken, from);
-    let skip = past(from, taken);
+    let held = octets::past(taken, from);
+    let skip = octets::past(from, taken);
     let size = SectionHeader::SIZE as u64;
     let len = piece.len() as u64;
     if size <= held {
@@ -117,10 +105,13 @@ fn remainder(checksum: u32, taken: u64, piece: &[u8]) -> u32
         return crc32_fold::update(checksum, piece);
     }
     let end = octets::lesser(
-        past(Header::CHECKSUM_AT as u64, taken) as usize,
+        octets::past(Header::CHECKSUM_AT as u64, taken) as usize,
         piece.len(),
     );
-    let start = octets::lesser(past(Header::SIZE as u64, taken) as usize, piece.len());
+    let start = octets::lesser(
+        octets::past(Header::SIZE as u64, taken) as usize,
+        piece.len(),
+    );
     let before = crc32_fold::update(checksum, &piece[..end]);
     crc32_fold::update(before, &piece[start..])
 }

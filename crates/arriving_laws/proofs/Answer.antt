@@ -1,26 +1,26 @@
 -- The answer of the state of bytes is the whole reader's answer on them.
 -- Assumes nothing.
-use Prim.Native.Nat.{ℕ, _+_, _*_, _<_, _≤_}
+use Prim.Native.Nat.{ℕ, _*_, _<_, _≤_}
 use mathlib.Core.Path.{_≡_, refl, sym, ap, _∙_}
 use mathlib.Core.List.{List}
 use mathlib.Core.Logic.{⊎-elim}
 use native.Mathlib.Omega.{arith}
-use native.Mathlib.Nat.{add-zero, zero-add}
 use lib.Bits.{bitXor}
 use lib.ListN.{length, take, drop, length-take, length-drop}
-use lib.Seq.{take-all, drop-drop}
-use Rattle.octets.specs.Bytes.{field, beValue}
+use lib.Seq.{take-all, take-take, take-at}
 use Rattle.octets.proofs.Logic.{le-or-lt}
 use Rattle.crc32.specs.Crc.{crc32, ones32}
 use Rattle.eif.specs.Numbers.{sizeLimit, placeCount, imageTooLong}
 use Rattle.eif.specs.Answers.{refuse}
-use Rattle.eif.specs.Layout.{headerSize, sectionHeaderSize, offsetsAt, viewOf, offsetAt, entrySize, entryAt, sectionFlagsAt, sectionSizeAt}
+use Rattle.eif.specs.Layout.{headerSize, sectionHeaderSize, offsetsAt, viewOf, offsetAt, entrySize, entryAt}
 use Rattle.eif.specs.Reading.{checksumOf, blankReading, readView, readImage}
 use Rattle.eif_lemmas.proofs.Reading.{read-too-long}
-use Rattle.eif_lemmas.proofs.Agree.{Agree, Lies, read-same}
+use Rattle.eif_lemmas.proofs.Agree.{Lies}
+use Rattle.eif_lemmas.proofs.Table.{join-next, join-from}
+use Rattle.eif_judge.proofs.Kept.{field-part, read-kept}
 use Rattle.arriving.specs.State.{padded, keptFrom, headerIn, headersOf, keptOf, stateOf, countLimit}
 use Rattle.arriving.specs.Calls.{viewIn, answerOf}
-use Rattle.arriving_laws.proofs.Padded.{length-padded, padded-part, join-part}
+use Rattle.arriving_laws.proofs.Padded.{length-padded, padded-first}
 
 -- ---- bytes that the counter can count
 
@@ -28,45 +28,33 @@ module _ (s : List ℕ) where
   abbrev header : List ℕ
   header = padded headerSize s
 
-  header-part : headerSize ≤ length s → (k at : ℕ) → at + k ≤ headerSize → field k at header ≡ field k at s
-  unfolding field
-  header-part h k at g = ap beValue (padded-part k at headerSize s g (omega arith))
+  begins : headerSize ≤ length s → take headerSize header ≡ take headerSize s
+  begins h = ap (take headerSize) (padded-first headerSize s h) ∙ take-take headerSize headerSize s (omega arith)
 
-  -- a field of the own header of section i
-  head-part : (i : ℕ) → Lies (viewOf s) i → (k at : ℕ) → at + k ≤ sectionHeaderSize
-      → field k (sectionHeaderSize * i + at) (headersOf header s) ≡ field k (offsetAt s i + at) s
-  unfolding field headersOf keptFrom
-  head-part i l k at g =
-      let e : offsetAt header i ≡ offsetAt s i = header-part (omega (arith, l .starts, l .ends)) entrySize (entryAt offsetsAt i) (omega (arith, l .place)) in
+  -- the own header of section i
+  owns : (i : ℕ) → Lies (viewOf s) i
+      → take sectionHeaderSize (drop (sectionHeaderSize * i) (headersOf header s)) ≡ take sectionHeaderSize (drop (offsetAt s i) s)
+  unfolding headersOf keptFrom
+  owns i l =
+      let e : offsetAt header i ≡ offsetAt s i =
+      field-part entrySize (entryAt offsetsAt i) headerSize header s (omega (arith, l .place)) (begins (omega (arith, l .starts, l .ends))) in
       let o : keptFrom header i ≡ offsetAt s i = omega (arith, e, l .starts) in
-      let fits : at + k ≤ length (drop (offsetAt s i) s) = rw (length-drop (offsetAt s i) s) (omega (arith, l .ends)) in
-      ap beValue
-      (join-part (headerIn header s) (λ j. length-padded sectionHeaderSize (drop (keptFrom header j) s)) k at placeCount 0 i (l .place) g
-      ∙ ap (λ (j : ℕ). take k (drop at (headerIn header s j))) (zero-add i)
-      ∙ ap (λ (n : ℕ). take k (drop at (padded sectionHeaderSize (drop n s)))) o
-      ∙ padded-part k at sectionHeaderSize (drop (offsetAt s i) s) g fits
-      ∙ ap (take k) (drop-drop at (offsetAt s i) s))
-
-  agree : Agree (viewIn (keptOf s)) (viewOf s)
-  unfolding keptOf
-  agree =
-      record {
-        sizes = refl;
-        headers = header-part;
-        kinds = λ i l.
-            ap (λ (n : ℕ). field 2 n (headersOf header s)) (sym (add-zero (sectionHeaderSize * i)))
-            ∙ head-part i l 2 0 (omega arith) ∙ ap (λ (n : ℕ). field 2 n s) (add-zero (offsetAt s i));
-        flags = λ i l. head-part i l 2 sectionFlagsAt (omega arith);
-        ownSizes = λ i l. head-part i l 8 sectionSizeAt (omega arith);
-      }
+      let fits : sectionHeaderSize ≤ length (drop (offsetAt s i) s) = rw (length-drop (offsetAt s i) s) (omega (arith, l .ends)) in
+      let long : (j : ℕ) → length (headerIn header s j) ≡ sectionHeaderSize = λ j. length-padded sectionHeaderSize (drop (keptFrom header j) s) in
+      ap (take sectionHeaderSize)
+      (join-from (headerIn header s) (λ (j : ℕ). sectionHeaderSize * j) placeCount (λ j h. omega (arith, long j)) (headersOf header s) refl i (omega (arith, l .place))
+      ∙ join-next (headerIn header s) placeCount i (l .place))
+      ∙ take-at (headerIn header s i) _ sectionHeaderSize (long i)
+      ∙ ap (λ (n : ℕ). padded sectionHeaderSize (drop n s)) o
+      ∙ padded-first sectionHeaderSize (drop (offsetAt s i) s) fits
 
   sum-is : bitXor ones32 (keptOf s .checksum) ≡ checksumOf s
   unfolding keptOf checksumOf crc32
   sum-is = refl
 
   kept-answer : answerOf (keptOf s) ≡ readImage s
-  unfolding answerOf
-  kept-answer = ap (readView (viewIn (keptOf s))) sum-is ∙ read-same (viewIn (keptOf s)) (viewOf s) agree (checksumOf s)
+  unfolding answerOf keptOf
+  kept-answer = ap (readView (viewIn (keptOf s))) sum-is ∙ read-kept s header (headersOf header s) begins owns
 
 -- ---- more bytes than that: too long, whatever they are
 

@@ -1,19 +1,18 @@
 -- Lists of two parts, and a list cut or filled to a length: what a part of it is, and writing where it ends.
 -- Assumes nothing.
-use Prim.Native.Nat.{ℕ, zero, suc, _+_, _*_, _-_, _<_, _≤_}
+use Prim.Native.Nat.{ℕ, zero, suc, _+_, _-_, _<_, _≤_}
 use mathlib.Core.Path.{_≡_, refl, sym, ap, ap₂, _∙_}
 use mathlib.Core.List.{List, [], _∷_, _++_, append-assoc, append-nil}
 use mathlib.Core.Logic.{⊎-elim}
 use native.Mathlib.Omega.{arith}
-use native.Mathlib.Nat.{add-zero, zero-add, suc-add}
+use native.Mathlib.Nat.{zero-add, suc-add}
 use lib.ListN.{length, take, drop, set, length-set, length-drop, drop-of-length-le}
-use lib.Seq.{take-nil, set-append-left, drop-append-le, take-append-le, drop-append-add}
-use Rattle.eif.specs.Table.{joinFrom}
+use lib.Seq.{take-nil, set-append-left}
 use Rattle.octets.proofs.Lists.{take-both, drop-both}
 use Rattle.octets.specs.Over.{over}
 use Rattle.octets.proofs.Logic.{le-or-lt}
 use Rattle.octets.proofs.Over.{over-head, over-out}
-use Rattle.eif.specs.Layout.{sectionHeaderSize, checksumAt, checksumEnd}
+use Rattle.eif.specs.Layout.{checksumAt, checksumEnd}
 use Rattle.arriving.specs.State.{padded, checkedAfter}
 
 -- ---- of two parts
@@ -50,39 +49,12 @@ padded-more zero s t h = refl
 padded-more (suc n) [] t h = absurd (omega arith)
 padded-more (suc n) (b ∷ s) t h = ap (λ (l : List ℕ). b ∷ l) (padded-more n s t (omega arith))
 
--- a part of it that lies in the list is the list's
-padded-front : (k n : ℕ) (s : List ℕ) → k ≤ n → k ≤ length s → take k (padded n s) ≡ take k s
+-- of a list that is long enough they are its first n
+pub padded-first : (n : ℕ) (s : List ℕ) → n ≤ length s → padded n s ≡ take n s
 unfolding padded
-padded-front zero n s h g = refl
-padded-front (suc k) zero s h g = absurd (omega arith)
-padded-front (suc k) (suc n) [] h g = absurd (omega arith)
-padded-front (suc k) (suc n) (b ∷ s) h g = ap (λ (l : List ℕ). b ∷ l) (padded-front k n s (omega arith) (omega arith))
-
-pub padded-part : (k at n : ℕ) (s : List ℕ) → at + k ≤ n → at + k ≤ length s → take k (drop at (padded n s)) ≡ take k (drop at s)
-unfolding padded
-padded-part k zero n s h g = padded-front k n s (omega arith) (omega arith)
-padded-part k (suc at) zero s h g = absurd (omega arith)
-padded-part k (suc at) (suc n) [] h g = absurd (omega arith)
-padded-part k (suc at) (suc n) (b ∷ s) h g = padded-part k at n s (omega arith) (omega arith)
-
--- ---- one of several parts of twelve
-
-pub join-part : (f : ℕ → List ℕ) → ((j : ℕ) → length (f j) ≡ sectionHeaderSize) → (k at n i j : ℕ) → j < n → at + k ≤ sectionHeaderSize
-    → take k (drop (sectionHeaderSize * j + at) (joinFrom f n i)) ≡ take k (drop at (f (i + j)))
-unfolding joinFrom
-join-part f len k at zero i j h g = absurd (omega arith)
-join-part f len k at (suc n) i zero h g =
-    let a : sectionHeaderSize * 0 + at ≡ at = omega arith in
-    let b : at ≤ length (f i) = rw (len i) (omega arith) in
-    let d : k ≤ length (drop at (f i)) = rw (length-drop at (f i), len i) (omega arith) in
-    rw (a, drop-append-le at (f i) (joinFrom f n (suc i)) b, take-append-le k (drop at (f i)) (joinFrom f n (suc i)) d, add-zero i)
-join-part f len k at (suc n) i (suc j) h g =
-    let a : sectionHeaderSize * suc j + at ≡ sectionHeaderSize + (sectionHeaderSize * j + at) = omega arith in
-    let b : i + suc j ≡ suc i + j = omega arith in
-    rw (a, b)
-    (ap (λ (m : ℕ). take k (drop (m + (sectionHeaderSize * j + at)) (f i ++ joinFrom f n (suc i)))) (sym (len i))
-    ∙ ap (take k) (drop-append-add (f i) (joinFrom f n (suc i)) (sectionHeaderSize * j + at))
-    ∙ join-part f len k at n (suc i) j (omega arith) g)
+padded-first zero s h = refl
+padded-first (suc n) [] h = absurd (omega arith)
+padded-first (suc n) (b ∷ s) h = ap (λ (l : List ℕ). b ∷ l) (padded-first n s (omega arith))
 
 -- ---- writing where it ends
 

@@ -22,6 +22,7 @@ use Rattle.arriving.proofs.Steps.{fed-open, fed-ended}
 use Rattle.arriving_laws.specs.Runs.{Call, feed, finish, afterCall, afterCalls, fresh, takenBy, takenIn, told, handed, stateAt, Turn, CanTake, Sending, unsent, turn, turns}
 use Rattle.arriving_laws.proofs.Growth.{taken-of, open-of, state-grows}
 use Rattle.arriving_laws.proofs.Answer.{image-too-long, answer-of}
+use Rattle.octets.proofs.Logic.{choose-holds}
 
 -- ---- one call
 
@@ -118,19 +119,18 @@ module _ (cs : List Call) where
 
   -- finishing gives the whole reader's answer on the bytes taken, refusal and index included; also where the end was told before
   pub run-answer : finished (afterCalls fresh cs) .reading ≡ readImage (takenIn fresh cs)
-  run-answer = finish-reading (afterCalls fresh cs) ∙ ap answerOf run-state ∙ either-way (told cs) (takenIn fresh cs)
-    where
-      either-way : (b : Bool) (s : List ℕ) → answerOf (stateAt b s) ≡ readImage s
-      either-way true s = told-answer (stateOf s) ∙ answer-of s
-      either-way false s = answer-of s
+  run-answer =
+      let s = takenIn fresh cs in
+      finish-reading (afterCalls fresh cs) ∙ ap answerOf run-state
+      ∙ choose-holds (λ (a : Arriving). answerOf a ≡ readImage s) (told cs) _ _ (λ _. told-answer (stateOf s) ∙ answer-of s) (λ _. answer-of s)
 
   -- the counter has the number of bytes taken, and stops where 64 bits end
   pub run-counter : afterCalls fresh cs .taken ≡ min countLimit (length (takenIn fresh cs))
-  run-counter = ap (λ (a : Arriving). a .taken) run-state ∙ either-way (told cs) (takenIn fresh cs) ∙ length-take countLimit (takenIn fresh cs)
-    where
-      either-way : (b : Bool) (s : List ℕ) → stateAt b s .taken ≡ length (take countLimit s)
-      either-way true s = told-taken (stateOf s) ∙ taken-of s
-      either-way false s = taken-of s
+  run-counter =
+      let s = takenIn fresh cs in
+      ap (λ (a : Arriving). a .taken) run-state
+      ∙ choose-holds (λ (a : Arriving). a .taken ≡ length (take countLimit s)) (told cs) _ _ (λ _. told-taken (stateOf s) ∙ taken-of s) (λ _. taken-of s)
+      ∙ length-take countLimit s
 
   -- past the limit of an image, as where the counter stops, the answer is 1
   pub run-too-long : sizeLimit < length (takenIn fresh cs) → numberOf (finished (afterCalls fresh cs) .reading .verdict) ≡ imageTooLong

@@ -1,8 +1,9 @@
 // Runs transfers, one line a call: shuffled with repeats and refusals, the same pieces in another order, buffers that are shorter than at
 // open, and marks too short. The image is 8,195 bytes: two whole pieces and one of three bytes. A line has the record, the answer, the state,
 // the marks and a sum of the image buffer's bytes.
-ghost use Prim.Native.Nat.{_≤_, _<_};
+ghost use Prim.Native.Nat.{_+_, _≤_, _<_};
 ghost use lib.ListN.{length};
+ghost use Rattle.assembler.specs.Records.{pieceSize, numberSize, dataAt};
 use assembler::PIECE_SIZE;
 use assembler::PieceRecord;
 use assembler::PieceRecordKind;
@@ -10,6 +11,7 @@ use assembler::State;
 use case_lines::labelled;
 use case_lines::number;
 use case_lines::say;
+use case_lines::tell;
 use case_lines::text;
 use eif::RecordHead;
 
@@ -44,11 +46,7 @@ fn sum(bytes: &[u8]) -> u64 {
 }
 
 fn state_text(state: State) {
-    if state.opened == 0 {
-        text(b" closed ");
-    } else {
-        text(b" open ");
-    }
+    tell(state.opened == 0, b" closed ", b" open ");
     number(state.length);
 }
 
@@ -90,14 +88,14 @@ fn put_data(out: &mut [u8], start: u64, change: u8) {
 
 // The length of what follows the head.
 fn size_of(kind: u16, count: usize) -> usize
-    requires { ⌜ count ≤ 4096 ⌝ }
-    ensures { λ r. ⌜ r ≤ 4104 ⌝ }
+    requires { ⌜ count ≤ pieceSize ⌝ }
+    ensures { λ r. ⌜ r ≤ numberSize + pieceSize ⌝ }
 {
     if kind == PieceRecordKind::OPEN {
-        return 8;
+        return PieceRecord::NUMBER_SIZE as usize;
     }
     if kind == PieceRecordKind::PIECE {
-        return 8 + count;
+        return PieceRecord::NUMBER_SIZE as usize + count;
     }
     0
 }
@@ -118,8 +116,8 @@ fn record_text(s: Sending) {
 
 // Makes a record over a slice with room for the longest, and answers its length after the head.
 fn make(sent: &mut [u8], s: Sending) -> usize
-    requires { ⌜ 4114 ≤ length (now sent) ⌝ }
-    ensures { λ r. ⌜ r ≤ 4104 ⌝ }
+    requires { ⌜ dataAt + pieceSize ≤ length (now sent) ⌝ }
+    ensures { λ r. ⌜ r ≤ numberSize + pieceSize ⌝ }
 {
     let count = octets::lesser(s.2, PIECE_SIZE as usize);
     let size = size_of(s.0, count);
@@ -189,22 +187,19 @@ const SENDINGS: [Sending; ROWS] = [
 ];
 
 // The rows from the first to before the end, from a fresh state.
-fn rows(first: usize, end: usize, image: &mut [u8], marks: &mut [u8])
-    requires { ⌜ end ≤ 31 ⌝ }
-{
+fn rows(first: usize, end: usize, image: &mut [u8], marks: &mut [u8]) {
     let sendings = SENDINGS;
+    let bound = octets::lesser(end, ROWS);
     let mut state = assembler_step::new();
     let mut i = first;
-    while i < end {
+    while i < bound {
         let next = send_cut(state, sendings[i], image, marks);
         state = next;
         i += 1;
     }
 }
 
-fn transfer(label: &[u8], first: usize, end: usize)
-    requires { ⌜ end ≤ 31 ⌝ }
-{
+fn transfer(label: &[u8], first: usize, end: usize) {
     let mut image = [9u8; 8204];
     let mut marks = [7u8; 5];
     text(label);
@@ -215,5 +210,5 @@ fn main() {
     transfer(b"shuffled, with repeats and refusals\n", 0, 21);
     transfer(b"in another order\n", 21, 26);
     transfer(b"buffers shorter than at open\n", 26, 30);
-    transfer(b"marks too short\n", 30, 31);
+    transfer(b"marks too short\n", 30, ROWS);
 }

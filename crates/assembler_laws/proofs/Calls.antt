@@ -14,12 +14,12 @@ use lib.Seq.{getD-set-same, getD-set-other}
 use Rattle.eif_lemmas.proofs.Verdicts.{never}
 use Rattle.octets.specs.Lists.{All}
 use Rattle.octets.specs.Over.{over}
-use Rattle.octets.proofs.Over.{length-over}
+use Rattle.octets.proofs.Over.{length-over, over-here}
 use Rattle.octets.specs.Logic.{choose}
 use Rattle.eif.specs.Answers.{refuse}
 use Rattle.eif.specs.declared.Verdict.{Verdict}
 use Rattle.eif.specs.declared.Verdict.the-variants.{Accepted}
-use Rattle.octets.proofs.Logic.{equal-or-not, true-or-false, not-both, le-or-lt}
+use Rattle.octets.proofs.Logic.{equal-or-not, true-or-false, not-both, le-or-lt, choose-holds}
 use Rattle.assembler.specs.Records.{openKind, pieceKind, closeKind, kindIn, numberIn, dataIn, formed, piecesOf, placeIn}
 use Rattle.eif.specs.Numbers.{pieceOutOfTurn, pieceMissing}
 use Rattle.assembler.specs.Rules.{isHeld, standing, isOpened}
@@ -31,7 +31,7 @@ use Rattle.assembler.proofs.Faults.{PieceTaken, fault-not-open, accepted-form, 
 use Rattle.assembler.proofs.Steps.{StepAnswers, step-refused, step-opened, step-taken, step-closed}
 use Rattle.assembler.proofs.Form.{formed-kinds}
 use Rattle.assembler_laws.specs.Run.{Memory, memory, answerTo, memoryAfter, faultAt, run, OutsideTaken, OutsideAll, OtherMark, EachCall, Outside, PieceFor, Close}
-use Rattle.assembler_laws.proofs.Lists.{over-in, over-other, part-is, gap-found}
+use Rattle.assembler_laws.proofs.Lists.{over-in, over-other, gap-found}
 use Rattle.assembler_laws.proofs.Accept.{piece-fine, close-lacks}
 
 pub equal-parts : {s t : State} {a b c d : List ℕ} → s ≡ t → a ≡ b → c ≡ d → memory s a c ≡ memory t b d
@@ -108,9 +108,7 @@ module _ (w : Memory) (r : List ℕ) (z : faultAt w r ≡ 0) (k : kindIn r ≡ p
       omega arith
 
   pub put-stands : standing r (put .image) ≡ dataIn r
-  put-stands =
-      part-is (put .image) (numberIn r) (dataIn r) (rw (length-over (w .image) (numberIn r) (dataIn r)) fits)
-      (λ j h. over-in (w .image) (numberIn r) (dataIn r) j h fits)
+  put-stands = over-here (w .image) (numberIn r) (dataIn r) fits (length (dataIn r)) refl
 
   -- both buffers are as long as before
   pub put-enough : LongEnough (w .state) (length (w .image)) (length (w .marks)) → LongEnough (w .state) (length (put .image)) (length (put .marks))
@@ -199,29 +197,27 @@ module _ (w : Memory) (r : List ℕ) where
   image-by : (P : List ℕ → Type 0) → P (w .image) → (faultAt w r ≡ 0 → kindIn r ≡ pieceKind → P (over (w .image) (numberIn r) (dataIn r)))
       → P (memoryAfter w r .image)
   unfolding imageAfter
-  image-by P same put = go (eqb (faultAt w r) 0) (eqb (kindIn r) pieceKind) (isHeld r (w .marks)) (λ a b. put (eqb-true _ _ a) (eqb-true _ _ b))
-    where
-      go : (a b c : Bool) → (a ≡ true → b ≡ true → P (over (w .image) (numberIn r) (dataIn r)))
-          → P (choose a (choose b (choose c (w .image) (over (w .image) (numberIn r) (dataIn r))) (w .image)) (w .image))
-      go true true true f = same
-      go true true false f = f refl refl
-      go true false c f = same
-      go false b c f = same
+  image-by P same put =
+      choose-holds P (eqb (faultAt w r) 0) _ _
+      (λ a.
+      choose-holds P (eqb (kindIn r) pieceKind) _ _
+      (λ b. choose-holds P (isHeld r (w .marks)) _ _ (λ _. same) (λ _. put (eqb-true _ _ a) (eqb-true _ _ b)))
+      (λ _. same))
+      (λ _. same)
 
   -- and so of the mark buffer, with the marks of an open cleared and the mark of a piece set
   marks-by : (P : List ℕ → Type 0) → P (w .marks) → (kindIn r ≡ openKind → P (over (w .marks) 0 (replicate (piecesOf (numberIn r)) 0)))
       → (kindIn r ≡ pieceKind → P (set (w .marks) (placeIn r) 1)) → P (memoryAfter w r .marks)
   unfolding marksAfter
   marks-by P same cleared marked =
-      go (eqb (faultAt w r) 0) (eqb (kindIn r) openKind) (eqb (kindIn r) pieceKind) (isHeld r (w .marks)) (λ b. cleared (eqb-true _ _ b)) (λ c. marked (eqb-true _ _ c))
-    where
-      go : (a b c d : Bool) → (b ≡ true → P (over (w .marks) 0 (replicate (piecesOf (numberIn r)) 0))) → (c ≡ true → P (set (w .marks) (placeIn r) 1))
-          → P (choose a (choose b (over (w .marks) 0 (replicate (piecesOf (numberIn r)) 0)) (choose c (choose d (w .marks) (set (w .marks) (placeIn r) 1)) (w .marks))) (w .marks))
-      go true true c d f g = f refl
-      go true false true true f g = same
-      go true false true false f g = g refl
-      go true false false d f g = same
-      go false b c d f g = same
+      choose-holds P (eqb (faultAt w r) 0) _ _
+      (λ _.
+      choose-holds P (eqb (kindIn r) openKind) _ _ (λ b. cleared (eqb-true _ _ b))
+      (λ _.
+      choose-holds P (eqb (kindIn r) pieceKind) _ _
+      (λ c. choose-holds P (isHeld r (w .marks)) _ _ (λ _. same) (λ _. marked (eqb-true _ _ c)))
+      (λ _. same)))
+      (λ _. same)
 
   -- no byte of the image buffer changes but those of a piece that is taken
   pub image-elsewhere : (i : ℕ) → OutsideTaken i w r → getD (memoryAfter w r .image) i 0 ≡ getD (w .image) i 0

@@ -6,14 +6,14 @@ use mathlib.Core.Bool.{Bool, true, false, not}
 use mathlib.Core.List.{List, [], _∷_, _++_}
 use mathlib.Core.Logic.{_⊎_, inl, inr, ⊎-elim}
 use native.Mathlib.Omega.{arith}
-use native.Mathlib.Nat.{add-zero}
 use borrow.Author.Tests.{eq-eqb, ne-eqb}
 use lib.Dec.{eqb}
-use lib.ListN.{length, take, drop, getD, set, length-set, length-append, length-drop, List·getD-append}
-use lib.Seq.{getD-set-same, getD-set-other, getD-append-add, getD-drop, ext-getD}
+use lib.ListN.{length, take, drop, getD, set, length-append, length-drop, List·getD-append}
+use lib.Seq.{getD-set-other, getD-append-add, getD-drop, ext-getD}
 use Rattle.octets.proofs.Logic.{both-none, not-both, le-or-lt}
 use Rattle.octets.specs.Over.{over}
 use Rattle.octets.specs.Logic.{both}
+use Rattle.octets.proofs.Over.{over-here}
 use Rattle.octets.proofs.Fields.{part-byte}
 use Rattle.octets.proofs.Value.{field-length}
 use Rattle.assembler.specs.Rules.{allHeld}
@@ -28,15 +28,7 @@ over-other d at (b ∷ bs) i h =
     ∙ getD-set-other d at i b 0 (⊎-elim (λ a e. omega arith) (λ a e. omega arith) h)
 
 pub over-in : (d : List ℕ) (at : ℕ) (bs : List ℕ) (j : ℕ) → j < length bs → at + length bs ≤ length d → getD (over d at bs) (at + j) 0 ≡ getD bs j 0
-unfolding over
-over-in d at [] j h f = absurd (omega arith)
-over-in d at (b ∷ bs) zero h f =
-    ap (λ (n : ℕ). getD (over (set d at b) (at + 1) bs) n 0) (add-zero at)
-    ∙ over-other (set d at b) (at + 1) bs at (inl (omega arith)) ∙ getD-set-same d at b 0 (omega arith)
-over-in d at (b ∷ bs) (suc j) h f =
-    let e : at + suc j ≡ at + 1 + j = omega arith in
-    ap (λ (n : ℕ). getD (over (set d at b) (at + 1) bs) n 0) e
-    ∙ over-in (set d at b) (at + 1) bs j (omega arith) (rw length-set (omega arith))
+over-in d at bs j h f = sym (part-byte (length bs) at j (over d at bs) h) ∙ ap (λ (l : List ℕ). getD l j 0) (over-here d at bs f (length bs) refl)
 
 -- a part of l is bs, seen place by place
 pub part-is : (l : List ℕ) (at : ℕ) (bs : List ℕ) → at + length bs ≤ length l → ((j : ℕ) → j < length bs → getD l (at + j) 0 ≡ getD bs j 0)

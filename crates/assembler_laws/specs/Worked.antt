@@ -1,52 +1,120 @@
--- Each refusal of a record, and the three that are taken, for an image of the one byte 61, by computation. Answer numbers are written out, as
--- FORMAT.md prints them.
+-- The three records as bytes, the pieces of an image, and each refusal of a record and the records that are taken, for an image of the one byte
+-- 61, by computation. Numbers are written out, as FORMAT.md prints them.
 -- Assumes nothing.
 use Prim.Native.Nat.{ℕ}
+use mathlib.Core.Bool.{true, false}
 use mathlib.Core.Path.{_≡_, refl}
-use mathlib.Core.List.{List, [], _∷_, map}
+use mathlib.Core.List.{List, [], _∷_, _++_, map}
+use lib.ListN.{replicate}
 use Rattle.assembler_laws.specs.Made.{openRecord, pieceRecord, closeRecord}
 use Rattle.octets.specs.Bytes.{leField}
+use Rattle.eif.specs.Answers.{refuse}
 use Rattle.eif.specs.Roll.{headOf}
+use Rattle.eif.specs.declared.Verdict.{Verdict}
+use Rattle.eif.specs.declared.Verdict.the-variants.{Accepted}
+use Rattle.octets.specs.Over.{over}
 use Rattle.octets.specs.Same.{sameBytes}
-use Rattle.assembler.specs.Records.{formed, offGrid}
+use Rattle.assembler.specs.Records.{formed, piecesOf, offGrid}
 use Rattle.assembler.specs.Rules.{tooSmall, shorterThanAtOpen, allHeld, faultOf}
-use Rattle.assembler.specs.Step.{freshState, openState}
+use Rattle.assembler.specs.Step.{stepAnswer, imageAfter, marksAfter}
 use Rattle.assembler.specs.declared.State.{State}
+use Rattle.assembler.specs.declared.Stepped.{Stepped}
 
--- a call, and the number that it refuses with; 0: it is taken
+-- those of FORMAT.md for an image of 4,097 bytes 61
+pub records-written :
+    openRecord 4097 ∷ pieceRecord 0 (replicate 4096 0x61) ∷ pieceRecord 4096 (0x61 ∷ []) ∷ closeRecord ∷ []
+    ≡ (0x08 ∷ replicate 7 0 ++ 0x01 ∷ 0 ∷ 0x01 ∷ 0x10 ∷ replicate 6 0)
+    ∷ (0x08 ∷ 0x10 ∷ replicate 6 0 ++ 0x02 ∷ 0 ∷ replicate 8 0 ++ replicate 4096 0x61)
+    ∷ (0x09 ∷ replicate 7 0 ++ 0x02 ∷ 0 ∷ 0 ∷ 0x10 ∷ replicate 6 0 ++ 0x61 ∷ [])
+    ∷ (replicate 8 0 ++ 0x03 ∷ 0 ∷ []) ∷ []
+unfolding headOf
+records-written = refl
+
+-- how many pieces an image has; and of a start and a length whether they are those of no piece: both pieces of an image, and the last of another;
+-- a start at no multiple of 4,096, a length one short and one more, a start at the image's length
+pub grid-holds :
+    (map piecesOf (0 ∷ 1 ∷ 4096 ∷ 4097 ∷ 8192 ∷ 8193 ∷ []) ≡ 0 ∷ 1 ∷ 1 ∷ 2 ∷ 2 ∷ 3 ∷ [])
+    × (offGrid 4097 0 4096 ∷ offGrid 4097 4096 1 ∷ offGrid 8192 4096 4096
+    ∷ offGrid 8192 2048 4096 ∷ offGrid 8192 4096 4095 ∷ offGrid 8192 0 4097 ∷ offGrid 4096 4096 0 ∷ []
+    ≡ false ∷ false ∷ false ∷ true ∷ true ∷ true ∷ true ∷ [])
+unfolding offGrid
+grid-holds = (refl, refl)
+
+-- a call, and its verdict
 pub record WorkedStep : Type 0 where
   pub state : State
   pub sent : List ℕ
   pub image : List ℕ
   pub marks : List ℕ
-  pub number : ℕ
+  pub verdict : Verdict
 
-abbrev workedStep : State → List ℕ → List ℕ → List ℕ → ℕ → WorkedStep
-workedStep state sent image marks number = record { state = state; sent = sent; image = image; marks = marks; number = number }
+abbrev workedStep : State → List ℕ → List ℕ → List ℕ → Verdict → WorkedStep
+workedStep state sent image marks verdict = record { state = state; sent = sent; image = image; marks = marks; verdict = verdict }
+
+abbrev notOpen : State
+notOpen = record { opened = 0; length = 0; room = 0; places = 0 }
 
 abbrev openForOne : State
-openForOne = openState 1 1 1
+openForOne = record { opened = 1; length = 1; room = 1; places = 1 }
 
--- no record; a close and a piece while none is open, an open while one is; a start at the image's length; an image that is too long; no room
--- for the image, nor for its mark, nor as much as at open; a piece that is held with another byte; a close with a piece missing
+-- no record, a close that has a byte more than its head says and one whose head says so too, a kind that there is not, an open a byte too
+-- long and a piece without its start; a close and a piece while none is open, an open while one is; a start at the image's length, and a piece
+-- longer than the image; an image that is too long, and the longest; no room for the image, nor for its mark, nor as much as at open; a piece
+-- that is held with another byte, its mark 1 and 7; a close with a piece missing; and what is taken
 abbrev pub workedSteps : List WorkedStep
 workedSteps =
-    workedStep freshState [] [] [] 22
-    ∷ workedStep freshState closeRecord (0 ∷ []) (0 ∷ []) 23
-    ∷ workedStep freshState (pieceRecord 0 (0x61 ∷ [])) (0 ∷ []) (0 ∷ []) 23
-    ∷ workedStep openForOne (openRecord 1) (0 ∷ []) (0 ∷ []) 23
-    ∷ workedStep openForOne (pieceRecord 1 (0x61 ∷ [])) (0 ∷ []) (0 ∷ []) 22
-    ∷ workedStep freshState (openRecord 1073741825) [] [] 1
-    ∷ workedStep freshState (openRecord 1) [] (0 ∷ []) 24
-    ∷ workedStep freshState (openRecord 1) (0 ∷ []) [] 24
-    ∷ workedStep (openState 1 2 1) closeRecord (0x61 ∷ []) (1 ∷ []) 24
-    ∷ workedStep openForOne (pieceRecord 0 (0x62 ∷ [])) (0x61 ∷ []) (1 ∷ []) 25
-    ∷ workedStep openForOne closeRecord (0 ∷ []) (0 ∷ []) 26
-    ∷ workedStep freshState (openRecord 1) (0 ∷ []) (7 ∷ []) 0
-    ∷ workedStep openForOne (pieceRecord 0 (0x61 ∷ [])) (0 ∷ []) (0 ∷ []) 0
-    ∷ workedStep openForOne closeRecord (0x61 ∷ []) (1 ∷ []) 0
+    workedStep notOpen [] [] [] (refuse 22 0)
+    ∷ workedStep openForOne (closeRecord ++ 0 ∷ []) (0x61 ∷ []) (1 ∷ []) (refuse 22 0)
+    ∷ workedStep openForOne (headOf 1 3 ++ 0 ∷ []) (0x61 ∷ []) (1 ∷ []) (refuse 22 0)
+    ∷ workedStep openForOne (headOf 0 4) (0x61 ∷ []) (1 ∷ []) (refuse 22 0)
+    ∷ workedStep notOpen (headOf 9 1 ++ replicate 9 0) [] [] (refuse 22 0)
+    ∷ workedStep notOpen (headOf 7 2 ++ replicate 7 0) [] [] (refuse 22 0)
+    ∷ workedStep notOpen closeRecord (0 ∷ []) (0 ∷ []) (refuse 23 0)
+    ∷ workedStep notOpen (pieceRecord 0 (0x61 ∷ [])) (0 ∷ []) (0 ∷ []) (refuse 23 0)
+    ∷ workedStep openForOne (openRecord 1) (0 ∷ []) (0 ∷ []) (refuse 23 0)
+    ∷ workedStep openForOne (pieceRecord 1 (0x61 ∷ [])) (0 ∷ []) (0 ∷ []) (refuse 22 0)
+    ∷ workedStep openForOne (pieceRecord 0 (0x61 ∷ 0x61 ∷ [])) (0 ∷ []) (0 ∷ []) (refuse 22 0)
+    ∷ workedStep notOpen (openRecord 1073741825) [] [] (refuse 1 0)
+    ∷ workedStep notOpen (openRecord 1073741824) [] [] (refuse 24 0)
+    ∷ workedStep notOpen (openRecord 1) [] (0 ∷ []) (refuse 24 0)
+    ∷ workedStep notOpen (openRecord 1) (0 ∷ []) [] (refuse 24 0)
+    ∷ workedStep (record { opened = 1; length = 1; room = 2; places = 1 }) closeRecord (0x61 ∷ []) (1 ∷ []) (refuse 24 0)
+    ∷ workedStep openForOne (pieceRecord 0 (0x62 ∷ [])) (0x61 ∷ []) (1 ∷ []) (refuse 25 0)
+    ∷ workedStep openForOne (pieceRecord 0 (0x62 ∷ [])) (0x61 ∷ []) (7 ∷ []) (refuse 25 0)
+    ∷ workedStep openForOne closeRecord (0 ∷ []) (0 ∷ []) (refuse 26 0)
+    ∷ workedStep notOpen (openRecord 1) (0 ∷ []) (7 ∷ []) Accepted
+    ∷ workedStep openForOne (pieceRecord 0 (0x61 ∷ [])) (0 ∷ []) (0 ∷ []) Accepted
+    ∷ workedStep openForOne (pieceRecord 0 (0x61 ∷ [])) (0x61 ∷ []) (7 ∷ []) Accepted
+    ∷ workedStep openForOne closeRecord (0x61 ∷ []) (1 ∷ []) Accepted
+    ∷ workedStep openForOne closeRecord (0x61 ∷ []) (7 ∷ []) Accepted
     ∷ []
 
-pub steps-hold : map (λ (w : WorkedStep). faultOf (w .state) (w .sent) (w .image) (w .marks)) workedSteps ≡ map (λ (w : WorkedStep). w .number) workedSteps
-unfolding headOf faultOf formed offGrid tooSmall shorterThanAtOpen allHeld sameBytes leField
+pub steps-hold :
+    map (λ (w : WorkedStep). stepAnswer (w .state) (w .sent) (w .image) (w .marks) .verdict) workedSteps
+    ≡ map (λ (w : WorkedStep). w .verdict) workedSteps
+unfolding headOf stepAnswer faultOf formed offGrid tooSmall shorterThanAtOpen allHeld sameBytes leField
 steps-hold = refl
+
+-- ---- all that an open, a piece and a close answer and leave, with an image buffer of two bytes and a mark buffer of three
+
+abbrev openAnswer : Stepped
+openAnswer = record { verdict = Accepted; state = record { opened = 1; length = 1; room = 2; places = 3 }; length = 0 }
+
+abbrev closeAnswer : Stepped
+closeAnswer = record { verdict = Accepted; state = notOpen; length = 1 }
+
+pub answers-hold :
+    stepAnswer notOpen (openRecord 1) (8 ∷ 9 ∷ []) (5 ∷ 6 ∷ 7 ∷ [])
+    ∷ stepAnswer (openAnswer .state) (pieceRecord 0 (0x61 ∷ [])) (8 ∷ 9 ∷ []) (0 ∷ 6 ∷ 7 ∷ [])
+    ∷ stepAnswer (openAnswer .state) closeRecord (0x61 ∷ 9 ∷ []) (1 ∷ 6 ∷ 7 ∷ []) ∷ []
+    ≡ openAnswer ∷ openAnswer ∷ closeAnswer ∷ []
+unfolding headOf stepAnswer faultOf formed offGrid tooSmall shorterThanAtOpen allHeld sameBytes leField
+answers-hold = refl
+
+pub buffers-hold :
+    imageAfter notOpen (openRecord 1) (8 ∷ 9 ∷ []) (5 ∷ 6 ∷ 7 ∷ []) ∷ marksAfter notOpen (openRecord 1) (8 ∷ 9 ∷ []) (5 ∷ 6 ∷ 7 ∷ [])
+    ∷ imageAfter (openAnswer .state) (pieceRecord 0 (0x61 ∷ [])) (8 ∷ 9 ∷ []) (0 ∷ 6 ∷ 7 ∷ [])
+    ∷ marksAfter (openAnswer .state) (pieceRecord 0 (0x61 ∷ [])) (8 ∷ 9 ∷ []) (0 ∷ 6 ∷ 7 ∷ []) ∷ []
+    ≡ (8 ∷ 9 ∷ []) ∷ (0 ∷ 6 ∷ 7 ∷ []) ∷ (0x61 ∷ 9 ∷ []) ∷ (1 ∷ 6 ∷ 7 ∷ []) ∷ []
+unfolding headOf imageAfter marksAfter faultOf formed offGrid tooSmall shorterThanAtOpen allHeld sameBytes leField over
+buffers-hold = refl

@@ -5,6 +5,7 @@ ghost use Prim.Native.Nat.{_<_, _≤_};
 ghost use Rattle.burst_cases.specs.Sizes.{damagedSize, stretchCount};
 use case_lines::byte;
 use case_lines::labelled;
+use case_lines::tell;
 use case_lines::text;
 use eif::Header;
 use eif::Verdict;
@@ -144,11 +145,7 @@ fn difference(at: usize, one: u8, other: u8) {
 }
 
 fn answer(image: &[u8]) {
-    if accepted(image) {
-        text(b"accepted\n");
-    } else {
-        text(b"refused\n");
-    }
+    tell(accepted(image), b"accepted\n", b"refused\n");
 }
 
 fn main() {

@@ -40,7 +40,7 @@ pub fn put_own_header(image: &mut [u8], at: u32, kind: u16, flags: u16, size: u6
     ensures { λ _. ⌜ now (image .exit) ≡ withOwnHeader (now (image .entry)) at kind flags size ⌝ }
 {
     let from = at as usize;
-    octets::put_be16(image, from, kind);
+    octets::put_be16(image, from + SectionHeader::TYPE_AT, kind);
     octets::put_be16(image, from + SectionHeader::FLAGS_AT, flags);
     octets::put_be64(image, from + SectionHeader::SIZE_AT, size);
 }

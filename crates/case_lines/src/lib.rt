@@ -6,6 +6,7 @@ ghost use Rattle.eif_lines.specs.Lines.{inBuffer};
 ghost use Rattle.case_lines.specs.Answers.{acceptedWord, verdictText};
 use eif::Refusal;
 use eif::Verdict;
+use eif::Written;
 use eif_lines::Text;
 use libc::STDOUT_FILENO;
 
@@ -45,6 +46,15 @@ pub fn labelled(words: &[u8], n: u64) {
     number(n);
 }
 
+// One text if it is so, another if not.
+pub fn tell(so: bool, yes: &[u8], no: &[u8]) {
+    if so {
+        text(yes);
+    } else {
+        text(no);
+    }
+}
+
 // In two hexadecimal digits.
 pub fn byte(b: u8) {
     io::print_hex(STDOUT_FILENO, b as u64, 2);
@@ -60,6 +70,12 @@ pub fn hex(bytes: &[u8]) {
 
 pub fn say(verdict: Verdict) {
     eif_print::print(answer(verdict));
+}
+
+pub fn written(answer: Written) {
+    let verdict = answer.verdict;
+    say(verdict);
+    labelled(b", length ", answer.length);
 }
 
 // Without the position, for calls whose refusals have none.

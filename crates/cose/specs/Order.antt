@@ -3,10 +3,9 @@
 use Prim.Native.Nat.{ℕ}
 use mathlib.Core.Bool.{not}
 use mathlib.Core.List.{List, [], _∷_}
-use lib.Dec.{ltb}
 use lib.ListN.{length}
-use Rattle.eif.specs.Numbers.{notSign1, outputTooShort}
-use Rattle.eif.specs.Order.{Rule, rule}
+use Rattle.eif.specs.Numbers.{notSign1}
+use Rattle.eif.specs.Order.{Rule, rule, roomRule}
 use Rattle.cose.specs.Sign1.{signatureFits, sign1Bytes}
 use Rattle.cose.specs.Read.{sign1Formed}
 use Rattle.cose.specs.declared.Claim.{Claim}
@@ -15,7 +14,7 @@ use Rattle.cose.specs.declared.Claim.{Claim}
 unfoldable pub sign1WriteRules : Claim → List ℕ → ℕ → List Rule
 sign1WriteRules c signature room =
     rule (not (signatureFits (c .algorithm) (length signature))) notSign1 0 0
-    ∷ rule (ltb room (length (sign1Bytes c signature))) outputTooShort 0 0
+    ∷ roomRule room (length (sign1Bytes c signature))
     ∷ []
 
 unfoldable pub sign1ReadRules : List ℕ → List Rule

@@ -59,8 +59,15 @@ longest-there : length (sign1Bytes (record { algorithm = es512; «register_index
 unfolding sign1Bytes protectedBytes payloadBytes indexPair valuePair stringBytes headBytes
 longest-there = refl
 
--- no bytes, and a claim whose signature is a byte too long; 28 and 14 are written out, as FORMAT.md prints them
-pub not-read : readSign1 [] .verdict ≡ refuse 28 0
+-- no bytes: all of the answer is zero but its number; then a claim whose signature is a byte too long, and no room. 28 and 14 are written out, as
+-- FORMAT.md prints them
+pub not-read : readSign1 []
+    ≡ record {
+      verdict = refuse 28 0;
+      claim = record { algorithm = 0; «register_index» = 0; «register_value» = replicate 48 0 };
+      position = record { 0 = 0 };
+      length = record { 0 = 0 };
+    }
 unfolding readSign1 sign1Formed refusedSign1 signatureStart algorithmOf valueStart indexStart numberEnd numberWidth bytesEnd byteEnd signatureSize
 not-read = refl
 

@@ -19,7 +19,7 @@ use Rattle.eif.specs.Answers.{refuse, andThen}
 use Rattle.eif.specs.Output.{writtenFor}
 use Rattle.eif.specs.declared.Verdict.the-variants.{Accepted}
 use Rattle.eif.specs.declared.Written.{Written}
-use Rattle.octets.proofs.Logic.{both-true}
+use Rattle.octets.proofs.Logic.{both-true, choose-holds}
 use Rattle.eif_lemmas.proofs.Verdicts.{never}
 use Rattle.cose.specs.Cbor.{inOneByte, inTwoBytes, inFourBytes}
 use Rattle.cose.specs.Sign1.{registerSize, signatureSize, signatureFits, Writable, IsSign1, sign1Bytes}
@@ -56,11 +56,8 @@ module _ (s : List ℕ) (bytes : AreBytes s) where
 
   byte-fits : (at : ℕ) → byteAt s at < 256
   unfolding byteAt
-  byte-fits at = by (ltb (getD s at 0) inOneByte)
-    where
-      by : (p : Bool) → choose p (getD s at 0) (getD s (at + 1) 0) < 256
-      by true = byte-below s bytes at
-      by false = byte-below s bytes (at + 1)
+  byte-fits at =
+      choose-holds (λ (n : ℕ). n < 256) (ltb (getD s at 0) inOneByte) _ _ (λ _. byte-below s bytes at) (λ _. byte-below s bytes (at + 1))
 
   row-bytes : (n at : ℕ) → AreBytes (bytesFrom s n at)
   unfolding bytesFrom

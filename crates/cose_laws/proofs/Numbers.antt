@@ -12,7 +12,7 @@ use Rattle.octets.proofs.Value.{field-at, field-past}
 use Rattle.octets.proofs.Logic.{le-or-lt}
 use Rattle.cose.specs.Cbor.{unsigned, inOneByte, inTwoBytes, inFourBytes, inEightBytes, oneByteLimit, twoByteLimit, fourByteLimit, headBytes, numbersBytes}
 use Rattle.cose.specs.Read.{numberWidth, numberAt, numberEnd, byteAt, byteEnd, bytesFrom, bytesEnd}
-use Rattle.cose_lemmas.proofs.Head.{own-one, own-two, head-three, head-five, head-nine, size-one, size-two, size-three, size-five, size-nine}
+use Rattle.cose_lemmas.proofs.Head.{own-one, head-two, head-three, head-five, head-nine, size-one, size-two, size-three, size-five, size-nine}
 use Rattle.cose_lemmas.proofs.Numbers.{at-own, at-after, field-one, width-own, byte-one, byte-two, byte-end-one, byte-end-two}
 
 -- ---- one number
@@ -56,7 +56,7 @@ module _ (p r : List ℕ) (at : ℕ) (e : length p ≡ at) where
     number-back k (one h) =
         ap (λ (x : List ℕ). numberAt (with x) at) (own-one n h) ∙ at-own (p ++ (n ∷ r)) at (rw (first-is n r) h) ∙ first-is n r
     number-back k (two l h) =
-        ap (λ (x : List ℕ). numberAt (with x) at) (own-two n l h) ∙ after-is inOneByte (n ∷ r) (omega arith) 1 refl
+        ap (λ (x : List ℕ). numberAt (with x) at) (head-two unsigned n l h) ∙ after-is inOneByte (n ∷ r) (omega arith) 1 refl
         ∙ field-one (p ++ (inOneByte ∷ n ∷ r)) (at + 1) ∙ second-is inOneByte n r
     number-back k (three l h) =
         ap (λ (x : List ℕ). numberAt (with x) at) (head-three unsigned n l h) ∙ after-is inTwoBytes (beBytes 2 n ++ r) (omega arith) 2 refl ∙ wide-is 2 inTwoBytes n h
@@ -68,7 +68,7 @@ module _ (p r : List ℕ) (at : ℕ) (e : length p ≡ at) where
     pub number-ends : Form n → numberEnd (with (headBytes unsigned n)) at ≡ at + length (headBytes unsigned n)
     unfolding numberWidth
     number-ends (one h) = ap (λ (x : List ℕ). numberEnd (with x) at) (own-one n h) ∙ end-is n r 0 _ (width-own n h) (size-one n h)
-    number-ends (two l h) = ap (λ (x : List ℕ). numberEnd (with x) at) (own-two n l h) ∙ end-is inOneByte (n ∷ r) 1 _ refl (size-two n l h)
+    number-ends (two l h) = ap (λ (x : List ℕ). numberEnd (with x) at) (head-two unsigned n l h) ∙ end-is inOneByte (n ∷ r) 1 _ refl (size-two n l h)
     number-ends (three l h) = ap (λ (x : List ℕ). numberEnd (with x) at) (head-three unsigned n l h) ∙ end-is inTwoBytes (beBytes 2 n ++ r) 2 _ refl (size-three n l h)
     number-ends (five l h) = ap (λ (x : List ℕ). numberEnd (with x) at) (head-five unsigned n l h) ∙ end-is inFourBytes (beBytes 4 n ++ r) 4 _ refl (size-five n l h)
     number-ends (nine l) = ap (λ (x : List ℕ). numberEnd (with x) at) (head-nine unsigned n l) ∙ end-is inEightBytes (beBytes 8 n ++ r) 8 _ refl (size-nine n l)
@@ -78,7 +78,7 @@ module _ (p r : List ℕ) (at : ℕ) (e : length p ≡ at) where
       byte-back : byteAt (with (headBytes unsigned n)) at ≡ n
       byte-back =
           ⊎-elim
-          (λ l. ap (λ (x : List ℕ). byteAt (with x) at) (own-two n l small)
+          (λ l. ap (λ (x : List ℕ). byteAt (with x) at) (head-two unsigned n l small)
           ∙ byte-two (p ++ (inOneByte ∷ n ∷ r)) at (rw (first-is inOneByte (n ∷ r)) (omega arith)) ∙ second-is inOneByte n r)
           (λ h. ap (λ (x : List ℕ). byteAt (with x) at) (own-one n h) ∙ byte-one (p ++ (n ∷ r)) at (rw (first-is n r) h) ∙ first-is n r)
           (le-or-lt inOneByte n)
@@ -86,7 +86,7 @@ module _ (p r : List ℕ) (at : ℕ) (e : length p ≡ at) where
       byte-ends : byteEnd (with (headBytes unsigned n)) at ≡ at + length (headBytes unsigned n)
       byte-ends =
           ⊎-elim
-          (λ l. ap (λ (x : List ℕ). byteEnd (with x) at) (own-two n l small)
+          (λ l. ap (λ (x : List ℕ). byteEnd (with x) at) (head-two unsigned n l small)
           ∙ byte-end-two (p ++ (inOneByte ∷ n ∷ r)) at (rw (first-is inOneByte (n ∷ r)) (omega arith)) ∙ ap (λ (k : ℕ). at + k) (size-two n l small))
           (λ h. ap (λ (x : List ℕ). byteEnd (with x) at) (own-one n h) ∙ byte-end-one (p ++ (n ∷ r)) at (rw (first-is n r) h)
           ∙ ap (λ (k : ℕ). at + k) (size-one n h))

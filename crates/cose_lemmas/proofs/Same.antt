@@ -7,9 +7,10 @@ use mathlib.Core.List.{List}
 use mathlib.Core.Logic.{⊎-elim}
 use native.Mathlib.Omega.{arith}
 use borrow.Author.Tests.{eq-eqb, ne-eqb}
+use borrow.Rule.Slice.PartAt.{part-to-end}
 use lib.Dec.{eqb}
 use lib.ListN.{length, getD, take, drop, length-drop}
-use lib.Seq.{take-at, take-all}
+use lib.Seq.{take-at}
 use Rattle.octets.proofs.Logic.{le-or-lt}
 use Rattle.octets.proofs.Over.{over-start}
 use Rattle.octets.specs.Logic.{choose}
@@ -113,8 +114,7 @@ module _ (s : List ℕ) where
 
   pub signature-is : (start : ℕ) → start ≡ signatureStart s → take (length s - start) (drop start s) ≡ signatureOf s
   unfolding signatureOf
-  signature-is start e =
-      take-all (length s - start) (drop start s) (simp length-drop (omega arith)) ∙ ap (λ (k : ℕ). drop k s) e
+  signature-is start e = part-to-end s start ∙ ap (λ (k : ℕ). drop k s) e
 
   pub claim-algorithm : claimOf s .algorithm ≡ algorithmOf s
   unfolding claimOf

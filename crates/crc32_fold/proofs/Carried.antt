@@ -1,7 +1,7 @@
 -- What five numbers carry, in turns: each turn is one word further, and the remainder stays.
 -- Assumes nothing.
 use Prim.Native.Nat.{ℕ, _+_, _-_, _*_, _%_, _^_, _<_, _≤_}
-use mathlib.Core.Path.{_≡_, sym, ap, ap₂, _∙_}
+use mathlib.Core.Path.{_≡_, refl, sym, ap, ap₂, _∙_}
 use mathlib.Core.List.{List, [], _∷_}
 use native.Mathlib.Omega.{arith}
 use lib.ListN.{length, getD}
@@ -11,8 +11,7 @@ use Rattle.crc32_lemmas.specs.Fold.{down, sparse, spread, num, remainderFrom, p
 use Rattle.crc32_lemmas.specs.Sizes.{wordAndCarry}
 use Rattle.crc32_lemmas.proofs.Sparse.{down-add, bits-spread}
 use Rattle.crc32_lemmas.proofs.Remainder.{At, remainder-fold, xor-last}
-use Rattle.crc32_lemmas.proofs.FoldWords.{down-on}
-use Rattle.crc32_lemmas.proofs.Joined.{up-zero, num-low}
+use Rattle.crc32_lemmas.proofs.Joined.{up-zero, down-places, num-low}
 use Rattle.crc32_fold.specs.declared.Carry.{Carry}
 use Rattle.crc32_fold.specs.Carried.{carried}
 
@@ -65,7 +64,7 @@ module _ (s : List ℕ) (at y : ℕ) where
   emptied-next n m p w x l h k adds folded so-far =
       let e : at + (p + 8) ≡ at + p + 8 = omega arith in
       let u = folded ∙ ap (λ (z : ℕ). bitXor (down 64 (carried n)) (spread sparse 1 pastWord (bitXor (n .a) (bitXor z w)))) adds in
-      ap₂ (remainderFrom s) e (ap₂ bitXor u (sym (down-on 8 8 y p))) ∙ sym (bits-turn-under n l s (at + p) w h k (down (8 * p) y)) ∙ so-far
+      ap₂ (remainderFrom s) e (ap₂ bitXor u (sym (down-places 8 p 8 (p + 8) y refl))) ∙ sym (bits-turn-under n l s (at + p) w h k (down (8 * p) y)) ∙ so-far
 
   -- and nothing of the window is left
   pub emptied-end : (n : Carry) (p end : ℕ) → p ≡ end → down (8 * end) y ≡ 0 → Emptied s at y n p → remainderFrom s (at + end) (carried n) ≡ remainderFrom s at y

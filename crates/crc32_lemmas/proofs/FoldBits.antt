@@ -17,30 +17,25 @@ five-xor : (a b c d e a′ b′ c′ d′ e′ : ℕ) → bitXor (fiveWords a b 
 unfolding num
 five-xor a b c d e a′ b′ c′ d′ e′ = num-xor 64 5 (λ (k : ℕ). getD (a ∷ b ∷ c ∷ d ∷ e ∷ []) k 0) (λ (k : ℕ). getD (a′ ∷ b′ ∷ c′ ∷ d′ ∷ e′ ∷ []) k 0)
 
--- two words among five, at 1, 2 and 3
-at-1 : (p q : ℕ) → fiveWords 0 p q 0 0 ≡ up 64 (bitXor p (up 64 q))
+-- a word further
+five-shift : (a b c d : ℕ) → fiveWords 0 a b c d ≡ up 64 (fiveWords a b c d 0)
 unfolding num
-at-1 p q = simp (up-zero, xor-zero-r, xor-zero-l)
+five-shift a b c d = simp (up-zero, xor-zero-r)
 
-at-2 : (p q : ℕ) → fiveWords 0 0 p q 0 ≡ up 64 (up 64 (bitXor p (up 64 q)))
-unfolding num
-at-2 p q = simp (up-zero, xor-zero-r, xor-zero-l)
+-- a number k places up is two words among five; from 0, 1, 2 and 3 on
+module _ (k t u : ℕ) (e : k + t ≡ 64) where
+  up-0 : fiveWords (u * 2 ^ k % 2 ^ 64) (u / 2 ^ t) 0 0 0 ≡ up k u
+  unfolding num
+  up-0 = simp (up-zero, xor-zero-r) (two-words k t u e)
 
-at-3 : (p q : ℕ) → fiveWords 0 0 0 p q ≡ up 64 (up 64 (up 64 (bitXor p (up 64 q))))
-unfolding num
-at-3 p q = simp (up-zero, xor-zero-r, xor-zero-l)
+  up-1 : fiveWords 0 (u * 2 ^ k % 2 ^ 64) (u / 2 ^ t) 0 0 ≡ up (k + 64) u
+  up-1 = five-shift _ _ 0 0 ∙ ap (up 64) up-0 ∙ up-up 64 k u
 
-up-1 : (k t u : ℕ) → k + t ≡ 64 → fiveWords 0 (u * 2 ^ k % 2 ^ 64) (u / 2 ^ t) 0 0 ≡ up (k + 64) u
-up-1 k t u e = at-1 (u * 2 ^ k % 2 ^ 64) (u / 2 ^ t) ∙ ap (up 64) (two-words k t u e) ∙ up-up 64 k u
+  up-2 : fiveWords 0 0 (u * 2 ^ k % 2 ^ 64) (u / 2 ^ t) 0 ≡ up (k + 64 + 64) u
+  up-2 = five-shift 0 _ _ 0 ∙ ap (up 64) up-1 ∙ up-up 64 (k + 64) u
 
-up-2 : (k t u : ℕ) → k + t ≡ 64 → fiveWords 0 0 (u * 2 ^ k % 2 ^ 64) (u / 2 ^ t) 0 ≡ up (k + 64 + 64) u
-up-2 k t u e =
-    at-2 (u * 2 ^ k % 2 ^ 64) (u / 2 ^ t) ∙ ap (λ (x : ℕ). up 64 (up 64 x)) (two-words k t u e) ∙ ap (up 64) (up-up 64 k u) ∙ up-up 64 (k + 64) u
-
-up-3 : (k t u : ℕ) → k + t ≡ 64 → fiveWords 0 0 0 (u * 2 ^ k % 2 ^ 64) (u / 2 ^ t) ≡ up (k + 64 + 64 + 64) u
-up-3 k t u e =
-    at-3 (u * 2 ^ k % 2 ^ 64) (u / 2 ^ t) ∙ ap (λ (x : ℕ). up 64 (up 64 (up 64 x))) (two-words k t u e)
-    ∙ ap (λ (x : ℕ). up 64 (up 64 x)) (up-up 64 k u) ∙ ap (up 64) (up-up 64 (k + 64) u) ∙ up-up 64 (k + 64 + 64) u
+  up-3 : fiveWords 0 0 0 (u * 2 ^ k % 2 ^ 64) (u / 2 ^ t) ≡ up (k + 64 + 64 + 64) u
+  up-3 = five-shift 0 0 _ _ ∙ ap (up 64) up-2 ∙ up-up 64 (k + 64 + 64) u
 
 -- what a word adds, by shifts
 pub spread-bits : (u : ℕ)
@@ -61,5 +56,5 @@ pub next-carry : (a b c d e p q r z : ℕ) → a < 2 ^ 64 → fiveWords b (bitXo
 unfolding num
 next-carry a b c d e p q r z l =
     let g : down 64 (fiveWords a b c d e) ≡ fiveWords b c d e 0 =
-    num-down 64 4 (λ (k : ℕ). getD (a ∷ b ∷ c ∷ d ∷ e ∷ []) k 0) l ∙ simp (up-zero, xor-zero-r, xor-zero-l) in
+    num-down 64 4 (λ (k : ℕ). getD (a ∷ b ∷ c ∷ d ∷ e ∷ []) k 0) l ∙ simp (up-zero, xor-zero-r) in
     sym (ap (λ (x : ℕ). bitXor x (fiveWords 0 p q r z)) g ∙ five-xor b c d e 0 0 p q r z ∙ simp (xor-zero-l, xor-zero-r))

@@ -162,11 +162,8 @@ taps-low m b j x [] = refl
 taps-low m b j x (k ∷ ks) =
     let y : ℕ = taps (λ (i : ℕ). down (m * i)) ks x in
     ap (λ (z : ℕ). z % 2 ^ b) (down-add (m * j) y (down (m * k) x)) ∙ xor-mod (down (m * j) y) (down (m * j) (down (m * k) x)) b
-    ∙ ap₂ bitXor (taps-low m b j x ks) (ap (λ (z : ℕ). z % 2 ^ b) (down-places m j k x))
+    ∙ ap₂ bitXor (taps-low m b j x ks) (ap (λ (z : ℕ). z % 2 ^ b) (down-places m k j (j + k) x (add-comm k j)))
 
 pub mix-from : (ks : List ℕ) (m b x j : ℕ) → down (m * j) (mix ks m x) % 2 ^ b ≡ lowest ks (λ (i : ℕ). down (m * i) x % 2 ^ b) j
 unfolding mix
 mix-from ks m b x j = taps-low m b j x ks
-
-pub down-on : (m k x j : ℕ) → down (m * k) (down (m * j) x) ≡ down (m * (j + k)) x
-down-on m k x j = down-places m k j x ∙ ap (λ (n : ℕ). down (m * n) x) (add-comm k j)

@@ -3,7 +3,7 @@
 use Prim.Native.Nat.{ℕ, zero, suc, _+_, _-_, _*_, _/_, _%_, _^_, _<_, _≤_}
 use mathlib.Core.Path.{_≡_, refl, sym, ap, ap₂, _∙_}
 use native.Mathlib.Omega.{arith}
-use native.Mathlib.Nat.{add-comm, zero-div, zero-mul, mul-one, mod-eq-of-lt, mod-lt, div-eq-of-lt, suc-add, mul-assoc, zero-add, mul-mod-left, mul-zero}
+use native.Mathlib.Nat.{zero-div, zero-mul, mul-one, mod-eq-of-lt, mod-lt, div-eq-of-lt, suc-add, mul-assoc, zero-add, mul-mod-left, mul-zero}
 use lib.Pow.{shl-shr, shr-shr, pow-add, pow-pos, split}
 use lib.Bits.{bitXor, xor-shr, xor-mod, xor-zero-l, xor-zero-r, xor-comm, xor-shifted}
 use Rattle.crc32_lemmas.specs.Fold.{down, up, num}
@@ -38,9 +38,11 @@ pub down-zero : (k : ℕ) → down k 0 ≡ 0
 unfolding down
 down-zero k = zero-div (2 ^ k)
 
-pub down-places : (m j k x : ℕ) → down (m * j) (down (m * k) x) ≡ down (m * (j + k)) x
+pub down-places : (m j k n x : ℕ) → j + k ≡ n → down (m * k) (down (m * j) x) ≡ down (m * n) x
 unfolding down
-down-places m j k x = let e : m * k + m * j ≡ m * (j + k) = omega arith in shr-shr x (m * k) (m * j) ∙ ap (λ (n : ℕ). x / 2 ^ n) e
+down-places m j k n x h =
+    let e : m * j + m * k ≡ m * (j + k) = omega arith in
+    shr-shr x (m * j) (m * k) ∙ ap (λ (i : ℕ). x / 2 ^ i) (e ∙ ap (λ (i : ℕ). m * i) h)
 
 -- a word k places up is two words
 pub two-words : (k t u : ℕ) → k + t ≡ 64 → bitXor (u * 2 ^ k % 2 ^ 64) (up 64 (u / 2 ^ t)) ≡ up k u
@@ -116,7 +118,6 @@ module _ (b : ℕ) where
   unfolding num
   num-past n i f h l =
       let d : ℕ = i - n in
-      let e : i ≡ n + d = omega arith in
       let z : n ≡ n + 0 = omega arith in
-      ap (λ (m : ℕ). down (b * m) (num b n f)) e ∙ sym (down-places b d n (num b n f) ∙ ap (λ (m : ℕ). down (b * m) (num b n f)) (add-comm d n))
+      sym (down-places b n d i (num b n f) (omega arith))
       ∙ ap (down (b * d)) (ap (λ (m : ℕ). down (b * n) (num b m f)) z ∙ num-drop n 0 f h) ∙ down-zero (b * d)

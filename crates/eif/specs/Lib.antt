@@ -13,3 +13,4 @@ pub mod Roll
 pub mod Order
 pub mod Rows
 pub mod Worked
+pub mod Values

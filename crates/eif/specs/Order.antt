@@ -7,7 +7,6 @@ use mathlib.Core.List.{List, [], _∷_, _++_}
 use lib.Dec.{ltb, leb, eqb}
 use lib.ListN.{length}
 use Rattle.eif.specs.Table.{joinFrom}
-use Rattle.octets.specs.Bytes.{leField}
 use Rattle.eif.specs.Numbers.{sizeLimit, placeCount, kernel, ramdisk, imageTooLong, imageTooShort, wrongMagic, wrongVersion, wrongCount, startsEarly, endsLate, sizesDiffer, typeNotAllowed, ramdiskBeforeKernel, typeRepeated, sectionMissing, checksumDiffers, notPacked, outputTooShort, dataLengthDiffers, recordCut, recordTypeWrong, bytesAfterEnd, pastStreamEnd}
 use Rattle.octets.specs.Logic.{both, either, choose}
 use Rattle.eif.specs.Answers.{refuseAt}
@@ -16,7 +15,7 @@ use Rattle.eif.specs.Layout.{magicNumber, headerSize, versionAt, countAt
 use Rattle.eif.specs.Reading.{hasTail, checksumOf}
 use Rattle.eif.specs.Plan.{plannedKind, plainSize, dataBefore}
 use Rattle.eif.specs.Stream.{streamOf, listedBytes}
-use Rattle.eif.specs.Roll.{recordHeadSize, recordLengthAt, recordTypeAt, flagsType, flagsLength, flagsRecordSize, restOf, recordAt, recordStart, recordSize, recordKind, isEnd, sizeAsImage, rollBytes}
+use Rattle.eif.specs.Roll.{recordHeadSize, flagsRecordSize, restOf, recordAt, recordStart, recordSize, recordKind, isEnd, sizeAsImage, rollBytes, flagsHeadWrong}
 use Rattle.eif.specs.declared.Plan.{Plan}
 use Rattle.eif.specs.declared.Stream.{Stream}
 use Rattle.eif.specs.declared.StreamSections.{StreamSections}
@@ -32,6 +31,10 @@ pub record Rule : Type 0 where
 
 abbrev pub rule : Bool → ℕ → ℕ → ℕ → Rule
 rule applies number index position = record { applies = applies; number = number; index = index; position = position }
+
+-- 14, for so much room and so many bytes
+abbrev pub roomRule : ℕ → ℕ → Rule
+roomRule room size = rule (ltb room size) outputTooShort 0 0
 
 -- the refusal of the first rule that applies
 unfoldable pub firstThatApplies : List Rule → Verdict
@@ -98,7 +101,7 @@ unfoldable pub writeRules : Plan → ℕ → ℕ → List Rule
 writeRules p given room =
     planRules p
     ++ (rule (not (eqb given (dataBefore (p .places) (p .count)))) dataLengthDiffers 0 0
-    ∷ rule (ltb room (plainSize p)) outputTooShort 0 0
+    ∷ roomRule room (plainSize p)
     ∷ [])
 
 -- ---- copying from a stream, and writing a roll: the image's own, then 19 or 14
@@ -111,7 +114,7 @@ unfoldable pub copyListedRules : List ℕ → StreamSections → ℕ → List Ru
 copyListedRules s list from = rule (ltb (length (listedBytes s list)) from) pastStreamEnd 0 0 ∷ []
 
 unfoldable pub rollWriteRules : List ℕ → ℕ → List Rule
-rollWriteRules s room = imageRules s ++ (rule (ltb room (length (rollBytes s))) outputTooShort 0 0 ∷ [])
+rollWriteRules s room = imageRules s ++ (roomRule room (length (rollBytes s)) ∷ [])
 
 -- ---- reading a roll: of the flags record 16, 17, 16; then per record 16, 17; stop at the end record; 5, 16, 10, 11. After the end
 -- record 18, 12, 1. Record i of the rest is record i + 1 of the roll, and starts twelve bytes further on in it
@@ -119,7 +122,7 @@ rollWriteRules s room = imageRules s ++ (rule (ltb room (length (rollBytes s))) 
 unfoldable pub flagsRules : List ℕ → List Rule
 flagsRules s =
     rule (ltb (length s) recordHeadSize) recordCut 0 0
-    ∷ rule (either (not (eqb (leField 2 recordTypeAt s) flagsType)) (not (eqb (leField 8 recordLengthAt s) flagsLength))) recordTypeWrong 0 0
+    ∷ rule (flagsHeadWrong s) recordTypeWrong 0 0
     ∷ rule (ltb (length s) flagsRecordSize) recordCut 0 0
     ∷ []
 

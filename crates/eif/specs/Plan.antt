@@ -9,10 +9,10 @@ use lib.Dec.{ltb, eqb}
 use lib.ListN.{length, take, drop, getD}
 use Rattle.octets.specs.Bytes.{beBytes, beBytesEach}
 use Rattle.crc32.specs.Crc.{crc32}
-use Rattle.eif.specs.Numbers.{sizeLimit, placeCount, imageTooLong, sectionMissing, dataLengthDiffers}
+use Rattle.eif.specs.Numbers.{sizeLimit, placeCount, imageTooLong, dataLengthDiffers}
 use Rattle.octets.specs.Logic.{choose}
 use Rattle.eif.specs.Answers.{andThen, wholeVerdict}
-use Rattle.eif.specs.Rules.{fieldFault, typeFault, missing, firstFault}
+use Rattle.eif.specs.Rules.{fieldFault, typesVerdict}
 use Rattle.eif.specs.Table.{filled, joinFrom}
 use Rattle.eif.specs.Layout.{magicNumber, viewOf, reserved, reservedAfter, countOf, offsetAt, sizeAt, entrySize, packedBy}
 use Rattle.eif.specs.Reading.{verdictOf, dataOf, sectionIn}
@@ -61,17 +61,12 @@ sizeFault p given =
     (choose (not (eqb given (dataBefore (p .places) (p .count)))) dataLengthDiffers
     0)
 
--- 12, 1 and 15
-unfoldable pub planFault : Plan → ℕ → ℕ
-planFault p given =
-    choose (missing (plannedKind (p .places)) (p .version) (p .count)) sectionMissing (sizeFault p given)
-
--- the rules but 14, which the output adds: 4 and 5, then 9, 10 and 11 section by section, then the others
+-- the rules but 14, which the output adds: 4 and 5, those on types, 1 and 15
 unfoldable pub planVerdict : Plan → ℕ → Verdict
 planVerdict p given =
     andThen (wholeVerdict (fieldFault (p .version) (p .count)))
-    (andThen (firstFault (typeFault (p .version) (plannedKind (p .places))) (p .count) 0)
-    (wholeVerdict (planFault p given)))
+    (andThen (typesVerdict (p .version) (plannedKind (p .places)) (p .count))
+    (wholeVerdict (sizeFault p given)))
 
 -- all, for so many bytes of data and of room
 unfoldable pub writeVerdict : Plan → ℕ → ℕ → Verdict
@@ -86,22 +81,17 @@ fixedFields p =
     beBytes 4 magicNumber ++ (beBytes 2 (p .version) ++ (beBytes 2 (p .flags) ++ (beBytes 8 (p .«default_mem»)
     ++ (beBytes 8 (p .«default_cpus») ++ (beBytes 2 0 ++ beBytes 2 (p .count))))))
 
--- the two tables: their numbers, and their bytes
-abbrev pub offsetsOf : List Place → ℕ → List ℕ
-offsetsOf l count = filled (packedAt l) 0 placeCount count
+-- a table of the header: a number for each used place, then 0; and its bytes
+abbrev pub tableOf : (ℕ → ℕ) → ℕ → List ℕ
+tableOf f count = filled f 0 placeCount count
 
-abbrev pub sizesOf : List Place → ℕ → List ℕ
-sizesOf l count = filled (plannedSize l) 0 placeCount count
+unfoldable pub tableBytes : (ℕ → ℕ) → ℕ → List ℕ
+tableBytes f count = beBytesEach entrySize (tableOf f count)
 
-unfoldable pub offsetTable : List Place → ℕ → List ℕ
-offsetTable l count = beBytesEach entrySize (offsetsOf l count)
-
-unfoldable pub sizeTable : List Place → ℕ → List ℕ
-sizeTable l count = beBytesEach entrySize (sizesOf l count)
-
--- the header up to the checksum, 544 bytes: its last field is reserved
+-- the header up to the checksum, 544 bytes: the offsets and the sizes of the sections; its last field is reserved
 unfoldable pub headerBytes : Plan → List ℕ
-headerBytes p = fixedFields p ++ (offsetTable (p .places) (p .count) ++ (sizeTable (p .places) (p .count) ++ beBytes 4 0))
+headerBytes p =
+    fixedFields p ++ (tableBytes (packedAt (p .places)) (p .count) ++ (tableBytes (plannedSize (p .places)) (p .count) ++ beBytes 4 0))
 
 -- the data of section i, taken from the lent data in plan order
 abbrev pub pieceAt : List Place → List ℕ → ℕ → List ℕ

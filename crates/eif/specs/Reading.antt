@@ -10,7 +10,7 @@ use Rattle.eif.specs.Numbers.{sizeLimit, placeCount, ramdisk, imageTooLo
 use Rattle.octets.specs.Lists.{sumBy}
 use Rattle.octets.specs.Logic.{either, choose}
 use Rattle.eif.specs.Answers.{refuseAt, andThen, wholeAt, wholeVerdict}
-use Rattle.eif.specs.Rules.{fieldFault, allowedIn, orderFault, missing, firstFault}
+use Rattle.eif.specs.Rules.{fieldFault, allowedIn, orderFault, firstFault, missingFault}
 use Rattle.eif.specs.Table.{filled}
 use Rattle.eif.specs.Layout.{magicNumber, headerSize, sectionHeaderSize, versionAt, countAt, offsetsAt, checksumAt, checksumEnd, View, viewOf, magic, version, headerFlags, architecture, defaultMem, defaultCpus, count, offsetEntry, entryAt, offset, tableSize, checksum, end, start}
 use Rattle.eif.specs.declared.Section.{Section}
@@ -47,10 +47,6 @@ sectionFault v i =
 abbrev pub hasTail : View → Bool
 hasTail v = ltb (start v (count v)) (v .size)
 
--- 12
-unfoldable pub missingFault : View → ℕ
-missingFault v = choose (missing (v .kind) (version v) (count v)) sectionMissing 0
-
 -- 20, for bytes after the last section
 unfoldable pub tailFault : View → ℕ
 tailFault v = choose (hasTail v) notPacked 0
@@ -84,7 +80,7 @@ unfoldable pub judged : View → Verdict
 judged v =
     andThen (wholeVerdict (headerFault v))
     (andThen (firstFault (sectionFault v) (count v) 0)
-    (wholeVerdict (missingFault v)))
+    (wholeVerdict (missingFault (v .kind) (version v) (count v))))
 
 -- by all rules but 13: those with their positions, then bytes after the last section, of which the first is at fault
 unfoldable pub early : View → Verdict
@@ -136,6 +132,10 @@ sectionsOf s = sections (viewOf s)
 -- the data bytes of a section
 abbrev pub dataOf : List ℕ → Section → List ℕ
 dataOf s x = take (x .length .0) (drop (x .position .0) s)
+
+-- of section i
+abbrev pub ownData : List ℕ → ℕ → List ℕ
+ownData s i = dataOf s (sectionAt s i)
 
 -- ---- the ramdisk mark, a term of FORMAT.md: bit i is one exactly when section i is a ramdisk
 

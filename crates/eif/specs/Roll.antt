@@ -122,11 +122,15 @@ rollOutput s d = outputFor (rollVerdict s (length d)) (rollBytes s) d
 
 -- ---- reading: the flags record
 
+-- the test of its rule 17
+abbrev pub flagsHeadWrong : List ℕ → Bool
+flagsHeadWrong s = either (not (eqb (leField 2 recordTypeAt s) flagsType)) (not (eqb (leField 8 recordLengthAt s) flagsLength))
+
 -- its rules 16, 17 and 16, all at record 0; 0: none applies
 unfoldable pub flagsFault : List ℕ → ℕ
 flagsFault s =
     choose (ltb (length s) recordHeadSize) recordCut
-    (choose (either (not (eqb (leField 2 recordTypeAt s) flagsType)) (not (eqb (leField 8 recordLengthAt s) flagsLength))) recordTypeWrong
+    (choose (flagsHeadWrong s) recordTypeWrong
     (choose (ltb (length s) flagsRecordSize) recordCut
     0))
 
@@ -199,9 +203,13 @@ rollFault s n =
 abbrev pub recordStart : List ℕ → ℕ → ℕ
 recordStart s i = flagsRecordSize + recordAt s i
 
--- a refusal at record i of the rest, whose index counts the flags record too: 5 gives the index 0; the position is the record's start
+-- a refusal at record i of the rest, which starts there at a position: the index counts the flags record too, but 5 gives 0, and the position is
+-- the record's start in the roll
+abbrev pub stopAt : ℕ → ℕ → ℕ → Verdict
+stopAt number i at = refuseAt number (choose (eqb number wrongCount) 0 (suc i)) (flagsRecordSize + at)
+
 abbrev pub stopVerdict : List ℕ → ℕ → ℕ → Verdict
-stopVerdict s number i = refuseAt number (choose (eqb number wrongCount) 0 (suc i)) (recordStart s i)
+stopVerdict s number i = stopAt number i (recordAt s i)
 
 -- a refusal of a roll whose end record is record n of the rest: 18 gives the first byte after it, 12 and 1 give 0
 abbrev pub endVerdict : List ℕ → ℕ → ℕ → Verdict

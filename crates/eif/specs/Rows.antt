@@ -10,9 +10,11 @@ use Rattle.eif.specs.Table.{inTable}
 use Rattle.octets.specs.Bytes.{leField}
 use Rattle.eif.specs.Answers.{refuseAt}
 use Rattle.eif.specs.Rules.{seen, orderFault, missing}
-use Rattle.eif.specs.Roll.{rollOf, headOf, flagsRecord, flagsFault, readRest, readRoll, refusedRoll, acceptedRoll, blankRecord, endFrom, recordAt, headFault, bodyFault, rollFault}
+use Rattle.eif.specs.Roll.{rollOf, headOf, flagsRecord, flagsFault, readRest, readRoll, endFrom, recordAt, headFault, bodyFault, rollFault}
 use Rattle.eif.specs.declared.RollRecord.{RollRecord}
 use Rattle.eif.specs.declared.RollReading.{RollReading}
+use Rattle.eif.specs.declared.Verdict.the-variants.{Accepted}
+use Rattle.octets.specs.Lists.{joined}
 
 pub record Row : Type 0 where
   pub roll : List ℕ
@@ -50,11 +52,19 @@ workedRoll = 0x02 ∷ 0x00 ∷ 0x00 ∷ 0x00 ∷ 0x00 ∷ 0x00 ∷ 0x00 ∷ 0x00
 abbrev listedRecord : ℕ → ℕ → ℕ → RollRecord
 listedRecord kind position size = record { kind = kind; position = record { 0 = position }; length = record { 0 = size } }
 
+-- an unused place
+abbrev zeroRecord : RollRecord
+zeroRecord = listedRecord 0 0 0
+
+abbrev readWith : ℕ → List RollRecord → RollReading
+readWith flags records = record { verdict = Accepted; flags = flags; count = length records; records = inTable zeroRecord records }
+
 abbrev acceptedWith : List RollRecord → RollReading
-acceptedWith records = acceptedRoll 0 (length records) (inTable blankRecord records)
+acceptedWith records = readWith 0 records
 
 abbrev refusedWith : ℕ → ℕ → ℕ → RollReading
-refusedWith number index position = refusedRoll (refuseAt number index position)
+refusedWith number index position =
+    record { verdict = refuseAt number index position; flags = 0; count = 0; records = replicate 32 zeroRecord }
 
 abbrev row : List ℕ → RollReading → Row
 row roll answer = record { roll = roll; answer = answer }
@@ -77,12 +87,8 @@ rollRows =
     ∷ []
 
 -- a flags record, kernel, command line and thirty empty ramdisks; and what is listed of these ramdisks
-abbrev copies : ℕ → List ℕ → List ℕ
-copies zero x = []
-copies (suc n) x = x ++ copies n x
-
 abbrev fullRoll : List ℕ
-fullRoll = noFlags ++ kernelRecord ++ commandLineRecord ++ copies 30 ramdiskRecord
+fullRoll = noFlags ++ kernelRecord ++ commandLineRecord ++ joined (replicate 30 ramdiskRecord)
 
 abbrev ramdisksFrom : ℕ → ℕ → List RollRecord
 ramdisksFrom zero at = []
@@ -101,10 +107,10 @@ flagsRows =
     ∷ row (take 11 workedRoll) (refusedWith 16 0 0)
     ∷ row (noFlags ++ workedRoll) (refusedWith 17 1 12)
     ∷ row (flagsRecord 0xffff ++ kernelRecord ++ commandLineRecord ++ endRecord)
-    (acceptedRoll 0xffff 2 (listedRecord 1 22 1 ∷ listedRecord 2 33 1 ∷ replicate 30 blankRecord))
+    (readWith 0xffff (listedRecord 1 22 1 ∷ listedRecord 2 33 1 ∷ []))
     ∷ row (headOf 2 256 ++ (0x01 ∷ 0x02 ∷ []) ++ kernelRecord ++ commandLineRecord ++ endRecord)
-    (acceptedRoll 0x0201 2 (listedRecord 1 22 1 ∷ listedRecord 2 33 1 ∷ replicate 30 blankRecord))
-    ∷ row (fullRoll ++ endRecord) (acceptedRoll 0 32 (listedRecord 1 22 1 ∷ listedRecord 2 33 1 ∷ ramdisksFrom 30 44))
+    (readWith 0x0201 (listedRecord 1 22 1 ∷ listedRecord 2 33 1 ∷ []))
+    ∷ row (fullRoll ++ endRecord) (acceptedWith (listedRecord 1 22 1 ∷ listedRecord 2 33 1 ∷ ramdisksFrom 30 44))
     ∷ row (fullRoll ++ ramdiskRecord ++ endRecord) (refusedWith 5 0 334)
     ∷ []
 

@@ -3,9 +3,9 @@
 use Prim.Native.Nat.{ℕ, zero, suc}
 use mathlib.Core.Bool.{Bool, false, not}
 use lib.Dec.{leb, eqb}
-use Rattle.eif.specs.Numbers.{signatureVersion, metadataVersion, oldestVersion, newestVersion, fewestSections, placeCount, kernel, commandLine, ramdisk, signature, metadata, wrongVersion, wrongCount, typeNotAllowed, ramdiskBeforeKernel, typeRepeated}
+use Rattle.eif.specs.Numbers.{signatureVersion, metadataVersion, oldestVersion, newestVersion, fewestSections, placeCount, kernel, commandLine, ramdisk, signature, metadata, wrongVersion, wrongCount, typeNotAllowed, ramdiskBeforeKernel, typeRepeated, sectionMissing}
 use Rattle.octets.specs.Logic.{both, either, choose}
-use Rattle.eif.specs.Answers.{verdictAt, andThen}
+use Rattle.eif.specs.Answers.{verdictAt, andThen, wholeVerdict}
 use Rattle.eif.specs.declared.Verdict.{Verdict}
 use Rattle.eif.specs.declared.Verdict.the-variants.{Accepted}
 
@@ -40,12 +40,13 @@ unfoldable pub seen : (ℕ → ℕ) → ℕ → ℕ → Bool
 seen kinds kind zero = false
 seen kinds kind (suc i) = either (eqb (kinds i) kind) (seen kinds kind i)
 
--- the rules 10 and 11 at a section of a type that stands after i others; 0: none applies
+-- the rules 10 and 11, by whether it is a ramdisk, a kernel was seen before, and its type was; 0: none applies
+abbrev pub orderOf : Bool → Bool → Bool → ℕ
+orderOf isRamdisk kernelSeen typeSeen = choose isRamdisk (choose kernelSeen 0 ramdiskBeforeKernel) (choose typeSeen typeRepeated 0)
+
+-- at a section of a type that stands after i others
 unfoldable pub orderFault : (ℕ → ℕ) → ℕ → ℕ → ℕ
-orderFault kinds kind i =
-    choose (eqb kind ramdisk)
-    (choose (seen kinds kernel i) 0 ramdiskBeforeKernel)
-    (choose (seen kinds kind i) typeRepeated 0)
+orderFault kinds kind i = orderOf (eqb kind ramdisk) (seen kinds kernel i) (seen kinds kind i)
 
 -- the rules 9, 10 and 11 at section i, in a version; 0: none applies
 unfoldable pub typeFault : ℕ → (ℕ → ℕ) → ℕ → ℕ
@@ -68,3 +69,11 @@ firstRefusal verdict (suc n) i = andThen (verdict i) (firstRefusal verdict n (su
 -- the first of them that has a fault, where the faults are given by place (0: none)
 abbrev pub firstFault : (ℕ → ℕ) → ℕ → ℕ → Verdict
 firstFault fault n i = firstRefusal (λ j. verdictAt (fault j) j 0) n i
+
+-- rule 12 on an image or a plan; 0: it does not apply
+unfoldable pub missingFault : (ℕ → ℕ) → ℕ → ℕ → ℕ
+missingFault kinds version n = choose (missing kinds version n) sectionMissing 0
+
+-- all rules on the types of n sections: 9, 10 and 11 section by section, then 12
+unfoldable pub typesVerdict : ℕ → (ℕ → ℕ) → ℕ → Verdict
+typesVerdict version kinds n = andThen (firstFault (typeFault version kinds) n 0) (wholeVerdict (missingFault kinds version n))

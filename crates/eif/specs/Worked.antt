@@ -11,14 +11,14 @@ use Rattle.eif.specs.Output.{roomVerdict}
 use Rattle.octets.specs.Bytes.{beValue, field}
 use Rattle.octets.specs.Over.{over}
 use Rattle.crc32.specs.Crc.{crc32, crcFrom, shiftBits, shiftBit}
-use Rattle.eif.specs.Numbers.{kernel, commandLine, ramdisk, signature}
-use Rattle.eif.specs.Rules.{allowedIn, seen, orderFault, typeFault, missing, firstRefusal, fieldFault}
+use Rattle.eif.specs.Numbers.{kernel, commandLine, ramdisk, signature, metadata}
+use Rattle.eif.specs.Rules.{allowedIn, seen, orderFault, typeFault, missing, missingFault, typesVerdict, firstRefusal, fieldFault}
 use Rattle.eif.specs.Answers.{refuse, refuseAt, andThen}
 use Rattle.eif.specs.Layout.{viewOf, offsetAt, packedBy}
-use Rattle.eif.specs.Reading.{headerFault, entryFault, sectionFault, missingFault, tailFault, checksumFault, positionIn, judged, early, verdictIn, checksumOf, verdictOf, blankSection, sectionsOf, readingOf, markOf}
-use Rattle.eif.specs.Plan.{blankPlace, planFault, planVerdict, dataBefore, fixedFields, offsetTable, sizeTable, headerBytes, sectionHeader, plainImage, writeVerdict, sizeFault, placeAt}
+use Rattle.eif.specs.Reading.{headerFault, entryFault, sectionFault, tailFault, checksumFault, positionIn, judged, early, verdictIn, checksumOf, verdictOf, blankSection, sectionsOf, readingOf, markOf}
+use Rattle.eif.specs.Plan.{blankPlace, planVerdict, dataBefore, fixedFields, tableBytes, headerBytes, sectionHeader, plainImage, writeVerdict, sizeFault, placeAt}
 use Rattle.eif.specs.Roll.{headOf, flagsRecord, rollOf, measuredIn, rollBytes, rollVerdict}
-use Rattle.eif.specs.Stream.{keeps, kept, streamSections, copyVerdict, streamOf, pastEnd}
+use Rattle.eif.specs.Stream.{keeps, kept, streamSections, sectionsAnswer, streamPart, copyVerdict, copiedFor, copyAnswer, lengthFor, lengthAnswer, streamOf, pastEnd}
 use Rattle.eif.specs.Rows.{workedRoll}
 use Rattle.eif.specs.declared.Place.{Place}
 use Rattle.eif.specs.declared.Plan.{Plan}
@@ -27,11 +27,11 @@ use Rattle.eif.specs.declared.Stream.the-variants.{Whole, Boot, App}
 use Rattle.eif.specs.declared.Verdict.{Verdict}
 use Rattle.eif.specs.declared.Verdict.the-variants.{Accepted}
 
-abbrev workedPlace : ℕ → ℕ → Place
+abbrev pub workedPlace : ℕ → ℕ → Place
 workedPlace kind size = record { kind = kind; flags = 0; length = record { 0 = size } }
 
 -- with these places alone, and 0 in the fields that no rule judges
-abbrev planOver : ℕ → List Place → Plan
+abbrev pub planOver : ℕ → List Place → Plan
 planOver version places =
     record {
       version = version;
@@ -62,7 +62,7 @@ workedImage =
     ++ 0 ∷ 3 ∷ replicate 10 0
 
 pub worked-plain : plainImage workedPlan (0x4b ∷ 0x61 ∷ []) ≡ workedImage
-unfolding inTable crc32 crcFrom shiftBits shiftBit plainImage headerBytes fixedFields offsetTable sizeTable packedBy joinFrom sectionHeader dataBefore
+unfolding inTable crc32 crcFrom shiftBits shiftBit plainImage headerBytes fixedFields tableBytes packedBy joinFrom sectionHeader dataBefore
 worked-plain = refl
 
 pub worked-length : length workedImage ≡ 586
@@ -91,12 +91,12 @@ abbrev incompletePlan : Plan
 incompletePlan = planOver 3 (workedPlace kernel 1 ∷ workedPlace signature 1 ∷ [])
 
 pub missing-before-tail : verdictOf (plainImage incompletePlan (0x4b ∷ 0x61 ∷ []) ++ 0 ∷ []) ≡ refuseAt 12 0 26
-unfolding verdictIn early judged positionIn headerFault fieldFault firstRefusal sectionFault entryFault allowedIn orderFault seen missingFault tailFault missing checksumFault field beValue plainImage headerBytes fixedFields offsetTable sizeTable packedBy joinFrom sectionHeader dataBefore inTable
+unfolding verdictIn early judged positionIn headerFault fieldFault firstRefusal sectionFault entryFault allowedIn orderFault seen missingFault tailFault missing checksumFault field beValue plainImage headerBytes fixedFields tableBytes packedBy joinFrom sectionHeader dataBefore inTable
 missing-before-tail = refl
 
 -- the plan alone is at fault, and a plan has no position
 pub incomplete-plan : planVerdict incompletePlan 2 ≡ refuse 12 0
-unfolding planVerdict fieldFault firstRefusal typeFault allowedIn orderFault seen planFault missing inTable
+unfolding planVerdict fieldFault firstRefusal typeFault allowedIn orderFault seen typesVerdict missingFault missing inTable
 incomplete-plan = refl
 
 -- ---- what is refused, and where: some bytes of the image are others, from a position on
@@ -133,13 +133,24 @@ judgedBefore13 =
     ∷ refusedImage (workedImage ++ 0 ∷ []) (refuseAt 20 0 586)
     ∷ []
 
+-- two faults, of which the first is told: 2 and 3, 3 and 4, 4 and 5; 20 and 7, 8 and 9 at section 1; 11 at section 1 and 12
+abbrev judgedInOrder : List RefusedImage
+judgedInOrder =
+    refusedImage (take 547 (over workedImage 3 (0x67 ∷ []))) (refuseAt 2 0 0)
+    ∷ changedImage 3 (0x67 ∷ 0 ∷ 5 ∷ []) (refuseAt 3 0 0)
+    ∷ changedImage 5 (5 ∷ replicate 21 0 ++ 33 ∷ []) (refuseAt 4 0 4)
+    ∷ refusedImage (over (over workedImage 42 (2 ∷ 0x32 ∷ [])) 299 (255 ∷ [])) (refuseAt 20 1 36)
+    ∷ changedImage 562 (6 ∷ replicate 9 0 ++ 2 ∷ []) (refuseAt 8 1 561)
+    ∷ changedImage 562 (1 ∷ []) (refuseAt 11 1 561)
+    ∷ []
+
 -- these and 13
 abbrev pub refusedImages : List RefusedImage
-refusedImages = judgedBefore13 ++ refusedImage otherChecksum (refuseAt 13 0 544) ∷ []
+refusedImages = judgedBefore13 ++ judgedInOrder ++ refusedImage otherChecksum (refuseAt 13 0 544) ∷ []
 
 pub refusals-hold : map (λ (r : RefusedImage). verdictOf (r .image)) refusedImages ≡ map (λ (r : RefusedImage). r .verdict) refusedImages
 unfolding over verdictIn early judged positionIn headerFault fieldFault firstRefusal sectionFault entryFault allowedIn orderFault seen missingFault tailFault missing checksumFault field beValue checksumOf
-refusals-hold = ap (λ (sum : ℕ). map (λ (r : RefusedImage). verdictOf (r .image)) judgedBefore13 ++ verdictIn (viewOf otherChecksum) sum ∷ []) worked-checksum
+refusals-hold = ap (λ (sum : ℕ). map (λ (r : RefusedImage). verdictOf (r .image)) (judgedBefore13 ++ judgedInOrder) ++ verdictIn (viewOf otherChecksum) sum ∷ []) worked-checksum
 
 abbrev pub workedSection : ℕ → ℕ → ℕ → Section
 workedSection kind position size = record { kind = kind; flags = 0; position = record { 0 = position }; length = record { 0 = size } }
@@ -152,18 +163,38 @@ pub worked-roll : rollBytes workedImage ≡ workedRoll
 unfolding rollBytes flagsRecord rollOf headOf measuredIn field beValue
 worked-roll = refl
 
--- ---- streams in file order: of kernel, two ramdisks and then the command line
+-- ---- streams and roll in file order: of kernel, signature, two ramdisks, command line and metadata
 
 abbrev lateSections : List Section
-lateSections = workedSection kernel 560 1 ∷ workedSection ramdisk 573 2 ∷ workedSection ramdisk 587 3 ∷ workedSection commandLine 602 4 ∷ replicate 28 blankSection
+lateSections =
+    workedSection kernel 560 1 ∷ workedSection signature 573 5 ∷ workedSection ramdisk 590 2 ∷ workedSection ramdisk 604 3
+    ∷ workedSection commandLine 619 4 ∷ workedSection metadata 635 6 ∷ replicate 26 blankSection
+
+abbrev lateMeasured : List Section
+lateMeasured = workedSection kernel 560 1 ∷ workedSection ramdisk 590 2 ∷ workedSection ramdisk 604 3 ∷ workedSection commandLine 619 4 ∷ []
 
 pub late-streams :
     map (λ stream. streamSections stream lateSections) (Whole ∷ Boot ∷ App ∷ [])
-    ≡ (workedSection kernel 560 1 ∷ workedSection ramdisk 573 2 ∷ workedSection ramdisk 587 3 ∷ workedSection commandLine 602 4 ∷ [])
-    ∷ (workedSection kernel 560 1 ∷ workedSection ramdisk 573 2 ∷ workedSection commandLine 602 4 ∷ [])
-    ∷ (workedSection ramdisk 587 3 ∷ []) ∷ []
+    ≡ lateMeasured ∷ (workedSection kernel 560 1 ∷ workedSection ramdisk 590 2 ∷ workedSection commandLine 619 4 ∷ [])
+    ∷ (workedSection ramdisk 604 3 ∷ []) ∷ []
 unfolding kept keeps
 late-streams = refl
+
+-- one section, and zero in each other place
+pub late-listed :
+    sectionsAnswer App lateSections
+    ≡ record {
+      count = 1;
+      sections =
+          workedSection ramdisk 604 3
+          ∷ replicate 31 (record { kind = 0; flags = 0; position = record { 0 = 0 }; length = record { 0 = 0 } });
+    }
+unfolding sectionsAnswer inTable kept keeps
+late-listed = refl
+
+pub late-roll : measuredIn lateSections ≡ lateMeasured
+unfolding measuredIn
+late-roll = refl
 
 -- ---- what writer, roll writer and copier refuse
 
@@ -171,19 +202,28 @@ late-streams = refl
 abbrev longPlan : Plan
 longPlan = planOver 2 (workedPlace kernel 1073741253 ∷ workedPlace commandLine 0 ∷ [])
 
+-- the longest
+abbrev longestPlan : Plan
+longestPlan = planOver 2 (workedPlace kernel 1073741252 ∷ workedPlace commandLine 0 ∷ [])
+
 pub writes-refused :
-    writeVerdict workedPlan 2 585 ∷ writeVerdict workedPlan 3 586 ∷ writeVerdict workedPlan 3 0 ∷ writeVerdict longPlan 0 0 ∷ []
-    ≡ refuse 14 0 ∷ refuse 15 0 ∷ refuse 15 0 ∷ refuse 1 0 ∷ []
-unfolding inTable writeVerdict planVerdict fieldFault firstRefusal typeFault allowedIn orderFault seen planFault sizeFault missing packedBy dataBefore
+    writeVerdict workedPlan 2 585 ∷ writeVerdict workedPlan 3 586 ∷ writeVerdict workedPlan 3 0 ∷ writeVerdict longPlan 0 0
+    ∷ writeVerdict longestPlan 0 0 ∷ writeVerdict longestPlan 1073741252 1073741824 ∷ []
+    ≡ refuse 14 0 ∷ refuse 15 0 ∷ refuse 15 0 ∷ refuse 1 0 ∷ refuse 15 0 ∷ Accepted ∷ []
+unfolding inTable writeVerdict planVerdict fieldFault firstRefusal typeFault allowedIn orderFault seen typesVerdict sizeFault missingFault missing packedBy dataBefore
 writes-refused = refl
 
 pub roll-refused : rollVerdict workedImage 53 ≡ refuse 14 0
 unfolding rollVerdict rollBytes flagsRecord rollOf headOf measuredIn field beValue
 roll-refused = ap (λ (v : Verdict). andThen v (roomVerdict 53 (length (rollBytes workedImage)))) worked-accepted
 
-pub copy-refused : copyVerdict workedImage Whole 3 ≡ refuse 19 0
-unfolding copyVerdict streamOf kept keeps field beValue
-copy-refused = ap (λ (v : Verdict). andThen v (pastEnd (streamOf workedImage Whole) 3)) worked-accepted
+pub copy-refused : copyAnswer workedImage Whole 3 5 ≡ record { verdict = refuse 19 0; count = 0 }
+unfolding copyAnswer copyVerdict streamOf kept keeps field beValue
+copy-refused = ap (λ (v : Verdict). copiedFor (andThen v (pastEnd (streamOf workedImage Whole) 3)) (length (streamPart workedImage Whole 3 5))) worked-accepted
+
+pub worked-stream-length : lengthAnswer workedImage Whole ≡ record { verdict = Accepted; length = record { 0 = 2 } }
+unfolding lengthAnswer streamOf kept keeps field beValue
+worked-stream-length = ap (λ (v : Verdict). lengthFor v (length (streamOf workedImage Whole))) worked-accepted
 
 -- ---- the fields that no rule judges: each has another value, so that none is taken for another, and every flag but the architecture's is set
 

@@ -351,6 +351,15 @@ pub struct RollRecord {
     pub length: DataLength,
 }
 
+impl RollRecord {
+    // What stands in a place with no record.
+    pub const BLANK: RollRecord = RollRecord {
+        kind: 0,
+        position: RollPosition(0),
+        length: DataLength(0),
+    };
+}
+
 // `flags` are those of the flags record, which the list leaves out.
 pub struct RollReading {
     pub verdict: Verdict,

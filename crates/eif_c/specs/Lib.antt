@@ -5,3 +5,4 @@ pub mod Strict
 pub mod Signature
 pub mod Assembly
 pub mod Staging
+pub mod Worked

@@ -161,14 +161,7 @@ fn flat_section(x: Section) -> EifSection
 pub fn flat_sections(sections: [Section; PLACES]) -> [EifSection; PLACES]
     ensures { λ r. ⌜ r ≡ map flatSection sections ⌝ }
 {
-    let blank = EifSection {
-        kind: 0,
-        flags: 0,
-        reserved: 0,
-        position: FilePosition(0),
-        length: DataLength(0),
-    };
-    let mut flat = [blank; PLACES];
+    let mut flat = [flat_section(Section::BLANK); PLACES];
     let mut i: usize = 0;
     while i < PLACES {
         flat[i] = flat_section(sections[i]);
@@ -194,14 +187,7 @@ fn flat_record(x: RollRecord) -> EifRollRecord
 fn flat_records(records: [RollRecord; PLACES]) -> [EifRollRecord; PLACES]
     ensures { λ r. ⌜ r ≡ map flatRecord records ⌝ }
 {
-    let blank = EifRollRecord {
-        kind: 0,
-        reserved: 0,
-        reserved_after: 0,
-        position: RollPosition(0),
-        length: DataLength(0),
-    };
-    let mut flat = [blank; PLACES];
+    let mut flat = [flat_record(RollRecord::BLANK); PLACES];
     let mut i: usize = 0;
     while i < PLACES {
         flat[i] = flat_record(records[i]);

@@ -7,9 +7,9 @@ use Prim.Native.Nat.{ℕ, _<_, _≤_}
 use borrow.Author.Tests.{lt-ltb, le-ltb, eq-eqb}
 use Rattle.eif.specs.Numbers.{placeCount, sectionMissing, notPacked}
 use Rattle.eif.specs.Answers.{refuse, refuseAt}
-use Rattle.eif.specs.Rules.{firstFault, missing}
+use Rattle.eif.specs.Rules.{firstFault, missing, missingFault}
 use Rattle.eif.specs.Layout.{View, version, count, checksum, start, end}
-use Rattle.eif.specs.Reading.{headerFault, sectionFault, missingFault, tailFault, checksumFault, located, judged, early, verdictIn}
+use Rattle.eif.specs.Reading.{headerFault, sectionFault, tailFault, checksumFault, located, judged, early, verdictIn}
 use Rattle.eif.specs.declared.Verdict.the-variants.{Accepted}
 use Rattle.eif_lemmas.proofs.View.{sound-of}
 use Rattle.eif_lemmas.proofs.Accept.{accepted→}

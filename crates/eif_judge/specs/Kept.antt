@@ -1,5 +1,5 @@
--- What only the shape of the readers' code needs: a file as the rules see it in what a reader kept of it. That the reading of what was
--- gathered of an image is the image's reading is `read-same` of eif_lemmas/proofs/Agree.antt.
+-- What only the shape of the readers' code needs: a file as the rules see it in what a reader kept of it. That its reading is the
+-- file's is `read-kept` of proofs/Kept.antt.
 -- Assumes nothing.
 use Prim.Native.Nat.{ℕ, _+_, _*_}
 use mathlib.Core.List.{List}

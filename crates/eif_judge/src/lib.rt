@@ -30,11 +30,18 @@ use eif::Verdict;
 
 // ---- what the bytes say
 
-fn offset_at(header: &[u8], i: usize) -> u64
-    requires { ⌜ i < placeCount ⌝ }
+// Where the table has a section's offset.
+fn offset_entry(i: u8) -> usize
+    ensures { λ r. ⌜ r ≡ entryAt offsetsAt i ⌝ }
+{
+    Header::OFFSETS_AT + Header::ENTRY_SIZE * i as usize
+}
+
+// That offset, of a header or of a whole image.
+pub fn offset_at(header: &[u8], i: u8) -> u64
     ensures { λ r. ⌜ r ≡ offsetAt (now (header .entry)) i ⌝ }
 {
-    octets::be64(header, Header::OFFSETS_AT + Header::ENTRY_SIZE * i)
+    octets::be64(header, offset_entry(i))
 }
 
 fn size_at(header: &[u8], i: usize) -> u64
@@ -49,7 +56,7 @@ fn end_at(header: &[u8], size: u64, i: usize) -> u64
     requires { ⌜ (i < placeCount) × (offsetAt (now header) i + sectionHeaderSize + sizeAt (now header) i ≤ size) ⌝ }
     ensures { λ r. ⌜ r ≡ offsetAt (now (header .entry)) i + sectionHeaderSize + sizeAt (now (header .entry)) i ⌝ }
 {
-    offset_at(header, i) + SectionHeader::SIZE as u64 + size_at(header, i)
+    offset_at(header, i as u8) + SectionHeader::SIZE as u64 + size_at(header, i)
 }
 
 fn kind_at(headers: &[u8], i: usize) -> u16
@@ -67,7 +74,7 @@ fn section_at(header: &[u8], headers: &[u8], size: u64, i: usize) -> Section
 {
     let kind = kind_at(headers, i);
     let flags = octets::be16(headers, SectionHeader::SIZE * i + SectionHeader::FLAGS_AT);
-    let position = offset_at(header, i) + SectionHeader::SIZE as u64;
+    let position = offset_at(header, i as u8) + SectionHeader::SIZE as u64;
     let length = size_at(header, i);
     Section {
         kind,
@@ -96,14 +103,6 @@ pub fn refused(verdict: Verdict) -> Reading
 
 // ---- where a refusal is
 
-// Where the table has a section's offset.
-fn offset_entry(index: u64) -> u64
-    requires { ⌜ index < placeCount ⌝ }
-    ensures { λ r. ⌜ r ≡ entryAt offsetsAt index ⌝ }
-{
-    Header::OFFSETS_AT as u64 + Header::ENTRY_SIZE as u64 * index
-}
-
 // The position of the field at fault, by the answer number: 1 to 12, or 20 at a section.
 fn position(header: &[u8], number: u8, index: u64) -> u64
     requires { ⌜ index < placeCount ⌝ }
@@ -122,12 +121,12 @@ fn position(header: &[u8], number: u8, index: u64) -> u64
         return Header::COUNT_AT as u64;
     }
     if number <= Refusal::ENDS_LATE {
-        return offset_entry(index);
+        return offset_entry(index as u8) as u64;
     }
     if number == Refusal::NOT_PACKED {
-        return offset_entry(index);
+        return offset_entry(index as u8) as u64;
     }
-    offset_at(header, index as usize)
+    offset_at(header, index as u8)
 }
 
 // A refusal with its position.
@@ -159,16 +158,12 @@ fn header_fault(header: &[u8], size: u64) -> u8
     type_judge::field_fault(version, count)
 }
 
-// Rule 7. The end of the section is not computed, as that sum could wrap: what the file has left is compared.
+// Rule 7. The end of the section is not computed, as that sum could wrap.
 fn ends_late(size: u64, offset: u64, length: u64) -> bool
     requires { ⌜ sectionHeaderSize ≤ size ⌝ }
     ensures { λ r. ⌜ r ≡ ltb size (offset + sectionHeaderSize + length) ⌝ }
 {
-    let room = size - SectionHeader::SIZE as u64;
-    if room < offset {
-        return true;
-    }
-    room - offset < length
+    octets::passes(size - SectionHeader::SIZE as u64, offset, length)
 }
 
 // The rules 6, 20 and 7 to 9 at a section that is to begin at `begin`; 0: none applies.
@@ -177,7 +172,7 @@ fn entry_fault(header: &[u8], headers: &[u8], size: u64, i: usize, begin: u64) -
     requires { ⌜ begin ≡ start (viewFrom (now header) (now headers) size) i ⌝ }
     ensures { λ r. ⌜ r ≡ entryFault (viewFrom (now (header .entry)) (now (headers .entry)) size) i ⌝ }
 {
-    let offset = offset_at(header, i);
+    let offset = offset_at(header, i as u8);
     let length = size_at(header, i);
     if offset < begin {
         return Refusal::STARTS_EARLY;

@@ -9,16 +9,15 @@ use borrow.Author.Tests.{eq-eqb}
 use lib.Dec.{ltb, leb, eqb}
 use lib.ListN.{length}
 use Rattle.eif.specs.Table.{joinFrom}
-use Rattle.octets.specs.Bytes.{leField}
 use Rattle.eif.specs.Numbers.{sizeLimit, placeCount, kernel, ramdisk, sectionMissing, checksumDiffers, notPacked, outputTooShort, pastStreamEnd, imageTooLong, imageTooShort, wrongMagic, wrongVersion, wrongCount, startsEarly, endsLate, sizesDiffer, typeNotAllowed, ramdiskBeforeKernel, typeRepeated, dataLengthDiffers, recordCut, recordTypeWrong, bytesAfterEnd}
 use Rattle.octets.specs.Logic.{both, either, choose}
 use Rattle.eif.specs.Answers.{refuse, refuseAt, verdictAt, andThen, wholeAt, wholeVerdict}
-use Rattle.eif.specs.Rules.{versionKnown, countKnown, allowedIn, seen, orderFault, typeFault, bootMissing, missing, firstFault, firstRefusal, fieldFault}
+use Rattle.eif.specs.Rules.{versionKnown, countKnown, allowedIn, seen, orderFault, typeFault, bootMissing, missing, firstFault, firstRefusal, fieldFault, missingFault, typesVerdict, orderOf}
 use Rattle.eif.specs.Layout.{magicNumber, headerSize, offsetsAt, versionAt, countAt, checksumAt, View, viewOf, magic, version, count, offsetEntry, entryAt, offset, tableSize, checksum, end, start}
-use Rattle.eif.specs.Reading.{headerFault, entryFault, sectionFault, hasTail, missingFault, tailFault, checksumFault, positionIn, located, judged, early, verdictIn, checksumOf, verdictOf}
-use Rattle.eif.specs.Plan.{plannedKind, plainSize, dataBefore, sizeFault, planFault, planVerdict, writeVerdict, planLength}
+use Rattle.eif.specs.Reading.{headerFault, entryFault, sectionFault, hasTail, tailFault, checksumFault, positionIn, located, judged, early, verdictIn, checksumOf, verdictOf}
+use Rattle.eif.specs.Plan.{plannedKind, plainSize, dataBefore, sizeFault, planVerdict, writeVerdict, planLength}
 use Rattle.eif.specs.Stream.{streamOf, copyVerdict, copyListedAnswer, lengthAnswer}
-use Rattle.eif.specs.Roll.{recordHeadSize, recordTypeAt, recordLengthAt, flagsType, flagsLength, flagsRecordSize, flagsFault, rollFlags, restOf, recordAt, recordStart, recordSize, recordKind, isEnd, sizeAsImage, rollBytes, rollVerdict, rollLength, Ending, ended, stopped, stopVerdict, endVerdict, headFault, bodyFault, rollFault, endFrom, refusedRoll, rollAnswerFor, readRest, readRoll}
+use Rattle.eif.specs.Roll.{recordHeadSize, flagsRecordSize, flagsFault, rollFlags, restOf, recordAt, recordStart, recordSize, recordKind, isEnd, sizeAsImage, rollBytes, rollVerdict, rollLength, Ending, ended, stopped, stopVerdict, endVerdict, headFault, bodyFault, rollFault, endFrom, refusedRoll, rollAnswerFor, readRest, readRoll, flagsHeadWrong}
 use Rattle.eif.specs.Order.{Rule, rule, firstThatApplies, orderRules, typeRules, headerRules, sectionRules, viewRules, imageRules, planRules, writeRules, copyRules, copyListedRules, rollWriteRules, flagsRules, headRules, bodyRules, endRules, rollRulesFrom, rollRules}
 use Rattle.eif.specs.declared.Plan.{Plan}
 use Rattle.eif.specs.declared.RollReading.{RollReading}
@@ -27,6 +26,7 @@ use Rattle.eif.specs.declared.StreamSections.{StreamSections}
 use Rattle.eif.specs.declared.Verdict.{Verdict}
 use Rattle.eif.specs.declared.Verdict.the-variants.{Accepted, Refused}
 use Rattle.eif_lemmas.proofs.Verdicts.{then-assoc, then-choose, at-choose, then-none}
+use Rattle.octets.proofs.Logic.{choose-ap}
 
 -- ---- lists of rules, one after the other
 
@@ -36,6 +36,10 @@ first-append [] b = refl
 first-append (r ∷ rs) b =
     ap (choose (r .applies) (refuseAt (r .number) (r .index) (r .position))) (first-append rs b)
     ∙ sym (then-choose (r .applies) _ (firstThatApplies rs) (firstThatApplies b))
+
+-- one verdict after another, each by its own list
+pub then-first : {v w : Verdict} (a b : List Rule) → v ≡ firstThatApplies a → w ≡ firstThatApplies b → andThen v w ≡ firstThatApplies (a ++ b)
+then-first a b e f = ap₂ andThen e f ∙ sym (first-append a b)
 
 -- rules at each place answer as the walk over the places does, as it is or with the positions
 pub walk-first : (f : Verdict → Verdict) → f Accepted ≡ Accepted → ((v w : Verdict) → f (andThen v w) ≡ andThen (f v) (f w))
@@ -50,12 +54,8 @@ walk-first f none split rules verdict h (suc n) i =
 
 -- ---- the rules on types
 
--- is it a ramdisk, was a kernel seen, was its type seen
-abbrev order : Bool → Bool → Bool → ℕ
-order r k t = choose r (choose k 0 ramdiskBeforeKernel) (choose t typeRepeated 0)
-
 order-by : (r k t : Bool) (i p : ℕ)
-    → choose (both r (not k)) (refuseAt ramdiskBeforeKernel i p) (choose (both (not r) t) (refuseAt typeRepeated i p) Accepted) ≡ verdictAt (order r k t) i p
+    → choose (both r (not k)) (refuseAt ramdiskBeforeKernel i p) (choose (both (not r) t) (refuseAt typeRepeated i p) Accepted) ≡ verdictAt (orderOf r k t) i p
 order-by true true t i p = refl
 order-by true false t i p = refl
 order-by false k true i p = refl
@@ -90,7 +90,7 @@ module _ (h : ℕ → ℕ → ℕ) where
   five false false false false false = refl
 
   -- the rules 10 and 11 give the section's own header
-  order-own : (r k t : Bool) (i : ℕ) → verdictAt (order r k t) i (offsetEntry h i) ≡ located h (verdictAt (order r k t) i 0)
+  order-own : (r k t : Bool) (i : ℕ) → verdictAt (orderOf r k t) i (offsetEntry h i) ≡ located h (verdictAt (orderOf r k t) i 0)
   unfolding positionIn
   order-own true true t i = refl
   order-own true false t i = refl
@@ -177,8 +177,7 @@ read-first s = view-first (viewOf s) (checksumOf s)
 after-image : (s : List ℕ) (b : Bool) (n : ℕ)
     → andThen (verdictOf s) (choose b (refuse n 0) Accepted) ≡ firstThatApplies (imageRules s ++ (rule b n 0 0 ∷ []))
 unfolding firstThatApplies
-after-image s b n =
-    ap (λ (x : Verdict). andThen x (choose b (refuse n 0) Accepted)) (read-first s) ∙ sym (first-append (imageRules s) (rule b n 0 0 ∷ []))
+after-image s b n = then-first (imageRules s) (rule b n 0 0 ∷ []) (read-first s) refl
 
 pub copy-first : (s : List ℕ) (stream : Stream) (from : ℕ) → copyVerdict s stream from ≡ firstThatApplies (copyRules s stream from)
 unfolding copyVerdict copyRules
@@ -208,8 +207,8 @@ fields-by true b w = refl
 fields-by false true w = refl
 fields-by false false w = refl
 
--- 12, 1 and 15 together, or 12 and 1 and then 15
-plan-by : (a b c : Bool) → wholeVerdict (choose a sectionMissing (choose b imageTooLong (choose c dataLengthDiffers 0))) ≡ andThen (choose a (refuse sectionMissing 0) (choose b (refuse imageTooLong 0) Accepted)) (choose c (refuse dataLengthDiffers 0) Accepted)
+-- 12, then 1 and 15, or 12 and 1 and then 15
+plan-by : (a b c : Bool) → andThen (wholeVerdict (choose a sectionMissing 0)) (wholeVerdict (choose b imageTooLong (choose c dataLengthDiffers 0))) ≡ andThen (choose a (refuse sectionMissing 0) (choose b (refuse imageTooLong 0) Accepted)) (choose c (refuse dataLengthDiffers 0) Accepted)
 plan-by true b c = refl
 plan-by false true c = refl
 plan-by false false true = refl
@@ -224,7 +223,7 @@ module _ (p : Plan) where
   dataDiffers given = not (eqb given (dataBefore (p .places) (p .count)))
 
   plan-then : (given : ℕ) → planVerdict p given ≡ andThen (firstThatApplies (planRules p)) (choose (dataDiffers given) (refuse dataLengthDiffers 0) Accepted)
-  unfolding planVerdict fieldFault planFault sizeFault planRules firstThatApplies
+  unfolding planVerdict typesVerdict missingFault fieldFault sizeFault planRules firstThatApplies
   plan-then given =
       let kinds : ℕ → ℕ = plannedKind (p .places) in
       let m : Bool = missing kinds (p .version) (p .count) in
@@ -236,7 +235,7 @@ module _ (p : Plan) where
       let v : Bool = not (versionKnown (p .version)) in
       let n : Bool = not (countKnown (p .count)) in
       let fields : Verdict = wholeVerdict (choose v wrongVersion (choose n wrongCount 0)) in
-      ap (λ (x : Verdict). andThen fields (andThen walk x)) (plan-by m l (dataDiffers given))
+      ap (andThen fields) (sym (then-assoc walk _ _) ∙ ap (andThen walk) (plan-by m l (dataDiffers given)))
       ∙ then-then fields walk (firstThatApplies last) (choose (dataDiffers given) (refuse dataLengthDiffers 0) Accepted)
       ∙ ap (λ (x : Verdict). andThen x (choose (dataDiffers given) (refuse dataLengthDiffers 0) Accepted))
       (sym
@@ -279,8 +278,8 @@ module _ (s : List ℕ) where
 
   -- the rules on the rest of a record, and what follows it
   body-by : (a b r k t : Bool) (i : ℕ) (x : Ending) (w : Verdict) → w ≡ endingVerdict x
-      → andThen (choose a (refuseAt wrongCount 0 (recordStart s i)) (choose b (refuseAt recordCut (suc i) (recordStart s i)) (verdictAt (order r k t) (suc i) (recordStart s i)))) w
-      ≡ endingVerdict (choose (eqb (choose a wrongCount (choose b recordCut (order r k t))) 0) x (stopped (choose a wrongCount (choose b recordCut (order r k t))) i))
+      → andThen (choose a (refuseAt wrongCount 0 (recordStart s i)) (choose b (refuseAt recordCut (suc i) (recordStart s i)) (verdictAt (orderOf r k t) (suc i) (recordStart s i)))) w
+      ≡ endingVerdict (choose (eqb (choose a wrongCount (choose b recordCut (orderOf r k t))) 0) x (stopped (choose a wrongCount (choose b recordCut (orderOf r k t))) i))
   body-by true b r k t i x w e = refl
   body-by false true r k t i x w e = refl
   body-by false false true true t i x w e = e
@@ -333,11 +332,7 @@ module _ (s : List ℕ) where
 
   answer-verdict : (flags : ℕ) (e : Ending) → rollAnswerFor flags s e .verdict ≡ endingVerdict e
   answer-verdict flags (stopped number i) = refl
-  answer-verdict flags (ended n) = go (eqb (rollFault s n) 0) _ _
-    where
-      go : (b : Bool) (x y : RollReading) → choose b x y .verdict ≡ choose b (x .verdict) (y .verdict)
-      go true x y = refl
-      go false x y = refl
+  answer-verdict flags (ended n) = choose-ap (λ (r : RollReading). r .verdict) (eqb (rollFault s n) 0) _ _
 
   rest-first : (flags : ℕ) → readRest flags s .verdict ≡ firstThatApplies (rollRulesFrom s (suc placeCount) 0)
   unfolding readRest
@@ -356,6 +351,6 @@ pub roll-read-first : (s : List ℕ) → readRoll s .verdict ≡ firstThatApplie
 unfolding readRoll flagsFault flagsRules firstThatApplies
 roll-read-first s =
     let rest : List Rule = rollRulesFrom (restOf s) (suc placeCount) 0 in
-    flags-by (ltb (length s) recordHeadSize) (either (not (eqb (leField 2 recordTypeAt s) flagsType)) (not (eqb (leField 8 recordLengthAt s) flagsLength))) (ltb (length s) flagsRecordSize)
+    flags-by (ltb (length s) recordHeadSize) (flagsHeadWrong s) (ltb (length s) flagsRecordSize)
     (readRest (rollFlags s) (restOf s)) (firstThatApplies rest) (rest-first (restOf s) (rollFlags s))
     ∙ sym (first-append (flagsRules s) rest)

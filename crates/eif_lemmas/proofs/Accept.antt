@@ -10,13 +10,13 @@ use lib.Dec.{eqb}
 use lib.ListN.{length, length-take, length-drop}
 use Rattle.octets.specs.Lists.{All}
 use Rattle.eif.specs.Numbers.{placeCount}
-use Rattle.eif.specs.Rules.{orderFault, missing}
-use Rattle.eif.specs.Layout.{View, viewOf, version, count, checksum, versionOf, countOf, startAt, kindAt}
-use Rattle.eif.specs.Reading.{sectionFault, hasTail, missingFault, tailFault, checksumFault, judged, early, verdictIn, checksumOf, verdictOf, sectionAt, blankSection, sectionIn, sectionsOf, dataOf}
+use Rattle.eif.specs.Rules.{orderFault, missing, missingFault}
+use Rattle.eif.specs.Layout.{View, viewOf, version, count, checksum, countOf, startAt, kindAt}
+use Rattle.eif.specs.Reading.{sectionFault, hasTail, tailFault, checksumFault, judged, early, verdictIn, checksumOf, verdictOf, sectionAt, blankSection, sectionIn, sectionsOf, dataOf}
 use Rattle.eif.specs.declared.Section.{Section}
 use Rattle.eif.specs.declared.Verdict.the-variants.{Accepted}
 use Rattle.octets.proofs.Logic.{choose-zero}
-use Rattle.eif_lemmas.proofs.Verdicts.{then-accepted, accepted-zero, all-accepted, walk-accepted, walk-all}
+use Rattle.eif_lemmas.proofs.Verdicts.{then-accepted, accepted-zero, walk-accepted, walk-all}
 use Rattle.eif_lemmas.proofs.Table.{all-filled, filled-at}
 use Rattle.eif_lemmas.proofs.Position.{located-accepted}
 use Rattle.eif_lemmas.proofs.View.{SoundHeader, header, header-fields, sound-of, order-of, Sound}
@@ -30,32 +30,8 @@ pub record Passes (v : View) (computed : ℕ) : Type 0 where
   pub sum : checksum v ≡ computed
 
 module _ (v : View) where
-  missing-zero : missingFault v ≡ 0 → missing (v .kind) (version v) (count v) ≡ false
-  unfolding missingFault
-  missing-zero e = choose-zero (missing (v .kind) (version v) (count v)) _ 0 e .0
-
-  zero-missing : missing (v .kind) (version v) (count v) ≡ false → missingFault v ≡ 0
-  unfolding missingFault
-  zero-missing e = rw e
-
-  tail-zero : tailFault v ≡ 0 → hasTail v ≡ false
-  unfolding tailFault
-  tail-zero e = choose-zero (hasTail v) _ 0 e .0
-
-  zero-tail : hasTail v ≡ false → tailFault v ≡ 0
-  unfolding tailFault
-  zero-tail e = rw e
-
-  sum-zero : (computed : ℕ) → checksumFault v computed ≡ 0 → checksum v ≡ computed
-  unfolding checksumFault
-  sum-zero computed e = eqb-true _ _ (not-false _ (choose-zero (not (eqb (checksum v) computed)) _ 0 e .0))
-
-  zero-sum : (computed : ℕ) → checksum v ≡ computed → checksumFault v computed ≡ 0
-  unfolding checksumFault
-  zero-sum computed e = simp (eq-eqb _ _ e)
-
   pub accepted→ : (computed : ℕ) → verdictIn v computed ≡ Accepted → Passes v computed
-  unfolding verdictIn early judged
+  unfolding verdictIn early judged missingFault tailFault checksumFault
   accepted→ computed e =
       let j = then-accepted _ _ e in
       let t = then-accepted _ _ (j .0) in
@@ -64,19 +40,18 @@ module _ (v : View) where
       record {
         head = header v (accepted-zero _ _ _ (a .0));
         sections = λ i h. walk-accepted (sectionFault v) (count v) 0 (b .0) i (omega arith) (omega arith);
-        complete = missing-zero (accepted-zero _ _ _ (b .1));
-        no-tail = tail-zero (accepted-zero _ _ _ (t .1));
-        sum = sum-zero computed (accepted-zero _ _ _ (j .1));
+        complete = choose-zero (missing (v .kind) (version v) (count v)) _ 0 (accepted-zero _ _ _ (b .1)) .0;
+        no-tail = choose-zero (hasTail v) _ 0 (accepted-zero _ _ _ (t .1)) .0;
+        sum = eqb-true _ _ (not-false _ (choose-zero (not (eqb (checksum v) computed)) _ 0 (accepted-zero _ _ _ (j .1)) .0));
       }
 
   pub →accepted : (computed : ℕ) → Passes v computed → verdictIn v computed ≡ Accepted
-  unfolding verdictIn early judged
+  unfolding verdictIn early judged missingFault tailFault checksumFault
   →accepted computed p =
       let h = p .head in
       let z = sym (header-fields v (h .small) (h .whole) (h .magic)) ∙ fields-zero (version v) (count v) (h .fields) in
       let w = walk-all (sectionFault v) (count v) 0 (λ j a b. p .sections j (omega arith)) in
-      let e = all-accepted _ _ _ z w (zero-missing (p .complete)) in
-      rw (e, zero-tail (p .no-tail), zero-sum computed (p .sum))
+      simp (z, w, p .complete, p .no-tail, eq-eqb _ _ (p .sum))
 
 -- ---- of an accepted image
 
@@ -109,12 +84,6 @@ module _ (s : List ℕ) (e : verdictOf s ≡ Accepted) where
       last : (n : ℕ) → 0 < n → countOf s ≡ n → startAt s n ≤ length s
       last zero h f = absurd (omega arith)
       last (suc n) h f = sound-of (viewOf s) n (passes .sections n (omega arith)) .ends
-
-  pub none-missing-of : missing (kindAt s) (versionOf s) (countOf s) ≡ false
-  none-missing-of = passes .complete
-
-  pub sum-of : checksum (viewOf s) ≡ checksumOf s
-  sum-of = passes .sum
 
   pub sound-at : (i : ℕ) → i < countOf s → Sound (viewOf s) i
   sound-at i h = sound-of (viewOf s) i (passes .sections i h)

@@ -10,10 +10,10 @@ use lib.Dec.{eqb}
 use Rattle.eif.specs.Numbers.{sizeLimit, placeCount, imageTooShort, checksumDiffers}
 use Rattle.octets.specs.Logic.{choose}
 use Rattle.eif.specs.Answers.{refuse, indexOf, wholeAt, wholeVerdict}
-use Rattle.eif.specs.Rules.{fieldFault, firstFault}
+use Rattle.eif.specs.Rules.{fieldFault, firstFault, missingFault}
 use Rattle.eif.specs.Table.{filled}
 use Rattle.eif.specs.Layout.{headerSize, sectionHeaderSize, entrySize, offsetsAt, sizesAt, entryAt, checksumAt, View, version, count, offset, tableSize, end, start, headerFlags, defaultMem, defaultCpus, headerFlagsAt, defaultMemAt, defaultCpusAt, magicAt, versionAt, countAt}
-use Rattle.eif.specs.Reading.{headerFault, entryFault, sectionFault, missingFault, tailFault, checksumFault, positionIn, located, judged, early, verdictIn, blankSection, section, sections, readingOf, readView}
+use Rattle.eif.specs.Reading.{headerFault, entryFault, sectionFault, tailFault, checksumFault, positionIn, located, judged, early, verdictIn, blankSection, section, sections, readingOf, readView}
 use Rattle.eif.specs.declared.Verdict.{Verdict}
 use Rattle.eif.specs.declared.Verdict.the-variants.{Accepted, Refused}
 use Rattle.octets.proofs.Logic.{equal-or-not, le-or-lt}
@@ -127,7 +127,7 @@ module _ (v w : View) (same : Agree v w) where
         all-lie : (j : ℕ) → j < count w → Lies w j
         all-lie = lies w (count w) few (omega arith) (λ k l. walk-accepted (sectionFault w) (count w) 0 accepted k (omega arith) (omega arith))
 
-        whole-same : missingFault v ≡ missingFault w
+        whole-same : missingFault (v .kind) (version v) (count v) ≡ missingFault (w .kind) (version w) (count w)
         unfolding missingFault
         whole-same =
             let m = missing-same (v .kind) (w .kind) (version w) (count w) (λ j l. same .kinds j (all-lie j l)) in

@@ -2,15 +2,13 @@
 -- Assumes nothing.
 use Prim.Native.Nat.{ℕ, _≤_}
 use mathlib.Core.Path.{_≡_, refl}
-use mathlib.Core.Bool.{not}
 use mathlib.Core.List.{List}
 use native.Mathlib.Omega.{arith}
 use borrow.Author.Tests.{eq-eqb, le-ltb, eqb-true, ltb-false, not-false}
-use lib.Dec.{eqb, ltb}
+use lib.Dec.{ltb}
 use lib.ListN.{length}
 use Rattle.octets.specs.Bytes.{leField}
-use Rattle.octets.specs.Logic.{either}
-use Rattle.eif.specs.Roll.{recordHeadSize, headOf, flagsType, flagsLength, flagsRecordSize, flagsRecord, flagsFault, recordTypeAt, recordLengthAt}
+use Rattle.eif.specs.Roll.{recordHeadSize, headOf, flagsType, flagsLength, flagsRecordSize, flagsRecord, flagsFault, recordTypeAt, recordLengthAt, flagsHeadWrong}
 use Rattle.octets.proofs.Logic.{choose-zero, either-false}
 
 pub length-flags : (f : ℕ) → length (flagsRecord f) ≡ flagsRecordSize
@@ -27,7 +25,7 @@ module _ (s : List ℕ) where
   unfolding flagsFault
   flags-zero e =
       let a = choose-zero (ltb (length s) recordHeadSize) _ _ e in
-      let b = choose-zero (either (not (eqb (leField 2 recordTypeAt s) flagsType)) (not (eqb (leField 8 recordLengthAt s) flagsLength))) _ _ (a .1) in
+      let b = choose-zero (flagsHeadWrong s) _ _ (a .1) in
       let c = choose-zero (ltb (length s) flagsRecordSize) _ 0 (b .1) in
       let t = either-false _ _ (b .0) in
       record { whole = ltb-false _ _ (c .0); kind = eqb-true _ _ (not-false _ (t .0)); size = eqb-true _ _ (not-false _ (t .1)) }

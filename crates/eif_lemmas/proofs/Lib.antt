@@ -1,5 +1,6 @@
 pub mod Verdicts
 pub mod Types
+pub mod Streams
 pub mod Table
 pub mod Fields
 pub mod View

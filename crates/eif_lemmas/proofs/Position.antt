@@ -2,19 +2,18 @@
 -- Assumes nothing.
 use Prim.Native.Nat.{ℕ, zero, suc, _+_, _<_, _≤_}
 use mathlib.Core.Path.{_≡_, refl}
-use mathlib.Core.Bool.{Bool, true, false}
 use native.Mathlib.Omega.{arith}
 use lib.Dec.{eqb}
 use Rattle.eif.specs.Numbers.{placeCount}
-use Rattle.octets.specs.Logic.{choose}
 use Rattle.eif.specs.Answers.{refuse, verdictAt, indexOf, andThen, wholeVerdict}
-use Rattle.eif.specs.Rules.{firstFault, firstRefusal}
-use Rattle.eif.specs.Layout.{View, count}
-use Rattle.eif.specs.Reading.{headerFault, sectionFault, missingFault, located, judged, early}
+use Rattle.eif.specs.Rules.{firstFault, firstRefusal, missingFault}
+use Rattle.eif.specs.Layout.{View, count, version}
+use Rattle.eif.specs.Reading.{headerFault, sectionFault, located, judged, early}
 use Rattle.eif.specs.declared.Verdict.{Verdict}
 use Rattle.eif.specs.declared.Verdict.the-variants.{Accepted, Refused}
 use Rattle.eif_lemmas.proofs.Verdicts.{never, then-accepted, accepted-zero}
 use Rattle.eif_lemmas.proofs.View.{header}
+use Rattle.octets.proofs.Logic.{choose-holds}
 
 pub located-accepted : (header : ℕ → ℕ → ℕ) (x : Verdict) → located header x ≡ Accepted → x ≡ Accepted
 located-accepted header Accepted e = refl
@@ -32,11 +31,7 @@ module _ (m : ℕ) (some : 0 < m) where
   then-index (Refused r) b h g = h
 
   at-index : (n i : ℕ) → i < m → indexOf (verdictAt n i 0) < m
-  at-index n i h = go (eqb n 0)
-    where
-      go : (b : Bool) → indexOf (choose b Accepted (refuse n i)) < m
-      go true = some
-      go false = h
+  at-index n i h = choose-holds (λ (v : Verdict). indexOf v < m) (eqb n 0) Accepted (refuse n i) (λ _. some) (λ _. h)
 
   whole-index : (n : ℕ) → indexOf (wholeVerdict n) < m
   whole-index n = at-index n 0 some
@@ -52,8 +47,9 @@ unfolding judged
 judged-index v =
     let some : 0 < placeCount = omega arith in
     let walk : Verdict = firstFault (sectionFault v) (count v) 0 in
-    let last : Verdict = wholeVerdict (missingFault v) in
+    let fault = missingFault (v .kind) (version v) (count v) in
+    let last : Verdict = wholeVerdict fault in
     then-index placeCount some (wholeVerdict (headerFault v)) (andThen walk last) (whole-index placeCount some (headerFault v))
     (λ e.
     let few = header v (accepted-zero (headerFault v) 0 0 e) .fields .few in
-    then-index placeCount some walk last (walk-index placeCount some (sectionFault v) (count v) 0 (omega arith)) (λ a. whole-index placeCount some (missingFault v)))
+    then-index placeCount some walk last (walk-index placeCount some (sectionFault v) (count v) 0 (omega arith)) (λ a. whole-index placeCount some fault))

@@ -12,13 +12,15 @@ use lib.ListN.{replicate}
 use Rattle.eif.specs.declared.Section.{Section}
 use Rattle.eif.specs.Reading.{blankSection, ramdiskIn, sectionKind}
 use Rattle.eif.specs.Roll.{measuredIn}
-use Rattle.eif.specs.Numbers.{kernel, commandLine, ramdisk, metadata, ramdiskBeforeKernel, typeRepeated}
+use Rattle.eif.specs.Numbers.{kernel, commandLine, ramdisk, metadata, ramdiskBeforeKernel, typeRepeated, sectionMissing}
 use Rattle.octets.specs.Logic.{either, choose}
 use Rattle.octets.proofs.Logic.{not-both}
-use Rattle.eif.specs.Rules.{bootType, seen, orderFault, bootMissing, missing, typeFault}
+use Rattle.eif.specs.Rules.{bootType, seen, orderFault, bootMissing, missing, typeFault, missingFault, typesVerdict}
 use Rattle.eif.specs.Stream.{keeps, kept}
 use Rattle.eif.specs.declared.Stream.{Stream}
 use Rattle.eif.specs.declared.Stream.the-variants.{Whole, Boot, App}
+use Rattle.eif.specs.Answers.{wholeVerdict}
+use Rattle.eif_lemmas.proofs.Verdicts.{then-same, walk-same}
 
 -- ---- a type that no roll holds
 
@@ -95,6 +97,12 @@ module _ (f g : ℕ → ℕ) where
   pub missing-same : (version n : ℕ) → ((j : ℕ) → j < n → f j ≡ g j) → missing f version n ≡ missing g version n
   unfolding missing
   missing-same version n h = simp (seen-same kernel n h, seen-same commandLine n h, seen-same metadata n h)
+
+  pub types-same : (version n : ℕ) → ((j : ℕ) → j < n → f j ≡ g j) → typesVerdict version f n ≡ typesVerdict version g n
+  unfolding typesVerdict missingFault
+  types-same version n h =
+      then-same _ _ _ _ (walk-same (typeFault version f) (typeFault version g) n (λ j l good. type-same version j (λ k m. h k (omega arith))))
+      (λ _. ap (λ (b : Bool). wholeVerdict (choose b sectionMissing 0)) (missing-same version n h))
 
 module _ (kinds : ℕ → ℕ) (kind j : ℕ) where
   pub seen-here : kinds j ≡ kind → seen kinds kind (suc j) ≡ true

@@ -15,7 +15,7 @@ use Rattle.eif.specs.Rules.{firstFault, firstRefusal}
 use Rattle.eif.specs.declared.Refusal.{Refusal}
 use Rattle.eif.specs.declared.Verdict.{Verdict}
 use Rattle.eif.specs.declared.Verdict.the-variants.{Accepted, Refused}
-use Rattle.octets.proofs.Logic.{le-or-lt}
+use Rattle.octets.proofs.Logic.{le-or-lt, choose-ap}
 
 pub never {ℓ} : {A : Type ℓ} (r : Refusal) → Refused r ≡ Accepted → A
 never r e = let z : _≡_ {A = ℕ} 0 1 = cc in absurd (omega arith)
@@ -38,8 +38,7 @@ then-assoc (Refused r) b c = refl
 
 -- a test that refuses, and what comes then
 pub then-choose : (b : Bool) (r : Refusal) (v w : Verdict) → andThen (choose b (Refused r) v) w ≡ choose b (Refused r) (andThen v w)
-then-choose true r v w = refl
-then-choose false r v w = refl
+then-choose b r v w = choose-ap (λ (x : Verdict). andThen x w) b (Refused r) v
 
 -- a test that refuses, and one that gives the number
 pub at-choose : (b : Bool) (n rest i p : ℕ) → eqb n 0 ≡ false → choose b (refuseAt n i p) (verdictAt rest i p) ≡ verdictAt (choose b n rest) i p

@@ -59,7 +59,7 @@ digits-fit n k f h =
     ⊎-elim
     (λ few. few)
     (λ more.
-    let p : 10 ^ 20 ≤ 10 ^ (k - 1) = pow-le-pow-right (lit< tt) {i = 20} {j = k - 1} (omega arith) in
+    let p : 10 ^ mostDigits ≤ 10 ^ (k - 1) = pow-le-pow-right (lit< tt) {i = mostDigits} {j = k - 1} (omega arith) in
     let q = f .2 (omega arith) in
     absurd (omega arith))
     (le-or-lt k mostDigits)

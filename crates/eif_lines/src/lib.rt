@@ -57,11 +57,7 @@ fn put_number(out: &mut [u8], at: usize, n: u64, text: &[u8]) -> usize
 fn table_offset(section: Section) -> u64
     ensures { λ r. ⌜ r ≡ tableOffset section ⌝ }
 {
-    let header = SectionHeader::SIZE as u64;
-    if section.position.0 < header {
-        return 0;
-    }
-    section.position.0 - header
+    octets::past(section.position.0, SectionHeader::SIZE as u64)
 }
 
 // A row for a section: its index, type, table offset and size.

@@ -1,25 +1,24 @@
 -- The sections' own headers, gathered one after the other: what a write leaves of the parts before it, and that the rules
 -- see the gathered headers as they see the image. Assumes nothing.
-use Prim.Native.Nat.{ℕ, zero, suc, _+_, _*_, _-_, _<_, _≤_, min}
+use Prim.Native.Nat.{ℕ, suc, _+_, _*_, _-_, _<_, _≤_, min}
 use mathlib.Core.Path.{_≡_, refl, sym, ap, _∙_}
-use mathlib.Core.List.{List, [], _∷_, _++_}
+use mathlib.Core.List.{List, _++_}
 use mathlib.Core.Logic.{⊎-elim}
 use native.Mathlib.Omega.{arith}
 use lib.Bits.{bitXor}
 use lib.ListN.{length, take, drop, length-drop, take-append-drop}
-use lib.Seq.{length-take-le, take-append-le, drop-append-le, take-take}
-use Rattle.octets.specs.Bytes.{beValue, field}
+use lib.Seq.{length-take-le, take-append-le, drop-append-le}
 use Rattle.octets.specs.Over.{over}
 use Rattle.octets.proofs.Logic.{le-or-lt}
 use Rattle.octets.proofs.Over.{over-parts, over-here}
-use Rattle.octets.proofs.Value.{field-length, field-drop, field-drop0}
+use Rattle.octets.proofs.Value.{field-length}
 use Rattle.crc32.specs.Crc.{crcFrom, ones32}
 use Rattle.eif.specs.Numbers.{placeCount}
-use Rattle.eif.specs.Layout.{sectionHeaderSize, checksumAt, checksumEnd, View, viewOf, offsetAt, countOf, sectionFlagsAt, sectionSizeAt}
-use Rattle.eif.specs.Reading.{checksumOf, readView, readImage}
-use Rattle.eif_lemmas.proofs.Agree.{Lies, Agree, read-same}
+use Rattle.eif.specs.Layout.{sectionHeaderSize, checksumAt, checksumEnd, offsetAt, countOf}
+use Rattle.eif.specs.Reading.{readView, readImage}
 use Rattle.eif_checksum.proofs.Parts.{in-parts}
 use Rattle.eif_judge.specs.Kept.{viewFrom}
+use Rattle.eif_judge.proofs.Kept.{read-kept}
 use Rattle.eif_reader.specs.Gathered.{Gathered}
 
 -- ---- a write over a part of a list
@@ -64,50 +63,12 @@ module _ (image headers next : List ℕ) (i : ℕ) (room : length headers ≡ se
       absurd (omega arith))
       (le-or-lt (suc k) i)
 
--- ---- numbers in equal parts are equal
-
-within : (w k n : ℕ) (l : List ℕ) → k + w ≤ n → take w (drop k (take n l)) ≡ take w (drop k l)
-within w zero n l h = take-take w n l (omega arith)
-within w (suc k) zero l h = absurd (omega arith)
-within w (suc k) (suc n) [] h = refl
-within w (suc k) (suc n) (x ∷ l) h = within w k n l (omega arith)
-
-field-part : (w k n : ℕ) (a b : List ℕ) → k + w ≤ n → take n a ≡ take n b → field w k a ≡ field w k b
-unfolding field
-field-part w k n a b h e =
-    ap beValue (sym (within w k n a h) ∙ ap (λ (l : List ℕ). take w (drop k l)) e ∙ within w k n b h)
-
 -- ---- the reading of what was gathered is that of the image
 
 module _ (image headers : List ℕ) (gathered : Gathered image headers (min placeCount (countOf image))) where
-  abbrev part : View
-  part = viewFrom image headers (length image)
-
-  inside : (i : ℕ) → Lies (viewOf image) i → i < min placeCount (countOf image)
-  inside i l = let a = l .counted in let b = l .place in omega arith
-
-  agree : Agree part (viewOf image)
-  agree =
-      record {
-        sizes = refl;
-        headers = λ _ k at _. refl;
-        kinds = λ i l.
-            field-drop0 2 (sectionHeaderSize * i) headers
-            ∙ field-part 2 0 sectionHeaderSize _ _ (omega arith) (gathered i (inside i l) (l .ends))
-            ∙ sym (field-drop0 2 (offsetAt image i) image);
-        flags = λ i l.
-            field-drop 2 sectionFlagsAt (sectionHeaderSize * i) headers
-            ∙ field-part 2 sectionFlagsAt sectionHeaderSize _ _ (omega arith) (gathered i (inside i l) (l .ends))
-            ∙ sym (field-drop 2 sectionFlagsAt (offsetAt image i) image);
-        ownSizes = λ i l.
-            field-drop 8 sectionSizeAt (sectionHeaderSize * i) headers
-            ∙ field-part 8 sectionSizeAt sectionHeaderSize _ _ (omega arith) (gathered i (inside i l) (l .ends))
-            ∙ sym (field-drop 8 sectionSizeAt (offsetAt image i) image);
-      }
-
   -- from the checksum in two parts
   pub read-parts : (front back : List ℕ) (before : ℕ) → front ≡ take checksumAt image → back ≡ drop checksumEnd image → before ≡ crcFrom ones32 front
-      → readView part (bitXor ones32 (crcFrom before back)) ≡ readImage image
+      → readView (viewFrom image headers (length image)) (bitXor ones32 (crcFrom before back)) ≡ readImage image
   read-parts front back before f b e =
-      ap (readView part) (in-parts image front back before (crcFrom before back) _ f b e refl refl)
-      ∙ read-same part (viewOf image) agree (checksumOf image)
+      ap (readView (viewFrom image headers (length image))) (in-parts image front back before (crcFrom before back) _ f b e refl refl)
+      ∙ read-kept image image headers (λ _. refl) (λ i l. gathered i (omega (arith, l .counted, l .place)) (l .ends))

@@ -29,7 +29,7 @@ fn gather(image: &[u8]) -> [u8; SectionHeader::ALL_SIZE]
     let count = used(image);
     let mut i: usize = 0;
     while i < count {
-        let offset = octets::be64(image, Header::OFFSETS_AT + Header::ENTRY_SIZE * i) as usize;
+        let offset = eif_judge::offset_at(image, i as u8) as usize;
         if offset <= last {
             octets::copy(
                 &mut headers,

@@ -1,58 +1,66 @@
--- The registers of an accepted image by the step over its reading; and the answers.
+-- The registers of an image by the step over sections with its streams, as its own reading has them; and the answers.
 -- Assumes nothing.
-use Prim.Native.Nat.{ℕ}
-use mathlib.Core.Path.{_≡_, ap, _∙_}
-use mathlib.Core.List.{List, [], _∷_}
+use Prim.Native.Nat.{ℕ, _≤_}
+use mathlib.Core.Path.{_≡_, refl, ap, _∙_}
+use mathlib.Core.List.{List, [], _∷_, map}
 use native.Mathlib.Omega.{arith}
-use lib.ListN.{getD}
-use Rattle.eif.specs.Numbers.{placeCount}
+use lib.ListN.{length, getD}
+use Rattle.octets.specs.Lists.{joinedBy}
+use Rattle.eif.specs.Numbers.{sizeLimit, placeCount}
 use Rattle.eif.specs.Layout.{countOf}
 use Rattle.eif.specs.Reading.{verdictOf, sectionsOf, sectionAt, blankSection, dataOf, readImage}
 use Rattle.eif.specs.Stream.{streamSections, streamOf}
 use Rattle.eif.specs.declared.Reading.{Reading}
 use Rattle.eif.specs.declared.Refusal.{Refusal}
+use Rattle.eif.specs.declared.Section.{Section}
 use Rattle.eif.specs.declared.Stream.{Stream}
-use Rattle.eif.specs.declared.Stream.the-variants.{Whole, Boot, App}
+use Rattle.eif.specs.declared.Verdict.{Verdict}
 use Rattle.eif.specs.declared.Verdict.the-variants.{Accepted, Refused}
 use Rattle.eif.specs.Order.{firstThatApplies, imageRules}
 use Rattle.eif_laws.proofs.FirstApplies.{read-first}
 use Rattle.eif_lemmas.proofs.Table.{length-filled}
 use Rattle.eif_lemmas.proofs.Accept.{passes}
 use Rattle.eif_lemmas.proofs.Reading.{reading-accepted}
-use Rattle.eif_registers.specs.Registers.{registerFrom, registerOf, imageRegisters, noRegisters, registersFor, registersAnswer, stepRegister, stepRegisters}
+use Rattle.sha384_block.specs.Fips.{sha384}
+use Rattle.eif_registers.specs.Registers.{registerFrom, registerOf, measuredStreams, imageRegisters, noRegisters, registersFor, registersBeside, registersAnswer, stepRegister, stepRegisters}
 use Rattle.eif_registers.specs.declared.Measurement.{Measurement}
 use Rattle.eif_registers.proofs.Hashed.{digest-joined}
 use Rattle.stream_reader.proofs.Answers.{stream-bound}
 
+-- of sections whose streams are those of an image within the limit
+module _ (held : Section → List ℕ) (l : List Section) (t : List ℕ) (small : length t ≤ sizeLimit)
+    (same : (stream : Stream) → joinedBy held (streamSections stream l) ≡ streamOf t stream) where
+  register-is : (stream : Stream) → stepRegister held l stream ≡ registerOf t stream
+  unfolding stepRegister registerOf streamOf
+  register-is stream =
+      let h = stream-bound t stream (sectionsOf t) small (length-filled (sectionAt t) blankSection placeCount (countOf t)) in
+      let n = ap length (same stream) in
+      ap registerFrom (digest-joined held (streamSections stream l) (omega arith) ∙ ap sha384 (same stream))
+
+  pub registers-are : stepRegisters held l ≡ imageRegisters t
+  unfolding stepRegisters imageRegisters
+  registers-are = λ u. map (λ stream. register-is stream u) measuredStreams
+
 module _ (s : List ℕ) where
-  pub answer-refused : (r : Refusal) → verdictOf s ≡ Refused r → registersFor (Refused r) noRegisters ≡ registersAnswer s
-  unfolding registersAnswer
-  answer-refused r e = simp e
+  -- the step over the image's own reading
+  pub step-is : verdictOf s ≡ Accepted → (r : Reading) → r ≡ readImage s → stepRegisters (dataOf s) (r .sections) ≡ imageRegisters s
+  unfolding streamOf
+  step-is ok r is =
+      ap (λ (x : Reading). stepRegisters (dataOf s) (x .sections)) (is ∙ reading-accepted s ok)
+      ∙ registers-are (dataOf s) (sectionsOf s) s (passes s ok .head .small) (λ stream. refl)
 
   -- the order: the image's own rules
   pub registers-first : registersAnswer s .verdict ≡ firstThatApplies (imageRules s)
   unfolding registersAnswer
   registers-first = read-first s
 
-  module _ (ok : verdictOf s ≡ Accepted) where
-    register-is : (stream : Stream) → stepRegister (dataOf s) (sectionsOf s) stream ≡ registerOf s stream
-    unfolding stepRegister registerOf streamOf
-    register-is stream =
-        let l = streamSections stream (sectionsOf s) in
-        let h = stream-bound s stream (sectionsOf s) (passes s ok .head .small) (length-filled (sectionAt s) blankSection placeCount (countOf s)) in
-        ap registerFrom (digest-joined (dataOf s) l (omega arith))
+-- the answers, whatever the verdict is of
+module _ (v : Verdict) (s : List ℕ) where
+  pub beside-refused : (r : Refusal) → v ≡ Refused r → registersFor (Refused r) noRegisters ≡ registersBeside v s
+  beside-refused r e = simp e
 
-    registers-are : stepRegisters (dataOf s) (sectionsOf s) ≡ imageRegisters s
-    unfolding stepRegisters imageRegisters
-    registers-are = rw (register-is Whole, register-is Boot, register-is App)
-
-    pub answer-accepted : registersFor Accepted (imageRegisters s) ≡ registersAnswer s
-    unfolding registersAnswer
-    answer-accepted = simp ok
-
-    -- the step over the image's own reading
-    pub step-is : (r : Reading) → r ≡ readImage s → stepRegisters (dataOf s) (r .sections) ≡ imageRegisters s
-    step-is r is = ap (λ (x : Reading). stepRegisters (dataOf s) (x .sections)) (is ∙ reading-accepted s ok) ∙ registers-are
+  pub beside-accepted : v ≡ Accepted → registersFor Accepted (imageRegisters s) ≡ registersBeside v s
+  beside-accepted e = simp e
 
 -- an answer with three registers of a list
 abbrev pub three : List (List ℕ) → Measurement

@@ -26,9 +26,13 @@ registerFrom digest = sha384 (replicate digestSize 0 ++ digest)
 unfoldable pub registerOf : List ℕ → Stream → List ℕ
 registerOf s stream = registerFrom (sha384 (streamOf s stream))
 
--- registers 0, 1 and 2 of an image are those of Whole, Boot and App
+-- the streams of registers 0, 1 and 2
+abbrev pub measuredStreams : List Stream
+measuredStreams = Whole ∷ Boot ∷ App ∷ []
+
+-- the registers of an image
 unfoldable pub imageRegisters : List ℕ → List (List ℕ)
-imageRegisters s = registerOf s Whole ∷ registerOf s Boot ∷ registerOf s App ∷ []
+imageRegisters s = map (registerOf s) measuredStreams
 
 -- all zero
 unfoldable pub noRegisters : List (List ℕ)
@@ -41,16 +45,17 @@ asDigest bytes = record { 0 = bytes }
 abbrev pub registersFor : Verdict → List (List ℕ) → Measurement
 registersFor verdict registers = record { verdict = verdict; registers = map asDigest registers }
 
--- the image's refusal and all zero, or its registers
+-- a refusal and all zero, or an image's registers
+abbrev pub registersBeside : Verdict → List ℕ → Measurement
+registersBeside verdict s = registersFor verdict (beside verdict (imageRegisters s) noRegisters)
+
+-- of an image
 unfoldable pub registersAnswer : List ℕ → Measurement
-registersAnswer s = registersFor (verdictOf s) (beside (verdictOf s) (imageRegisters s) noRegisters)
+registersAnswer s = registersBeside (verdictOf s) s
 
--- ---- the staged view: the registers of the image written afresh with the replacement, or the refusal and all zero
-
+-- of a staged view: those of the image written afresh with the replacement
 unfoldable pub stagedRegisters : List ℕ → List ℕ → ℕ → Measurement
-stagedRegisters s r k =
-    let verdict = stagedVerdict s (length r) k k in
-    registersFor verdict (beside verdict (imageRegisters (afresh s r k)) noRegisters)
+stagedRegisters s r k = registersBeside (stagedVerdict s (length r) k k) (afresh s r k)
 
 -- ---- the step over sections already found, for any sections and whatever their data is, also where these are not of one image
 
@@ -62,4 +67,4 @@ unfoldable pub stepRegister : (Section → List ℕ) → List Section → Stream
 stepRegister held l stream = registerFrom (digestFrom (hashed held initialState (streamSections stream l)))
 
 unfoldable pub stepRegisters : (Section → List ℕ) → List Section → List (List ℕ)
-stepRegisters held l = stepRegister held l Whole ∷ stepRegister held l Boot ∷ stepRegister held l App ∷ []
+stepRegisters held l = map (stepRegister held l) measuredStreams

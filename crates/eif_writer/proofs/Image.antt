@@ -1,52 +1,43 @@
 -- The header, the sections and the checksum, written one after the other, are the plain image.
 -- Assumes nothing.
-use Prim.Native.Nat.{ℕ, _+_, _≤_, _*_}
+use Prim.Native.Nat.{ℕ, _+_, _≤_, _-_}
 use mathlib.Core.Path.{_≡_, refl, sym, ap, ap₂, _∙_}
 use mathlib.Core.List.{List, _++_, append-assoc}
 use native.Mathlib.Omega.{arith}
 use native.Mathlib.Nat.{zero-add}
 use lib.ListN.{length, take, drop, length-append, length-take, length-drop}
 use lib.Seq.{take-at, drop-at}
-use Rattle.octets.specs.Bytes.{beBytes, beBytesEach}
+use Rattle.octets.specs.Bytes.{beBytes}
 use Rattle.octets.specs.Over.{over}
 use Rattle.octets.proofs.Over.{over-parts, over-start, over-own, over-joined, length-over}
 use Rattle.crc32.specs.Crc.{crc32}
-use Rattle.eif.specs.Layout.{headerSize, checksumAt, offsetsAt, reservedAfterAt, sizesAt, entrySize, defaultMemAt}
+use Rattle.eif.specs.Layout.{headerSize, checksumAt, offsetsAt, reservedAfterAt, sizesAt, defaultMemAt}
 use Rattle.eif.specs.Reading.{checksumOf}
-use Rattle.eif.specs.Plan.{dataBefore, plainSize, fixedFields, offsetTable, sizeTable, headerBytes, bodyBytes, plainImage, offsetsOf, sizesOf, plannedSize}
+use Rattle.eif.specs.Plan.{dataBefore, plainSize, fixedFields, packedAt, tableBytes, headerBytes, bodyBytes, plainImage, plannedSize}
 use Rattle.eif.specs.declared.Plan.{Plan}
-use Rattle.plain_laws.proofs.Shape.{packed-zero, length-offsets, length-sizes, length-header, length-sections}
+use Rattle.plain_laws.proofs.Shape.{packed-zero, length-table, length-header, length-sections}
 use Rattle.eif_writer.specs.Parts.{firstFields, nextFields}
 use Rattle.eif_checksum.specs.Put.{withChecksum}
-use Rattle.eif.specs.Numbers.{placeCount}
 
 -- ---- the header
 
 module _ (p : Plan) where
   abbrev offsets : List ℕ
-  offsets = beBytesEach entrySize (offsetsOf (p .places) (p .count))
+  offsets = tableBytes (packedAt (p .places)) (p .count)
 
   abbrev sizes : List ℕ
-  sizes = beBytesEach entrySize (sizesOf (p .places) (p .count))
+  sizes = tableBytes (plannedSize (p .places)) (p .count)
 
   length-first : length (firstFields p) ≡ defaultMemAt
   unfolding firstFields
   length-first = refl
 
-  length-next : length (nextFields p) ≡ 20
+  length-next : length (nextFields p) ≡ offsetsAt - defaultMemAt
   unfolding nextFields
   length-next = refl
 
-  length-offset-entries : length offsets ≡ entrySize * placeCount
-  unfolding offsetTable
-  length-offset-entries = length-offsets (p .places) (p .count)
-
-  length-size-entries : length sizes ≡ entrySize * placeCount
-  unfolding sizeTable
-  length-size-entries = length-sizes (p .places) (p .count)
-
   header-parts : firstFields p ++ (nextFields p ++ (offsets ++ (sizes ++ beBytes 4 0))) ≡ headerBytes p
-  unfolding headerBytes fixedFields offsetTable sizeTable firstFields nextFields
+  unfolding headerBytes fixedFields firstFields nextFields
   header-parts = simp append-assoc
 
   pub header-over : (d d₁ d₂ d₃ d₄ d₅ : List ℕ) → d₁ ≡ over d 0 (firstFields p) → d₂ ≡ over d₁ defaultMemAt (nextFields p) → d₃ ≡ over d₂ offsetsAt offsets
@@ -54,7 +45,7 @@ module _ (p : Plan) where
   header-over d d₁ d₂ d₃ d₄ d₅ e₁ e₂ e₃ e₄ e₅ =
       over-joined _ _ _ _ e₁
       (over-joined _ _ _ _ e₂
-      (over-joined _ _ _ _ e₃ (over-joined _ _ _ _ e₄ e₅ (ap (λ (n : ℕ). sizesAt + n) length-size-entries)) (ap (λ (n : ℕ). offsetsAt + n) length-offset-entries))
+      (over-joined _ _ _ _ e₃ (over-joined _ _ _ _ e₄ e₅ (ap (λ (n : ℕ). sizesAt + n) (length-table _ _))) (ap (λ (n : ℕ). offsetsAt + n) (length-table _ _)))
       (ap (λ (n : ℕ). defaultMemAt + n) length-next))
       (ap (λ (n : ℕ). 0 + n) length-first)
       ∙ ap (over d 0) header-parts

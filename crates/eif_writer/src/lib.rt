@@ -9,7 +9,7 @@ ghost use Rattle.octets.specs.Over.{over};
 ghost use Rattle.eif.specs.Numbers.{placeCount, sizeLimit};
 ghost use Rattle.eif.specs.Table.{joinFrom};
 ghost use Rattle.eif.specs.Layout.{headerSize, defaultMemAt, entrySize};
-ghost use Rattle.eif.specs.Plan.{packedAt, dataBefore, plainSize, headerBytes, sectionHeader, sectionBytes, writeAnswer, writeOutput, offsetsOf, sizesOf};
+ghost use Rattle.eif.specs.Plan.{packedAt, dataBefore, plainSize, headerBytes, sectionHeader, sectionBytes, writeAnswer, writeOutput, plannedSize, tableOf};
 ghost use Rattle.eif_writer.specs.Parts.{firstFields, nextFields};
 use eif::Header;
 use eif::PLACES;
@@ -25,7 +25,7 @@ use eif::Written;
 // The table of offsets: sections are packed from the end of the header.
 fn offsets(places: [Place; PLACES], count: usize) -> [u64; PLACES]
     requires { ⌜ (count ≤ placeCount) × (packedAt places count ≤ sizeLimit) ⌝ }
-    ensures { λ r. ⌜ r ≡ offsetsOf places count ⌝ }
+    ensures { λ r. ⌜ r ≡ tableOf (packedAt places) count ⌝ }
 {
     let mut table = [0u64; PLACES];
     let mut at = Header::SIZE as u64;
@@ -41,7 +41,7 @@ fn offsets(places: [Place; PLACES], count: usize) -> [u64; PLACES]
 // The table of sizes.
 fn sizes(places: [Place; PLACES], count: usize) -> [u64; PLACES]
     requires { ⌜ count ≤ placeCount ⌝ }
-    ensures { λ r. ⌜ r ≡ sizesOf places count ⌝ }
+    ensures { λ r. ⌜ r ≡ tableOf (plannedSize places) count ⌝ }
 {
     let mut table = [0u64; PLACES];
     let mut i: usize = 0;

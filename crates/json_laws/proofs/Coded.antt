@@ -17,10 +17,9 @@ use Rattle.octets.specs.Logic.{both, choose}
 use Rattle.json_machine.specs.Machine.{firstItemMode, faultEntry, againEntry, classCount, nothingOpen, stackLimit, afterOf, entryOf, Kind, goes, stops, closes, faults, opens, kindOf, bit}
 use Rattle.octets.proofs.Lists.{valuesBelow}
 use Rattle.octets.proofs.Logic.{both-true}
-use Rattle.json_machine.proofs.Modes.{Token, Str, Mode, m-value, m-after, m-firstItem, m-firstMember, m-key, m-colon, m-token, m-string, m-name, tokenNumber, stringNumber, nameNumber}
-use Rattle.json_machine.proofs.Modes as T
+use Rattle.json_machine.proofs.Modes.{Mode, m-value, m-after, m-firstItem, m-firstMember, m-key, m-colon, m-token, m-string, m-name, each-token, each-string}
 use Rattle.json_machine.proofs.Classes.{class-below}
-use Rattle.json_machine.proofs.Step.{actAt, Next, refused, at, nextAt, modeNumber, frames, afterNumber}
+use Rattle.json_machine.proofs.Step.{cell, actAt, Next, refused, at, nextOn, modeNumber, frames, afterNumber}
 
 -- ---- a stack of bits
 
@@ -42,12 +41,12 @@ unfolding stackOf afterOf
 stack-after [] = refl
 stack-after (false ∷ fs) =
     let p = stack-pos fs in
-    let n : stackOf fs * 2 + 0 ≡ 1 → ⊥ = λ e. omega arith in
+    let n : stackOf fs * 2 + 0 ≡ nothingOpen → ⊥ = λ e. omega arith in
     let z : (stackOf fs * 2 + 0) % 2 ≡ 0 = omega arith in
     simp (ne-eqb _ _ n, eq-eqb _ _ z)
 stack-after (true ∷ fs) =
     let p = stack-pos fs in
-    let n : stackOf fs * 2 + 1 ≡ 1 → ⊥ = λ e. omega arith in
+    let n : stackOf fs * 2 + 1 ≡ nothingOpen → ⊥ = λ e. omega arith in
     let z : (stackOf fs * 2 + 1) % 2 ≡ 0 → ⊥ = λ e. omega arith in
     simp (ne-eqb _ _ n, ne-eqb _ _ z)
 
@@ -107,9 +106,6 @@ in-row (r ∷ rs) (suc n) c e h l =
     let z : suc n * classCount + c ≡ length r + (n * classCount + c) = omega arith in
     rw z (getD-append-add r (joined rs) (n * classCount + c) 0 ∙ in-row rs n c (both-true (eqb (length r) classCount) (sized rs) e .1) (le-of-suc-le-suc h) l)
 
-unfoldable pub cell : ℕ → ℕ → ℕ
-cell n b = getD (getD rows n []) (getD classes b 0) 0
-
 rows-sized : sized rows ≡ true
 unfolding rows
 rows-sized = refl
@@ -118,7 +114,7 @@ rows-length : length rows ≡ faultEntry
 unfolding rows
 rows-length = refl
 
-pub entry-cell : (n b : ℕ) → n < faultEntry → entryOf n b ≡ cell n b
+pub entry-cell : (n b : ℕ) → n < faultEntry → entryOf n b ≡ cell n (getD classes b 0)
 unfolding entryOf cell
 entry-cell n b h = in-row rows n (getD classes b 0) rows-sized (subst (λ (k : ℕ). n < k) (sym rows-length) h) (class-below b)
 
@@ -127,55 +123,6 @@ after-below [] = omega arith
 after-below (false ∷ fs) = omega arith
 after-below (true ∷ fs) = omega arith
 
-token-below : (t : Token) → ltb (tokenNumber t) faultEntry ≡ true
-token-below T.t-minus = refl
-token-below T.t-zero = refl
-token-below T.t-whole = refl
-token-below T.t-point = refl
-token-below T.t-frac = refl
-token-below T.t-exp = refl
-token-below T.t-sign = refl
-token-below T.t-power = refl
-token-below T.t-alse = refl
-token-below T.t-lse = refl
-token-below T.t-se = refl
-token-below T.t-e = refl
-token-below T.t-ull = refl
-token-below T.t-ll = refl
-token-below T.t-l = refl
-token-below T.t-rue = refl
-token-below T.t-ue = refl
-
-string-below : (s : Str) → ltb (stringNumber s) faultEntry ≡ true
-string-below T.s-char = refl
-string-below T.s-escape = refl
-string-below T.s-hex4 = refl
-string-below T.s-hex3 = refl
-string-below T.s-hex2 = refl
-string-below T.s-hex1 = refl
-string-below T.s-tail1 = refl
-string-below T.s-tail2 = refl
-string-below T.s-tail3 = refl
-string-below T.s-afterE0 = refl
-string-below T.s-afterED = refl
-string-below T.s-afterF0 = refl
-string-below T.s-afterF4 = refl
-
-name-below : (s : Str) → ltb (nameNumber s) faultEntry ≡ true
-name-below T.s-char = refl
-name-below T.s-escape = refl
-name-below T.s-hex4 = refl
-name-below T.s-hex3 = refl
-name-below T.s-hex2 = refl
-name-below T.s-hex1 = refl
-name-below T.s-tail1 = refl
-name-below T.s-tail2 = refl
-name-below T.s-tail3 = refl
-name-below T.s-afterE0 = refl
-name-below T.s-afterED = refl
-name-below T.s-afterF0 = refl
-name-below T.s-afterF4 = refl
-
 pub number-below : (m : Mode) (fs : List Bool) → modeNumber m fs < faultEntry
 number-below m-value fs = omega arith
 number-below m-after fs = after-below fs
@@ -183,11 +130,11 @@ number-below m-firstItem fs = omega arith
 number-below m-firstMember fs = omega arith
 number-below m-key fs = omega arith
 number-below m-colon fs = omega arith
-number-below (m-token t) fs = ltb-true _ _ (token-below t)
-number-below (m-string s) fs = ltb-true _ _ (string-below s)
-number-below (m-name s) fs = ltb-true _ _ (name-below s)
+number-below (m-token t) fs = ltb-true _ _ (each-token (λ m. ltb (modeNumber m fs) faultEntry) (λ m. true) refl t)
+number-below (m-string s) fs = ltb-true _ _ (each-string (λ m. ltb (modeNumber m fs) faultEntry) (λ m. true) m-string refl s)
+number-below (m-name s) fs = ltb-true _ _ (each-string (λ m. ltb (modeNumber m fs) faultEntry) (λ m. true) m-name refl s)
 
--- ---- a turn, with the open ones as a list
+-- ---- a turn, with the open ones as a list, at a byte of the class c
 
 pub data Spot : Type 0 where
   stopped impossible : Spot
@@ -207,75 +154,18 @@ turnSpot (opens f) a zero fs = stopped
 turnSpot (opens f) a (suc d) fs = spot (firstItemMode + bit f) d (f ∷ fs)
 
 abbrev pub does : ℕ → List Bool → ℕ → ℕ
-does n fs b = choose (eqb (cell n b) againEntry) (cell (afterNumber fs) b) (cell n b)
+does n fs c = choose (eqb (cell n c) againEntry) (cell (afterNumber fs) c) (cell n c)
 
-abbrev pub turnAt : Mode → ℕ → List Bool → ℕ → Spot
-turnAt m d fs b = turnSpot (kindOf (does (modeNumber m fs) (frames m fs) b)) (does (modeNumber m fs) (frames m fs) b) d (frames m fs)
+abbrev pub turnOn : Mode → ℕ → List Bool → ℕ → Spot
+turnOn m d fs c = turnSpot (kindOf (does (modeNumber m fs) (frames m fs) c)) (does (modeNumber m fs) (frames m fs) c) d (frames m fs)
 
-abbrev pub Same : Mode → ℕ → List Bool → Type 0
-Same m d fs = valuesBelow 256 (λ b. spotOf (nextAt m d fs b)) ≡ valuesBelow 256 (λ b. turnAt m d fs b)
+abbrev pub byModes : ℕ → List Bool → Mode → List Spot
+byModes d fs m = valuesBelow classCount (λ c. spotOf (nextOn m d fs c))
 
-same-token : (t : Token) (d : ℕ) (fs : List Bool) → Same (m-token t) d fs
-unfolding actAt cell kindOf
-same-token T.t-minus d fs = refl
-same-token T.t-zero d [] = refl
-same-token T.t-zero d (false ∷ fs) = refl
-same-token T.t-zero d (true ∷ fs) = refl
-same-token T.t-whole d [] = refl
-same-token T.t-whole d (false ∷ fs) = refl
-same-token T.t-whole d (true ∷ fs) = refl
-same-token T.t-point d fs = refl
-same-token T.t-frac d [] = refl
-same-token T.t-frac d (false ∷ fs) = refl
-same-token T.t-frac d (true ∷ fs) = refl
-same-token T.t-exp d fs = refl
-same-token T.t-sign d fs = refl
-same-token T.t-power d [] = refl
-same-token T.t-power d (false ∷ fs) = refl
-same-token T.t-power d (true ∷ fs) = refl
-same-token T.t-alse d fs = refl
-same-token T.t-lse d fs = refl
-same-token T.t-se d fs = refl
-same-token T.t-e d fs = refl
-same-token T.t-ull d fs = refl
-same-token T.t-ll d fs = refl
-same-token T.t-l d fs = refl
-same-token T.t-rue d fs = refl
-same-token T.t-ue d fs = refl
+abbrev pub byNumbers : ℕ → List Bool → Mode → List Spot
+byNumbers d fs m = valuesBelow classCount (turnOn m d fs)
 
-same-string : (s : Str) (d : ℕ) (fs : List Bool) → Same (m-string s) d fs
-unfolding actAt cell kindOf
-same-string T.s-char d fs = refl
-same-string T.s-escape d fs = refl
-same-string T.s-hex4 d fs = refl
-same-string T.s-hex3 d fs = refl
-same-string T.s-hex2 d fs = refl
-same-string T.s-hex1 d fs = refl
-same-string T.s-tail1 d fs = refl
-same-string T.s-tail2 d fs = refl
-same-string T.s-tail3 d fs = refl
-same-string T.s-afterE0 d fs = refl
-same-string T.s-afterED d fs = refl
-same-string T.s-afterF0 d fs = refl
-same-string T.s-afterF4 d fs = refl
-
-same-name : (s : Str) (d : ℕ) (fs : List Bool) → Same (m-name s) d fs
-unfolding actAt cell kindOf
-same-name T.s-char d fs = refl
-same-name T.s-escape d fs = refl
-same-name T.s-hex4 d fs = refl
-same-name T.s-hex3 d fs = refl
-same-name T.s-hex2 d fs = refl
-same-name T.s-hex1 d fs = refl
-same-name T.s-tail1 d fs = refl
-same-name T.s-tail2 d fs = refl
-same-name T.s-tail3 d fs = refl
-same-name T.s-afterE0 d fs = refl
-same-name T.s-afterED d fs = refl
-same-name T.s-afterF0 d fs = refl
-same-name T.s-afterF4 d fs = refl
-
-pub coded-same : (m : Mode) (d : ℕ) (fs : List Bool) → Same m d fs
+pub coded-same : (m : Mode) (d : ℕ) (fs : List Bool) → byModes d fs m ≡ byNumbers d fs m
 unfolding actAt cell kindOf
 coded-same m-value zero fs = refl
 coded-same m-value (suc d) fs = refl
@@ -287,6 +177,8 @@ coded-same m-firstItem (suc d) fs = refl
 coded-same m-firstMember d fs = refl
 coded-same m-key d fs = refl
 coded-same m-colon d fs = refl
-coded-same (m-token t) d fs = same-token t d fs
-coded-same (m-string s) d fs = same-string s d fs
-coded-same (m-name s) d fs = same-name s d fs
+coded-same (m-token t) d [] = each-token (byModes d []) (byNumbers d []) refl t
+coded-same (m-token t) d (false ∷ fs) = each-token (byModes d (false ∷ fs)) (byNumbers d (false ∷ fs)) refl t
+coded-same (m-token t) d (true ∷ fs) = each-token (byModes d (true ∷ fs)) (byNumbers d (true ∷ fs)) refl t
+coded-same (m-string s) d fs = each-string (byModes d fs) (byNumbers d fs) m-string refl s
+coded-same (m-name s) d fs = each-string (byModes d fs) (byNumbers d fs) m-name refl s

@@ -13,7 +13,7 @@ use Rattle.octets.proofs.Logic.{le-or-lt}
 use Rattle.json.specs.Verdict.{IsText, CanBegin, FaultsFirstAt, IsVerdict}
 use Rattle.json.specs.declared.JsonVerdict.{JsonVerdict}
 use Rattle.json.specs.declared.JsonVerdict.the-variants.{Text, Fault}
-use Rattle.json_machine.specs.Machine.{jsonVerdict}
+use Rattle.json_machine.specs.Machine.{valueMode, nothingOpen, jsonVerdict}
 use Rattle.json_laws.proofs.Coded.{stackOf}
 use Rattle.json_laws.proofs.Walk.{right-from}
 
@@ -56,7 +56,7 @@ module _ (s : List ℕ) where
 -- it gives the right verdict on whatever bytes
 pub right-verdict : (s : List ℕ) → IsVerdict s (jsonVerdict s)
 unfolding jsonVerdict stackOf
-right-verdict s = right-from s [] 0 1 (omega arith) (refl, refl, refl)
+right-verdict s = right-from s [] valueMode nothingOpen (omega arith) (refl, refl, refl)
 
 module _ (s : List ℕ) where
   is-verdict : (v : JsonVerdict) → jsonVerdict s ≡ v → IsVerdict s v

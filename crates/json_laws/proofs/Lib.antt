@@ -2,3 +2,4 @@ pub mod Coded
 pub mod Onward
 pub mod Walk
 pub mod Laws
+pub mod Worked

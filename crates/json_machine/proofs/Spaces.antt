@@ -40,6 +40,9 @@ under {k} {l} x f s r = go (cut-of (parts r))
     go : {s : List ℕ} → Cut x k s → Texts (x ∷ l) s
     go (cut {v = v} i r) = texts-is i (f v r)
 
+split : {a b : Abnf} {k : List Abnf} {s : List ℕ} → Texts (a · b ∷ k) s → Texts (a ∷ b ∷ k) s
+split (seq e) = e
+
 -- spaces twice are spaces
 again : {x : Abnf} {k : List Abnf} {u v : List ℕ} → Is (many x) u → Texts (many x ∷ k) v → Texts (many x ∷ k) (u ++ v)
 again is-none r = r
@@ -98,9 +101,6 @@ module _ (v w : Abnf) (to : (k : List Abnf) → Sub (ws ∷ v ∷ ws ∷ k) (ws 
       (λ k s r. left r)
       (λ k s r. right (seq (seq (seq (split r)))))
       r
-    where
-      split : {a b : Abnf} {k : List Abnf} {s : List ℕ} → Texts (a · b ∷ k) s → Texts (a ∷ b ∷ k) s
-      split (seq e) = e
 
   to-member : (k : List Abnf) → Sub (ws ∷ member v ∷ ws ∷ k) (ws ∷ plainMember w ∷ k)
   to-member k = under ws inside
@@ -141,9 +141,6 @@ to-value (suc d) k s r =
     (cut-of (parts r))
 
 -- ---- and back
-
-split : {a b : Abnf} {k : List Abnf} {s : List ℕ} → Texts (a · b ∷ k) s → Texts (a ∷ b ∷ k) s
-split (seq e) = e
 
 module _ (o c : ℕ) (x y z R : Abnf)
     (from : (k : List Abnf) → Sub (ws ∷ y ∷ k) (ws ∷ x ∷ ws ∷ k))

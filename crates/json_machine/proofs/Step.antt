@@ -103,9 +103,13 @@ pub data Next : Type 0 where
   refused : Next
   at : Mode → ℕ → List Bool → Next
 
+-- what the tables say of a mode and a class of bytes
+unfoldable pub cell : ℕ → ℕ → ℕ
+cell n c = getD (getD rows n []) c 0
+
 unfoldable pub actAt : ℕ → ℕ → Act
-unfolding classes rows
-actAt n b = getD acts (getD (getD rows n []) (getD classes b 0) 0) T.fault
+unfolding rows cell
+actAt n c = getD acts (cell n c) T.fault
 
 -- in the mode m, with d more to open and these open
 abbrev pub atMode : Mode → ℕ → List Bool → Next
@@ -147,8 +151,12 @@ act T.openArray d fs n = opened m-firstItem d fs
 act T.openObject d fs n = opened m-firstMember d fs
 act T.close d fs n = closed d fs
 
+-- at a byte of the class c, and at the byte b
+abbrev pub nextOn : Mode → ℕ → List Bool → ℕ → Next
+nextOn m d fs c = act (actAt (modeNumber m fs) c) d (frames m fs) (act (actAt (afterNumber (frames m fs)) c) d (frames m fs) refused)
+
 abbrev pub nextAt : Mode → ℕ → List Bool → ℕ → Next
-nextAt m d fs b = act (actAt (modeNumber m fs) b) d (frames m fs) (act (actAt (afterNumber (frames m fs)) b) d (frames m fs) refused)
+nextAt m d fs b = nextOn m d fs (getD classes b 0)
 
 abbrev pub stills : Next → List (List Abnf)
 stills refused = []

@@ -17,9 +17,8 @@ use Rattle.json_machine.specs.Table.{classes}
 use Rattle.octets.specs.Logic.{both}
 use Rattle.json_machine.proofs.Derive.{derive, rests, isProductive, productive}
 use Rattle.json_machine.proofs.Plain.{plainValue}
-use Rattle.json_machine.proofs.Modes.{Token, Str, Mode, m-value, m-after, m-firstItem, m-firstMember, m-key, m-colon, m-token, m-string, m-name, Act}
-use Rattle.json_machine.proofs.Modes as T
-use Rattle.json_machine.proofs.Step.{still, nextAt, stills, act, actAt, modeNumber, frames, afterNumber, afterValue, colon, token, str, refused}
+use Rattle.json_machine.proofs.Modes.{Mode, m-value, m-after, m-firstItem, m-firstMember, m-key, m-colon, m-token, m-string, m-name, each-token, each-string}
+use Rattle.json_machine.proofs.Step.{still, nextOn, nextAt, stills, afterValue, colon}
 use Rattle.json_machine.proofs.Right.{right}
 
 -- each range is one of 1 to 255
@@ -79,40 +78,6 @@ usable-after d (true ∷ fs) = rw (within-value d) (usable-after (suc d) fs)
 usable-colon : (d : ℕ) (fs : List Bool) → usable (colon d fs) ≡ true
 usable-colon d fs = rw (productive-value d, within-value d) (usable-after (suc d) fs)
 
-usable-token : (t : Token) (k : List Abnf) → usable k ≡ true → usable (token t k) ≡ true
-usable-token T.t-minus k e = e
-usable-token T.t-zero k e = e
-usable-token T.t-whole k e = e
-usable-token T.t-point k e = e
-usable-token T.t-frac k e = e
-usable-token T.t-exp k e = e
-usable-token T.t-sign k e = e
-usable-token T.t-power k e = e
-usable-token T.t-alse k e = e
-usable-token T.t-lse k e = e
-usable-token T.t-se k e = e
-usable-token T.t-e k e = e
-usable-token T.t-ull k e = e
-usable-token T.t-ll k e = e
-usable-token T.t-l k e = e
-usable-token T.t-rue k e = e
-usable-token T.t-ue k e = e
-
-usable-string : (s : Str) (k : List Abnf) → usable k ≡ true → usable (str s k) ≡ true
-usable-string T.s-char k e = e
-usable-string T.s-escape k e = e
-usable-string T.s-hex4 k e = e
-usable-string T.s-hex3 k e = e
-usable-string T.s-hex2 k e = e
-usable-string T.s-hex1 k e = e
-usable-string T.s-tail1 k e = e
-usable-string T.s-tail2 k e = e
-usable-string T.s-tail3 k e = e
-usable-string T.s-afterE0 k e = e
-usable-string T.s-afterED k e = e
-usable-string T.s-afterF0 k e = e
-usable-string T.s-afterF4 k e = e
-
 usable-still : (m : Mode) (d : ℕ) (fs : List Bool) → usable (still m d fs) ≡ true
 usable-still m-value d fs = rw (productive-value d, within-value d) (usable-after d fs)
 usable-still m-after d fs = usable-after d fs
@@ -120,9 +85,9 @@ usable-still m-firstItem d fs = rw (within-value d) (usable-after (suc d) fs)
 usable-still m-firstMember d fs = rw (within-value d) (usable-after (suc d) fs)
 usable-still m-key d fs = rw (productive-value d, within-value d) (usable-after (suc d) fs)
 usable-still m-colon d fs = usable-colon d fs
-usable-still (m-token t) d fs = usable-token t (afterValue d fs) (usable-after d fs)
-usable-still (m-string s) d fs = usable-string s (afterValue d fs) (usable-after d fs)
-usable-still (m-name s) d fs = usable-string s (colon d fs) (usable-colon d fs)
+usable-still (m-token t) d fs = each-token (λ m. usable (still m d fs)) (λ m. usable (afterValue d fs)) refl t ∙ usable-after d fs
+usable-still (m-string s) d fs = each-string (λ m. usable (still m d fs)) (λ m. usable (afterValue d fs)) m-string refl s ∙ usable-after d fs
+usable-still (m-name s) d fs = each-string (λ m. usable (still m d fs)) (λ m. usable (colon d fs)) m-name refl s ∙ usable-colon d fs
 
 module _ (m : Mode) (d : ℕ) (fs : List Bool) where
   productive-and-within : (productive (still m d fs) ≡ true) × (allWithin (still m d fs) ≡ true)
@@ -136,19 +101,11 @@ module _ (m : Mode) (d : ℕ) (fs : List Bool) where
 
 -- ---- the machine takes a number from 256 on for 0
 
-pub class-past : (b : ℕ) → 256 ≤ b → getD classes b 0 ≡ getD classes 0 0
+class-past : (b : ℕ) → 256 ≤ b → getD classes b 0 ≡ getD classes 0 0
 unfolding classes
 class-past b h = List·getD-eq-default classes 0 h
 
-pub row-past : (n b : ℕ) → 256 ≤ b → actAt n b ≡ actAt n 0
-unfolding actAt
-row-past n b h = rw (class-past b h) refl
-
 module _ (m : Mode) (d : ℕ) (fs : List Bool) where
-  pub step-past : (b : ℕ) → 256 ≤ b → nextAt m d fs b ≡ nextAt m d fs 0
-  step-past b h =
-      ap₂ (λ (x y : Act). act x d (frames m fs) (act y d (frames m fs) refused)) (row-past (modeNumber m fs) b h) (row-past (afterNumber (frames m fs)) b h)
-
   below : (b : ℕ) → b < 256 → rests b (still m d fs) ≡ stills (nextAt m d fs b)
   below b l = each-below [] (λ b. rests b (still m d fs)) (λ b. stills (nextAt m d fs b)) 256 (right m d fs) b l
 
@@ -157,7 +114,7 @@ module _ (m : Mode) (d : ℕ) (fs : List Bool) where
       rests-none b (inr h) (still m d fs) (within-still m d fs)
       ∙ sym (rests-none 0 (inl refl) (still m d fs) (within-still m d fs))
       ∙ below 0 (omega arith)
-      ∙ sym (ap stills (step-past b h))
+      ∙ sym (ap (λ (c : ℕ). stills (nextOn m d fs c)) (class-past b h))
 
   -- what may still come after any number is what the tables say
   pub rests-are : (b : ℕ) → rests b (still m d fs) ≡ stills (nextAt m d fs b)

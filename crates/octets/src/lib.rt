@@ -4,6 +4,7 @@
 // a write leaves out the bytes that would lie past the end.
 ghost use mathlib.Core.Path.{_≡_};
 ghost use Prim.Native.Nat.{_+_, _-_, _*_, _^_, _<_, _≤_, min};
+ghost use lib.Dec.{ltb};
 ghost use lib.ListN.{length, take, drop};
 ghost use Rattle.octets.specs.Bytes.{beBytes, leBytes, field, leField};
 ghost use Rattle.octets.specs.ByteOrder.{bytesOf, fieldOf, bytePlace, soFar};
@@ -28,11 +29,26 @@ fn room(len: usize, at: usize, count: usize) -> usize
 {
     if len <= at {
         0
-    } else if len - at < count {
-        len - at
     } else {
-        count
+        lesser(count, len - at)
     }
+}
+
+// How far a number lies past another; 0 where it does not.
+pub fn past(a: u64, b: u64) -> u64
+    ensures { λ r. ⌜ r ≡ a - b ⌝ }
+{
+    if a < b { 0 } else { a - b }
+}
+
+// Whether a sum is over a limit. What the first leaves of the limit is compared, as the sum itself could wrap.
+pub fn passes(limit: u64, a: u64, b: u64) -> bool
+    ensures { λ r. ⌜ r ≡ ltb limit (a + b) ⌝ }
+{
+    if limit < a {
+        return true;
+    }
+    limit - a < b
 }
 
 // Which byte of a number counts most: the first, or the last.

@@ -9,21 +9,24 @@ use Rattle.octets.specs.Bytes.{AreBytes}
 use Rattle.octets.proofs.Value.{field-lt, bytes-part}
 use Rattle.eif.specs.Numbers.{placeCount}
 use Rattle.eif.specs.Layout.{headerFlagsAt, defaultMemAt, defaultCpusAt, sectionFlagsAt, sectionHeaderSize, versionOf, countOf, offsetAt, sizeAt, kindAt}
-use Rattle.eif.specs.Reading.{verdictOf}
+use Rattle.eif.specs.Reading.{verdictOf, ownData}
 use Rattle.eif.specs.Plan.{plannedKind, plannedSize, packedAt, planVerdict, plainImage, Plain}
 use Rattle.eif.specs.declared.Place.{Place}
 use Rattle.eif.specs.declared.Plan.{Plan}
 use Rattle.eif.specs.declared.Verdict.the-variants.{Accepted}
 use Rattle.eif_lemmas.proofs.Table.{filled-past, bytes-joined}
-use Rattle.eif_lemmas.proofs.Accept.{none-missing-of, order-at, sound-at, file-ends}
+use Rattle.eif_lemmas.proofs.Accept.{passes, order-at, sound-at, file-ends}
 use Rattle.plain_laws.proofs.PlanRules.{types-fine-same, Planned, →planned}
 use Rattle.plain_laws.specs.RoundTrip.{Fits}
 use Rattle.plain_laws.proofs.Written.{read-count, offset-entry, size-entry, read-reserved, read-reserved-after}
 use Rattle.plain_laws.proofs.ReadBack.{plain-accepted}
 use Rattle.plain_laws.proofs.Joined.{length-joined}
-use Rattle.plain_laws.proofs.WriteBack.{plan, piece, given, sound-head, place-is, kind-is, packed-is, length-piece-is}
+use Rattle.plain_laws.proofs.WriteBack.{plan, given, sound-head, place-is, kind-is, packed-is, length-own}
 
 -- ---- what is written is plain
+
+pub bytes-own : (s : List ℕ) (i : ℕ) → AreBytes s → AreBytes (ownData s i)
+bytes-own s i w = bytes-part (sizeAt s i) (offsetAt s i + sectionHeaderSize) s w
 
 module _ (p : Plan) (d : List ℕ) (a : Planned p (length d)) where
   abbrev l : List Place
@@ -58,9 +61,9 @@ module _ (s : List ℕ) (ok : verdictOf s ≡ Accepted) where
         fields = h .fields;
         types =
             types-fine-same (versionOf s) (plannedKind places) (kindAt s) (countOf s) (kind-is s ok)
-            (record { allowed = λ i q. sound-at s ok i q .known; order = order-at s ok; none-missing = none-missing-of s ok });
+            (record { allowed = λ i q. sound-at s ok i q .known; order = order-at s ok; none-missing = passes s ok .complete });
         small = omega arith;
-        sized = length-joined places (countOf s) (piece s) (length-piece-is s ok);
+        sized = length-joined places (countOf s) (ownData s) (length-own s ok);
       }
 
   pub plan-accepted : planVerdict (plan s) (length (given s)) ≡ Accepted
@@ -78,5 +81,5 @@ module _ (s : List ℕ) (ok : verdictOf s ≡ Accepted) where
 
     pub bytes-given : AreBytes (given s)
     bytes-given =
-        bytes-joined (piece s) (countOf s) 0
-        (λ j. bytes-part (sizeAt s j) (offsetAt s j + sectionHeaderSize) s w)
+        bytes-joined (ownData s) (countOf s) 0
+        (λ j. bytes-own s j w)

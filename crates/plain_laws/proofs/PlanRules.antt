@@ -8,15 +8,15 @@ use native.Mathlib.Omega.{arith}
 use borrow.Author.Tests.{le-ltb, eq-eqb, ltb-false, eqb-true, leb-true, not-false}
 use lib.Dec.{eqb, ltb, leb}
 use Rattle.eif.specs.Numbers.{sizeLimit, kernel, ramdisk, signature, metadata}
-use Rattle.eif.specs.Rules.{typeFault, allowedIn, orderFault, missing, firstFault, fieldFault}
-use Rattle.eif.specs.Plan.{plannedKind, plainSize, dataBefore, sizeFault, planFault, planVerdict}
+use Rattle.eif.specs.Rules.{typeFault, allowedIn, orderFault, missing, firstFault, missingFault, typesVerdict}
+use Rattle.eif.specs.Plan.{plannedKind, plainSize, dataBefore, sizeFault, planVerdict}
 use Rattle.eif.specs.declared.Place.{Place}
 use Rattle.eif.specs.declared.Plan.{Plan}
 use Rattle.eif.specs.declared.Verdict.the-variants.{Accepted}
 use Rattle.octets.proofs.Logic.{choose-zero, both-true}
 use Rattle.eif_lemmas.proofs.Fields.{Fields, fields, fields-zero}
 use Rattle.eif_lemmas.proofs.Types.{order-same, missing-same}
-use Rattle.eif_lemmas.proofs.Verdicts.{then-accepted, accepted-zero, all-accepted, walk-accepted, walk-all}
+use Rattle.eif_lemmas.proofs.Verdicts.{then-accepted, accepted-zero, walk-accepted, walk-all}
 
 -- what the first n types of an image, a plan or a roll have that the rules 9 to 12 of a version do not refuse
 pub record TypesFine (version : ℕ) (kinds : ℕ → ℕ) (n : ℕ) : Type 0 where
@@ -61,36 +61,31 @@ module _ (p : Plan) (given : ℕ) where
   at-place e i q = walk-accepted (typeFault (p .version) (plannedKind l)) (p .count) 0 e i (omega arith) (omega arith)
 
   pub planned→ : planVerdict p given ≡ Accepted → Planned p given
-  unfolding planVerdict planFault sizeFault
+  unfolding planVerdict typesVerdict missingFault sizeFault
   planned→ e =
       let a = then-accepted _ _ e in
       let b = then-accepted _ _ (a .1) in
-      let w = accepted-zero _ _ _ (b .1) in
-      let x = choose-zero (missing (plannedKind l) (p .version) (p .count)) _ _ w in
-      let y = choose-zero (ltb sizeLimit (plainSize p)) _ _ (x .1) in
+      let w = then-accepted _ _ (b .0) in
+      let y = choose-zero (ltb sizeLimit (plainSize p)) _ _ (accepted-zero _ _ _ (b .1)) in
       let z = choose-zero (not (eqb given (dataBefore l (p .count)))) _ _ (y .1) in
       record {
         fields = fields (p .version) (p .count) (accepted-zero _ _ _ (a .0));
         types = record {
-          allowed = λ i q. place-zero (p .version) l i (at-place (b .0) i q) .0;
-          order = λ i q. place-zero (p .version) l i (at-place (b .0) i q) .1;
-          none-missing = x .0;
+          allowed = λ i q. place-zero (p .version) l i (at-place (w .0) i q) .0;
+          order = λ i q. place-zero (p .version) l i (at-place (w .0) i q) .1;
+          none-missing = choose-zero (missing (plannedKind l) (p .version) (p .count)) _ 0 (accepted-zero _ _ _ (w .1)) .0;
         };
         small = ltb-false _ _ (y .0);
         sized = eqb-true _ _ (not-false _ (z .0));
       }
 
   module _ (a : Planned p given) where
-    plan-zero : planFault p given ≡ 0
-    unfolding planFault sizeFault
-    plan-zero = simp (a .types .none-missing, le-ltb _ _ (a .small), eq-eqb _ _ (a .sized))
-
     pub →planned : planVerdict p given ≡ Accepted
-    unfolding planVerdict
+    unfolding planVerdict typesVerdict missingFault sizeFault
     →planned =
-        all-accepted (fieldFault (p .version) (p .count)) (planFault p given) _ (fields-zero (p .version) (p .count) (a .fields))
-        (walk-all (typeFault (p .version) (plannedKind l)) (p .count) 0
-        (λ i k q. zero-place (p .version) l i (a .types .allowed i (omega arith)) (a .types .order i (omega arith)))) plan-zero
+        let walk = walk-all (typeFault (p .version) (plannedKind l)) (p .count) 0
+        (λ i k q. zero-place (p .version) l i (a .types .allowed i (omega arith)) (a .types .order i (omega arith))) in
+        simp (fields-zero (p .version) (p .count) (a .fields), walk, a .types .none-missing, le-ltb _ _ (a .small), eq-eqb _ _ (a .sized))
 
 -- a type that a version may hold is small
 pub allowed-small : (version kind : ℕ) → allowedIn version kind ≡ true → kind ≤ metadata

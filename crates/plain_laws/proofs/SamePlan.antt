@@ -9,20 +9,23 @@ use lib.Dec.{ltb, eqb}
 use lib.ListN.{take, drop}
 use Rattle.octets.specs.Bytes.{beBytes, beBytesEach}
 use Rattle.crc32.specs.Crc.{crc32}
-use Rattle.eif.specs.Numbers.{sizeLimit, placeCount, imageTooLong, sectionMissing, dataLengthDiffers}
+use Rattle.eif.specs.Numbers.{sizeLimit, placeCount, imageTooLong, dataLengthDiffers}
 use Rattle.octets.specs.Logic.{choose}
-use Rattle.eif.specs.Answers.{wholeVerdict}
-use Rattle.eif.specs.Rules.{typeFault, missing, firstFault, fieldFault}
+use Rattle.eif.specs.Answers.{wholeVerdict, andThen}
+use Rattle.eif.specs.Rules.{fieldFault, typesVerdict}
 use Rattle.eif.specs.Layout.{magicNumber, entrySize}
-use Rattle.eif.specs.Plan.{placeAt, plannedKind, plannedSize, packedAt, dataBefore, plainSize, sizeFault, planFault, planVerdict, fixedFields, offsetTable, sizeTable, headerBytes, pieceAt, sectionHeader, sectionBytes, bodyBytes, plainImage}
+use Rattle.eif.specs.Plan.{placeAt, plannedKind, plannedSize, packedAt, dataBefore, plainSize, sizeFault, planVerdict, fixedFields, tableBytes, headerBytes, pieceAt, sectionHeader, sectionBytes, bodyBytes, plainImage}
 use Rattle.eif.specs.declared.Place.{Place}
 use Rattle.eif.specs.declared.Plan.{Plan}
 use Rattle.plain_laws.specs.Packed.{SamePlan}
-use Rattle.eif_lemmas.proofs.Types.{missing-same, type-same}
+use Rattle.eif_lemmas.proofs.Types.{types-same}
 use Rattle.eif_lemmas.proofs.Table.{filled-same, join-same}
-use Rattle.eif_lemmas.proofs.Verdicts.{then-same, walk-same}
 use Rattle.eif.specs.Table.{joinFrom}
 use Rattle.plain_laws.proofs.Shape.{packed-agree}
+
+table-same : (f g : ℕ → ℕ) (count : ℕ) → ((i : ℕ) → i < count → f i ≡ g i) → tableBytes f count ≡ tableBytes g count
+unfolding tableBytes
+table-same f g count h = ap (beBytesEach entrySize) (filled-same f g 0 placeCount count h)
 
 -- ---- lists of places with the same first ones
 
@@ -41,13 +44,11 @@ module _ (l m : List Place) (count : ℕ) (same : (i : ℕ) → i < count → pl
   before-same zero h = refl
   before-same (suc i) h = ap₂ (λ (x y : ℕ). x + y) (before-same i (omega arith)) (size-same i h)
 
-  offsets-same : offsetTable l count ≡ offsetTable m count
-  unfolding offsetTable
-  offsets-same = ap (beBytesEach entrySize) (filled-same (packedAt l) (packedAt m) 0 placeCount count (λ i h. packed-same i (omega arith)))
+  offsets-same : tableBytes (packedAt l) count ≡ tableBytes (packedAt m) count
+  offsets-same = table-same (packedAt l) (packedAt m) count (λ i h. packed-same i (omega arith))
 
-  sizes-same : sizeTable l count ≡ sizeTable m count
-  unfolding sizeTable
-  sizes-same = ap (beBytesEach entrySize) (filled-same (plannedSize l) (plannedSize m) 0 placeCount count size-same)
+  sizes-same : tableBytes (plannedSize l) count ≡ tableBytes (plannedSize m) count
+  sizes-same = table-same (plannedSize l) (plannedSize m) count size-same
 
   piece-same : (d : List ℕ) (i : ℕ) → i < count → pieceAt l d i ≡ pieceAt m d i
   piece-same d i h = ap₂ (λ (n b : ℕ). take n (drop b d)) (size-same i h) (before-same i (omega arith))
@@ -56,9 +57,6 @@ module _ (l m : List Place) (count : ℕ) (same : (i : ℕ) → i < count → pl
   sections-same d =
       join-same (sectionBytes l d) (sectionBytes m d) count 0
       (λ i h. ap₂ (λ (x : Place) (r : List ℕ). sectionHeader x ++ r) (same i (omega arith)) (piece-same d i (omega arith)))
-
-  place-fault-same : (version i : ℕ) → i < count → typeFault version (plannedKind l) i ≡ typeFault version (plannedKind m) i
-  place-fault-same version i h = type-same (plannedKind l) (plannedKind m) version i (λ j q. kind-same j (omega arith))
 
 -- ---- two such plans
 
@@ -75,34 +73,19 @@ module _ (p q : Plan) (e : SamePlan p q) where
   sum-same : dataBefore l (p .count) ≡ dataBefore m (q .count)
   sum-same = before-same l m (p .count) (e .used) (p .count) (omega arith) ∙ ap (dataBefore m) (e .count)
 
-  missing-of-same : missing (plannedKind l) (p .version) (p .count) ≡ missing (plannedKind m) (q .version) (q .count)
-  missing-of-same =
-      missing-same (plannedKind l) (plannedKind m) (p .version) (p .count) (kind-same l m (p .count) (e .used))
-      ∙ ap₂ (λ (v n : ℕ). missing (plannedKind m) v n) (e .version) (e .count)
+  types-of-same : typesVerdict (p .version) (plannedKind l) (p .count) ≡ typesVerdict (q .version) (plannedKind m) (q .count)
+  types-of-same =
+      types-same (plannedKind l) (plannedKind m) (p .version) (p .count) (kind-same l m (p .count) (e .used))
+      ∙ ap₂ (λ (v n : ℕ). typesVerdict v (plannedKind m) n) (e .version) (e .count)
 
   -- ---- the same verdict
 
-  fields-fault-same : fieldFault (p .version) (p .count) ≡ fieldFault (q .version) (q .count)
-  fields-fault-same = ap₂ fieldFault (e .version) (e .count)
-
-  walk : firstFault (typeFault (p .version) (plannedKind l)) (p .count) 0 ≡ firstFault (typeFault (q .version) (plannedKind m)) (q .count) 0
-  walk =
-      walk-same (typeFault (p .version) (plannedKind l)) (typeFault (q .version) (plannedKind m)) (p .count)
-      (λ j h good. place-fault-same l m (p .count) (e .used) (p .version) j (omega arith) ∙ ap (λ (v : ℕ). typeFault v (plannedKind m) j) (e .version))
-      ∙ ap (λ (n : ℕ). firstFault (typeFault (q .version) (plannedKind m)) n 0) (e .count)
-
-  plan-fault-same : (given : ℕ) → planFault p given ≡ planFault q given
-  unfolding planFault sizeFault
-  plan-fault-same given =
-      let a = missing-of-same in
-      let b = size-of-same in
-      let c = sum-same in
-      λ t. choose (a t) sectionMissing (choose (ltb sizeLimit (b t)) imageTooLong (choose (not (eqb given (c t))) dataLengthDiffers 0))
-
   pub verdict-of-same : (given : ℕ) → planVerdict p given ≡ planVerdict q given
-  unfolding planVerdict
+  unfolding planVerdict sizeFault
   verdict-of-same given =
-      then-same _ _ _ _ (ap wholeVerdict fields-fault-same) (λ a. then-same _ _ _ _ walk (λ b. ap wholeVerdict (plan-fault-same given)))
+      let f = ap₂ fieldFault (e .version) (e .count) in
+      λ t. andThen (wholeVerdict (f t)) (andThen (types-of-same t)
+      (wholeVerdict (choose (ltb sizeLimit (size-of-same t)) imageTooLong (choose (not (eqb given (sum-same t))) dataLengthDiffers 0))))
 
   -- ---- the same image
 
@@ -117,8 +100,8 @@ module _ (p q : Plan) (e : SamePlan p q) where
   unfolding headerBytes
   header-same =
       let a = fixed-same in
-      let b = offsets-same l m (p .count) (e .used) ∙ ap (offsetTable m) (e .count) in
-      let c = sizes-same l m (p .count) (e .used) ∙ ap (sizeTable m) (e .count) in
+      let b = offsets-same l m (p .count) (e .used) ∙ ap (tableBytes (packedAt m)) (e .count) in
+      let c = sizes-same l m (p .count) (e .used) ∙ ap (tableBytes (plannedSize m)) (e .count) in
       λ t. a t ++ (b t ++ (c t ++ beBytes 4 0))
 
   body-same : (d : List ℕ) → bodyBytes p d ≡ bodyBytes q d

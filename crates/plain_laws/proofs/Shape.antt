@@ -9,13 +9,13 @@ use native.Mathlib.Nat.{eq-or-lt-of-le}
 use lib.ListN.{length, take, drop, length-append, length-take, length-drop}
 use lib.Seq.{take-at, drop-at}
 use Rattle.octets.proofs.Each.{length-each, bytes-each}
-use Rattle.octets.specs.Bytes.{AreBytes, beBytes, beBytesEach}
+use Rattle.octets.specs.Bytes.{AreBytes, beBytes}
 use Rattle.octets.proofs.Value.{bytes-append, bytes-part}
 use Rattle.crc32.specs.Crc.{crc32}
 use Rattle.eif.specs.Numbers.{placeCount}
-use Rattle.eif.specs.Table.{filled, joinFrom}
+use Rattle.eif.specs.Table.{joinFrom}
 use Rattle.eif.specs.Layout.{magicNumber, headerSize, sectionHeaderSize, checksumAt, offsetsAt, entrySize, packedBy}
-use Rattle.eif.specs.Plan.{placeAt, plannedSize, packedAt, dataBefore, plainSize, pieceAt, fixedFields, offsetTable, sizeTable, headerBytes, sectionHeader, sectionBytes, bodyBytes, plainImage}
+use Rattle.eif.specs.Plan.{placeAt, plannedSize, packedAt, dataBefore, plainSize, pieceAt, fixedFields, tableOf, tableBytes, headerBytes, sectionHeader, sectionBytes, bodyBytes, plainImage}
 use Rattle.eif.specs.declared.Plan.{Plan}
 use Rattle.eif.specs.declared.Place.{Place}
 use Rattle.eif_lemmas.proofs.Table.{length-filled, join-next, bytes-joined, join-end, join-from}
@@ -63,14 +63,9 @@ module _ (l : List Place) where
 
 -- ---- the header's parts
 
-module _ (l : List Place) (count : ℕ) where
-  pub length-offsets : length (offsetTable l count) ≡ entrySize * placeCount
-  unfolding offsetTable
-  length-offsets = length-each entrySize (filled (packedAt l) 0 placeCount count) ∙ ap (λ (n : ℕ). entrySize * n) (length-filled (packedAt l) 0 placeCount count)
-
-  pub length-sizes : length (sizeTable l count) ≡ entrySize * placeCount
-  unfolding sizeTable
-  length-sizes = length-each entrySize (filled (plannedSize l) 0 placeCount count) ∙ ap (λ (n : ℕ). entrySize * n) (length-filled (plannedSize l) 0 placeCount count)
+pub length-table : (f : ℕ → ℕ) (count : ℕ) → length (tableBytes f count) ≡ entrySize * placeCount
+unfolding tableBytes
+length-table f count = length-each entrySize (tableOf f count) ∙ ap (λ (n : ℕ). entrySize * n) (length-filled f 0 placeCount count)
 
 module _ (p : Plan) where
   pub length-fixed : length (fixedFields p) ≡ offsetsAt
@@ -82,19 +77,19 @@ module _ (p : Plan) where
   length-header =
       length-append (fixedFields p) _
       ∙ ap₂ (λ (a b : ℕ). a + b) length-fixed
-      (length-append (offsetTable (p .places) (p .count)) _
-      ∙ ap₂ (λ (a b : ℕ). a + b) (length-offsets (p .places) (p .count))
-      (length-append (sizeTable (p .places) (p .count)) _ ∙ ap (λ (n : ℕ). n + 4) (length-sizes (p .places) (p .count))))
+      (length-append (tableBytes (packedAt (p .places)) (p .count)) _
+      ∙ ap₂ (λ (a b : ℕ). a + b) (length-table _ _)
+      (length-append (tableBytes (plannedSize (p .places)) (p .count)) _ ∙ ap (λ (n : ℕ). n + 4) (length-table _ _)))
 
   pub bytes-header : AreBytes (headerBytes p)
-  unfolding headerBytes fixedFields offsetTable sizeTable
+  unfolding headerBytes fixedFields tableBytes
   bytes-header =
       join
       (join (be 4 magicNumber) (join (be 2 (p .version)) (join (be 2 (p .flags)) (join (be 8 (p .«default_mem»)) (join (be 8 (p .«default_cpus»)) (join (be 2 0) (be 2 (p .count))))))))
-      (join (table (filled (packedAt (p .places)) 0 placeCount (p .count))) (join (table (filled (plannedSize (p .places)) 0 placeCount (p .count))) (be 4 0))) .are
+      (join (table (packedAt (p .places))) (join (table (plannedSize (p .places))) (be 4 0))) .are
     where
-      table : (l : List ℕ) → Bytes (beBytesEach entrySize l)
-      table l = record { are = bytes-each entrySize l }
+      table : (f : ℕ → ℕ) → Bytes (tableBytes f (p .count))
+      table f = record { are = bytes-each entrySize (tableOf f (p .count)) }
 
 -- ---- the sections
 

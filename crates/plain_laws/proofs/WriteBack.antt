@@ -1,24 +1,24 @@
 -- Writing what was read of a plain image gives the image again.
 -- Assumes nothing.
-use Prim.Native.Nat.{ℕ, zero, suc, _+_, _<_, _≤_}
+use Prim.Native.Nat.{ℕ, zero, suc, _+_, _<_, _≤_, _*_}
 use mathlib.Core.Path.{_≡_, refl, sym, ap, ap₂, _∙_}
 use mathlib.Core.List.{List, _++_, append-assoc}
 use native.Mathlib.Omega.{arith}
-use lib.ListN.{length, take, drop, getD, take-append-drop, length-take, length-drop, List·getD-map}
+use lib.ListN.{length, take, drop, getD, take-append-drop, List·getD-map}
 use lib.Seq.{take-at, drop-drop, drop-length}
 use Rattle.eif.specs.Table.{joinFrom}
 use Rattle.octets.specs.Bytes.{AreBytes, beBytes, field, beBytesEach}
 use Rattle.crc32.specs.Crc.{crc32}
 use Rattle.eif.specs.Numbers.{placeCount}
-use Rattle.eif.specs.Layout.{magicNumber, headerSize, sectionHeaderSize, checksumAt, viewOf, headerFlags, defaultMem, defaultCpus, checksum, versionOf, countOf, offsetAt, sizeAt, startAt, kindAt, flagsAt, offsetsAt, reservedAfterAt, sizesAt, entrySize, magicAt, versionAt, headerFlagsAt, defaultMemAt, defaultCpusAt, reservedAt, countAt}
-use Rattle.eif.specs.Reading.{checksumOf, verdictOf, sectionAt, blankSection, sectionsOf, readingOf, dataOf}
-use Rattle.eif.specs.Plan.{placeAt, plannedKind, plannedSize, packedAt, pieceAt, fixedFields, offsetTable, sizeTable, headerBytes, sectionHeader, sectionBytes, bodyBytes, plainImage, Plain, placeOf, planOf, dataJoined}
+use Rattle.eif.specs.Layout.{magicNumber, headerSize, sectionHeaderSize, checksumAt, viewOf, headerFlags, defaultMem, defaultCpus, checksum, versionOf, countOf, offsetAt, sizeAt, startAt, kindAt, flagsAt, offsetsAt, reservedAfterAt, sizesAt, entrySize, magicAt, versionAt, headerFlagsAt, defaultMemAt, defaultCpusAt, reservedAt, countAt, entryAt}
+use Rattle.eif.specs.Reading.{checksumOf, verdictOf, sectionAt, blankSection, sectionsOf, readingOf, dataOf, ownData}
+use Rattle.eif.specs.Plan.{placeAt, plannedKind, plannedSize, packedAt, pieceAt, fixedFields, tableBytes, headerBytes, sectionHeader, sectionBytes, bodyBytes, plainImage, Plain, placeOf, planOf, dataJoined}
 use Rattle.eif.specs.declared.Place.{Place}
 use Rattle.eif.specs.declared.Plan.{Plan}
 use Rattle.eif.specs.declared.Verdict.the-variants.{Accepted}
 use Rattle.eif_lemmas.proofs.Table.{join-same, join-split}
 use Rattle.eif_lemmas.proofs.View.{SoundHeader}
-use Rattle.eif_lemmas.proofs.Accept.{passes, section-is, sum-of, file-ends, sound-at}
+use Rattle.eif_lemmas.proofs.Accept.{passes, section-is, file-ends, sound-at, length-data}
 use Rattle.plain_laws.proofs.Shape.{packed-suc, packed-zero, length-header}
 use Rattle.plain_laws.proofs.Split.{split, table-split, filled-full}
 use Rattle.plain_laws.proofs.Joined.{piece-is}
@@ -38,12 +38,8 @@ module _ (s : List ℕ) where
   abbrev pub plan : Plan
   plan = planOf (readingOf (viewOf s) Accepted)
 
-  -- the data of section i
-  abbrev pub piece : ℕ → List ℕ
-  piece i = take (sizeAt s i) (drop (offsetAt s i + sectionHeaderSize) s)
-
   abbrev pub given : List ℕ
-  given = joinFrom piece (countOf s) 0
+  given = joinFrom (ownData s) (countOf s) 0
 
   module _ (ok : verdictOf s ≡ Accepted) where
     abbrev pub sound-head : SoundHeader (viewOf s)
@@ -65,16 +61,16 @@ module _ (s : List ℕ) where
         packed-suc (plannedSize (plan .places)) i
         ∙ ap₂ (λ (x y : ℕ). x + sectionHeaderSize + y) (packed-is i (omega arith) ∙ sym (sound-at s ok i h .starts)) (size-is i h)
 
-    pub length-piece-is : (i : ℕ) → i < countOf s → length (piece i) ≡ plannedSize (plan .places) i
-    length-piece-is i h = let e = sound-at s ok i h .ends in simp (length-take, length-drop) (omega arith) ∙ sym (size-is i h)
+    pub length-own : (i : ℕ) → i < countOf s → length (ownData s i) ≡ plannedSize (plan .places) i
+    length-own i h = length-data s (sectionAt s i) (sound-at s ok i h .ends) ∙ sym (size-is i h)
 
-    pub piece-given : (i : ℕ) → i < countOf s → pieceAt (plan .places) given i ≡ piece i
-    piece-given = piece-is (plan .places) (countOf s) piece length-piece-is
+    pub piece-given : (i : ℕ) → i < countOf s → pieceAt (plan .places) given i ≡ ownData s i
+    piece-given = piece-is (plan .places) (countOf s) (ownData s) length-own
 
     -- the sections' data joined is that
     pub joined-is : dataJoined s (readingOf (viewOf s) Accepted) ≡ given
     joined-is =
-        join-same (λ i. dataOf s (getD (sectionsOf s) i blankSection)) piece (countOf s) 0
+        join-same (λ i. dataOf s (getD (sectionsOf s) i blankSection)) (ownData s) (countOf s) 0
         (λ i h. ap (dataOf s) (section-is s ok i (omega arith)))
 
 -- ---- a plain image, taken apart from its start
@@ -132,21 +128,23 @@ module _ (s : List ℕ) (w : AreBytes s) (pl : Plain s) where
       ∙ ap (λ (r : List ℕ). b6 ++ r) (split s w 2 (countOf s) countAt refl (omega arith)))))))
       ∙ regroup7 b1 b2 b3 b4 b5 b6 b7 (drop offsetsAt s)
 
-  offsets-split : drop offsetsAt s ≡ offsetTable l (countOf s) ++ drop sizesAt s
-  unfolding offsetTable
+  -- a table of the image is that of its plan
+  of-plan : (f : ℕ → ℕ) (at : ℕ) → at + entrySize * placeCount ≤ length s → ((i : ℕ) → i < countOf s → field entrySize (entryAt at i) s ≡ f i)
+      → ((i : ℕ) → countOf s ≤ i → i < placeCount → field entrySize (entryAt at i) s ≡ 0)
+      → drop at s ≡ tableBytes f (countOf s) ++ drop (at + entrySize * placeCount) s
+  unfolding tableBytes
+  of-plan f at inside same unused =
+      table-split s w placeCount at (λ i. field entrySize (entryAt at i) s) (λ i h. refl) inside
+      ∙ ap (λ (t : List ℕ). beBytesEach entrySize t ++ drop (at + entrySize * placeCount) s)
+      (filled-full f (λ i. field entrySize (entryAt at i) s) placeCount (countOf s) few same unused)
+
+  offsets-split : drop offsetsAt s ≡ tableBytes (packedAt l) (countOf s) ++ drop sizesAt s
   offsets-split =
       let q = whole in
-      table-split s w placeCount offsetsAt (offsetAt s) (λ i h. refl) (omega arith)
-      ∙ ap (λ (t : List ℕ). beBytesEach entrySize t ++ drop sizesAt s)
-      (filled-full (packedAt l) (offsetAt s) placeCount (countOf s) few (λ i h. sound-at s ok i h .starts ∙ sym (packed-is s ok i (omega arith))) (pl .unused .unused-offset))
+      of-plan (packedAt l) offsetsAt (omega arith) (λ i h. sound-at s ok i h .starts ∙ sym (packed-is s ok i (omega arith))) (pl .unused .unused-offset)
 
-  sizes-split : drop sizesAt s ≡ sizeTable l (countOf s) ++ drop reservedAfterAt s
-  unfolding sizeTable
-  sizes-split =
-      let q = whole in
-      table-split s w placeCount sizesAt (sizeAt s) (λ i h. refl) (omega arith)
-      ∙ ap (λ (t : List ℕ). beBytesEach entrySize t ++ drop reservedAfterAt s)
-      (filled-full (plannedSize l) (sizeAt s) placeCount (countOf s) few (λ i h. sym (size-is s ok i h)) (pl .unused .unused-size))
+  sizes-split : drop sizesAt s ≡ tableBytes (plannedSize l) (countOf s) ++ drop reservedAfterAt s
+  sizes-split = let q = whole in of-plan (plannedSize l) sizesAt (omega arith) (λ i h. sym (size-is s ok i h)) (pl .unused .unused-size)
 
   header-split : s ≡ headerBytes p ++ drop checksumAt s
   unfolding headerBytes
@@ -154,9 +152,9 @@ module _ (s : List ℕ) (w : AreBytes s) (pl : Plain s) where
       let q = whole in
       fixed-split
       ∙ ap (λ (r : List ℕ). fixedFields p ++ r) (offsets-split
-      ∙ ap (λ (r : List ℕ). offsetTable l (countOf s) ++ r) (sizes-split
-      ∙ ap (λ (r : List ℕ). sizeTable l (countOf s) ++ r) (split s w 4 0 reservedAfterAt (pl .unused .reserved-after-zero) (omega arith))))
-      ∙ regroup4 (fixedFields p) (offsetTable l (countOf s)) (sizeTable l (countOf s)) (beBytes 4 0) (drop checksumAt s)
+      ∙ ap (λ (r : List ℕ). tableBytes (packedAt l) (countOf s) ++ r) (sizes-split
+      ∙ ap (λ (r : List ℕ). tableBytes (plannedSize l) (countOf s) ++ r) (split s w 4 0 reservedAfterAt (pl .unused .reserved-after-zero) (omega arith))))
+      ∙ regroup4 (fixedFields p) (tableBytes (packedAt l) (countOf s)) (tableBytes (plannedSize l) (countOf s)) (beBytes 4 0) (drop checksumAt s)
 
   section-split : (i : ℕ) → i < countOf s → drop (startAt s i) s ≡ sectionHeader (placeAt l i) ++ (pieceAt l d i ++ drop (startAt s (suc i)) s)
   unfolding sectionHeader
@@ -174,7 +172,7 @@ module _ (s : List ℕ) (w : AreBytes s) (pl : Plain s) where
       (split s w 8 (sizeAt s i) (o + 2 + 2) (ap (λ (n : ℕ). field 8 n s) z4 ∙ q .same) (omega arith)
       ∙ ap (λ (n : ℕ). beBytes 8 (sizeAt s i) ++ drop n s) z12
       ∙ ap (λ (r : List ℕ). beBytes 8 (sizeAt s i) ++ r) (sym (take-append-drop (sizeAt s i) (drop (o + sectionHeaderSize) s)))))
-      ∙ regroup3 (beBytes 2 (kindAt s i)) (beBytes 2 (flagsAt s i)) (beBytes 8 (sizeAt s i)) (piece s i ++ drop (sizeAt s i) (drop (o + sectionHeaderSize) s))
+      ∙ regroup3 (beBytes 2 (kindAt s i)) (beBytes 2 (flagsAt s i)) (beBytes 8 (sizeAt s i)) (ownData s i ++ drop (sizeAt s i) (drop (o + sectionHeaderSize) s))
       ∙ ap₂ (λ (y : Place) (r : List ℕ). (beBytes 2 (y .kind) ++ (beBytes 2 (y .flags) ++ beBytes 8 (y .length .0))) ++ r) (sym x)
       (ap₂ (λ (y r : List ℕ). y ++ r) (sym (piece-given s ok i h)) (drop-drop (sizeAt s i) (o + sectionHeaderSize) s))
 
@@ -190,7 +188,7 @@ module _ (s : List ℕ) (w : AreBytes s) (pl : Plain s) where
       let q = whole in
       let b = sections-split in
       let h : take checksumAt s ≡ headerBytes p = ap (take checksumAt) header-split ∙ take-at (headerBytes p) (drop checksumAt s) checksumAt (length-header p) in
-      let c : checksum (viewOf s) ≡ crc32 (headerBytes p ++ bodyBytes p d) = sum-of s ok ∙ ap₂ (λ (x y : List ℕ). crc32 (x ++ y)) h b in
+      let c : checksum (viewOf s) ≡ crc32 (headerBytes p ++ bodyBytes p d) = passes s ok .sum ∙ ap₂ (λ (x y : List ℕ). crc32 (x ++ y)) h b in
       sym (header-split
       ∙ ap (λ (r : List ℕ). headerBytes p ++ r)
       (split s w 4 (crc32 (headerBytes p ++ bodyBytes p d)) checksumAt c (omega arith) ∙ ap (λ (r : List ℕ). beBytes 4 (crc32 (headerBytes p ++ bodyBytes p d)) ++ r) b))

@@ -11,15 +11,14 @@ use Rattle.octets.proofs.Value.{field-at, field-past, field-drop, bytes-append}
 use Rattle.crc32.specs.Crc.{crc32}
 use Rattle.crc32.proofs.Bounds.{crc32-lt}
 use Rattle.eif.specs.Numbers.{sizeLimit, placeCount}
-use Rattle.eif.specs.Table.{filled}
 use Rattle.eif.specs.Layout.{magicNumber, magicAt, versionAt, headerFlagsAt, defaultMemAt, defaultCpusAt, reservedAt, countAt, offsetsAt, sizesAt, reservedAfterAt, entrySize, entryAt, viewOf, magic, headerFlags, defaultMem, defaultCpus, reserved, reservedAfter, checksum, versionOf, countOf, offsetAt, sizeAt, endAt, startAt, kindAt, flagsAt, ownSizeAt, checksumAt, sectionFlagsAt, sectionHeaderSize, sectionSizeAt}
 use Rattle.eif.specs.Reading.{checksumOf}
-use Rattle.eif.specs.Plan.{placeAt, plannedKind, plannedSize, packedAt, pieceAt, fixedFields, offsetTable, sizeTable, headerBytes, sectionHeader, bodyBytes, plainImage}
+use Rattle.eif.specs.Plan.{placeAt, plannedKind, plannedSize, packedAt, pieceAt, fixedFields, tableOf, tableBytes, headerBytes, sectionHeader, bodyBytes, plainImage}
 use Rattle.eif.specs.declared.Plan.{Plan}
 use Rattle.eif.specs.declared.Place.{Place}
 use Rattle.eif_lemmas.proofs.Table.{length-filled, filled-at, all-filled}
 use Rattle.plain_laws.proofs.Fields.{skip, here, last, entry-at}
-use Rattle.plain_laws.proofs.Shape.{packed-le, packed-suc, packed-zero, length-fixed, length-offsets, length-sizes, length-header, bytes-header, bytes-sections, length-piece, past-header, before-sum, at-section, length-sectionHeader}
+use Rattle.plain_laws.proofs.Shape.{packed-le, packed-suc, packed-zero, length-fixed, length-table, length-header, bytes-header, bytes-sections, length-piece, past-header, before-sum, at-section, length-sectionHeader}
 use Rattle.plain_laws.proofs.PlanRules.{Planned, allowed-small}
 
 -- ---- the fixed fields
@@ -109,10 +108,10 @@ module _ (x : Place) (r : List ℕ) where
 
 module _ (p : Plan) (d : List ℕ) where
   abbrev offsets : List ℕ
-  offsets = offsetTable (p .places) (p .count)
+  offsets = tableBytes (packedAt (p .places)) (p .count)
 
   abbrev sizes : List ℕ
-  sizes = sizeTable (p .places) (p .count)
+  sizes = tableBytes (plannedSize (p .places)) (p .count)
 
   abbrev from-sum : List ℕ
   from-sum = beBytes 4 (crc32 (headerBytes p ++ bodyBytes p d)) ++ bodyBytes p d
@@ -132,11 +131,11 @@ module _ (p : Plan) (d : List ℕ) where
 
   length-to-sizes : length (fixedFields p ++ offsets) ≡ sizesAt
   length-to-sizes =
-      length-append (fixedFields p) offsets ∙ ap₂ (λ (x y : ℕ). x + y) (length-fixed p) (length-offsets (p .places) (p .count))
+      length-append (fixedFields p) offsets ∙ ap₂ (λ (x y : ℕ). x + y) (length-fixed p) (length-table _ _)
 
   length-to-reserved : length ((fixedFields p ++ offsets) ++ sizes) ≡ reservedAfterAt
   length-to-reserved =
-      length-append (fixedFields p ++ offsets) sizes ∙ ap₂ (λ (x y : ℕ). x + y) length-to-sizes (length-sizes (p .places) (p .count))
+      length-append (fixedFields p ++ offsets) sizes ∙ ap₂ (λ (x y : ℕ). x + y) length-to-sizes (length-table _ _)
 
 -- ---- the image of an accepted plan
 
@@ -178,28 +177,29 @@ module _ (p : Plan) (d : List ℕ) (a : Planned p (length d)) where
   pub read-count : countOf image ≡ p .count
   read-count = let h = a .fields .few in ap (field 2 countAt) (parts p d) ∙ fixed-count p rest (omega arith)
 
-  pub offset-entry : (i : ℕ) → i < placeCount → offsetAt image i ≡ getD (filled (packedAt l) 0 placeCount (p .count)) i 0
-  unfolding offsetTable
-  offset-entry i h =
-      let t : List ℕ = filled (packedAt l) 0 placeCount (p .count) in
-      let n : length t ≡ placeCount = length-filled (packedAt l) 0 placeCount (p .count) in
-      ap (field entrySize (entryAt offsetsAt i)) (parts p d)
-      ∙ field-past entrySize (entrySize * i) offsetsAt (fixedFields p) rest (length-fixed p)
-      ∙ entry-at i t (sizes p d ++ after-sizes p d) (omega arith)
-      (all-filled (λ n. n < 256 ^ entrySize) (packedAt l) 0 placeCount (p .count) (omega arith) (λ j q. let m = packed-small j (omega arith) in omega arith))
+  -- a table of numbers that fit in an entry, behind what comes before it in the image
+  entry-of : (f : ℕ → ℕ) (at : ℕ) (front after : List ℕ) → image ≡ front ++ (tableBytes f (p .count) ++ after) → length front ≡ at
+      → ((j : ℕ) → j < p .count → f j < 256 ^ entrySize) → (i : ℕ) → i < placeCount → field entrySize (entryAt at i) image ≡ getD (tableOf f (p .count)) i 0
+  unfolding tableBytes
+  entry-of f at front after e z small i h =
+      let n : length (tableOf f (p .count)) ≡ placeCount = length-filled f 0 placeCount (p .count) in
+      ap (field entrySize (entryAt at i)) e
+      ∙ field-past entrySize (entrySize * i) at front (tableBytes f (p .count) ++ after) z
+      ∙ entry-at i (tableOf f (p .count)) after (omega arith) (all-filled (λ n. n < 256 ^ entrySize) f 0 placeCount (p .count) (omega arith) small)
+
+  pub offset-entry : (i : ℕ) → i < placeCount → offsetAt image i ≡ getD (tableOf (packedAt l) (p .count)) i 0
+  offset-entry =
+      entry-of (packedAt l) offsetsAt (fixedFields p) (sizes p d ++ after-sizes p d) (parts p d) (length-fixed p)
+      (λ j q. let m = packed-small j (omega arith) in omega arith)
 
   pub read-offset : (i : ℕ) → i < p .count → offsetAt image i ≡ packedAt l i
   read-offset i h = let f = a .fields .few in offset-entry i (omega arith) ∙ filled-at (packedAt l) 0 0 placeCount (p .count) i h f
 
-  pub size-entry : (i : ℕ) → i < placeCount → sizeAt image i ≡ getD (filled (plannedSize l) 0 placeCount (p .count)) i 0
-  unfolding sizeTable
-  size-entry i h =
-      let t : List ℕ = filled (plannedSize l) 0 placeCount (p .count) in
-      let n : length t ≡ placeCount = length-filled (plannedSize l) 0 placeCount (p .count) in
-      ap (field entrySize (entryAt sizesAt i)) (parts p d ∙ sym (append-assoc (fixedFields p) (offsets p d) (sizes p d ++ after-sizes p d)))
-      ∙ field-past entrySize (entrySize * i) sizesAt (fixedFields p ++ offsets p d) (sizes p d ++ after-sizes p d) (length-to-sizes p d)
-      ∙ entry-at i t (after-sizes p d) (omega arith)
-      (all-filled (λ n. n < 256 ^ entrySize) (plannedSize l) 0 placeCount (p .count) (omega arith) (λ j q. let m = size-small j q in omega arith))
+  pub size-entry : (i : ℕ) → i < placeCount → sizeAt image i ≡ getD (tableOf (plannedSize l) (p .count)) i 0
+  size-entry =
+      entry-of (plannedSize l) sizesAt (fixedFields p ++ offsets p d) (after-sizes p d)
+      (parts p d ∙ sym (append-assoc (fixedFields p) (offsets p d) (sizes p d ++ after-sizes p d))) (length-to-sizes p d)
+      (λ j q. let m = size-small j q in omega arith)
 
   pub read-size : (i : ℕ) → i < p .count → sizeAt image i ≡ plannedSize l i
   read-size i h = let f = a .fields .few in size-entry i (omega arith) ∙ filled-at (plannedSize l) 0 0 placeCount (p .count) i h f

@@ -26,7 +26,7 @@ module _ (p : Plan) where
   no-image : imageSize p ≡ 0 → (a b : ℕ) → planVerdict p a ≡ planVerdict p b
   no-image z a b =
       ⊎-elim
-      (λ few. by-same-sizes p a b (sym (size-over p a (imageSize p) few refl z) ∙ size-over p b (imageSize p) few refl z))
+      (λ few. by-same-sizes p a b (sym (size-over p (imageSize p) few refl a z) ∙ size-over p (imageSize p) few refl b z))
       (λ many.
       let h : fieldFault (p .version) (p .count) ≡ 0 → ⊥ = λ e. let few = fields (p .version) (p .count) e .few in absurd (omega arith) in
       sym (by-fields p a h) ∙ by-fields p b h)

@@ -6,12 +6,13 @@ use mathlib.Core.List.{List}
 use mathlib.Core.Logic.{⊎-elim}
 use native.Mathlib.Omega.{arith}
 use borrow.Author.Tests.{eq-eqb, ne-eqb, lt-ltb, le-ltb}
+use lib.Dec.{eqb, ltb}
 use Rattle.eif.specs.Numbers.{sizeLimit, placeCount, imageTooLong, dataLengthDiffers}
 use Rattle.eif.specs.Layout.{headerSize, sectionHeaderSize, packedBy}
 use Rattle.eif.specs.Plan.{sizeFault, packedAt, dataBefore, plainSize}
 use Rattle.eif.specs.declared.Place.{Place}
 use Rattle.eif.specs.declared.Plan.{Plan}
-use Rattle.octets.proofs.Logic.{le-or-lt}
+use Rattle.octets.proofs.Logic.{le-or-lt, equal-or-not}
 use Rattle.plan_judge.specs.Size.{limited, imageSize, dataSize}
 
 pub limited-over : (n : ℕ) → sizeLimit < n → 0 ≡ limited n
@@ -50,12 +51,12 @@ module _ (p : Plan) where
   size-few h = ⊎-elim (λ few. few) (λ many. absurd (h (sym (image-none many)))) (le-or-lt (p .count) placeCount)
 
 -- what an image's size tells, where the count is within the places
-module _ (p : Plan) (given r : ℕ) (few : p .count ≤ placeCount) (e : r ≡ imageSize p) where
+module _ (p : Plan) (r : ℕ) (few : p .count ≤ placeCount) (e : r ≡ imageSize p) where
   size-is : r ≡ limited (plainSize p)
   size-is = e ∙ sym (image-limited p few)
 
   -- no size is 0, so 0 says that it is over the limit
-  pub over-limit : r ≡ 0 → sizeLimit < plainSize p
+  over-limit : r ≡ 0 → sizeLimit < plainSize p
   over-limit z =
       let b = packed-before (p .places) (p .count) in
       ⊎-elim
@@ -65,26 +66,33 @@ module _ (p : Plan) (given r : ℕ) (few : p .count ≤ placeCount) (e : r ≡ i
       (λ h. h)
       (le-or-lt (plainSize p) sizeLimit)
 
-  pub within-limit : (r ≡ 0 → ⊥) → (plainSize p ≤ sizeLimit) × (r ≡ plainSize p)
+  within-limit : (r ≡ 0 → ⊥) → (plainSize p ≤ sizeLimit) × (r ≡ plainSize p)
   within-limit z =
       ⊎-elim
       (λ h. (h, size-is ∙ sym (limited-in (plainSize p) h)))
       (λ h. absurd (z (size-is ∙ sym (limited-over (plainSize p) h))))
       (le-or-lt (plainSize p) sizeLimit)
 
-  pub size-over : r ≡ 0 → imageTooLong ≡ sizeFault p given
-  unfolding sizeFault
-  size-over z = simp (lt-ltb _ _ (over-limit z))
+  pub size-tells : eqb r 0 ≡ ltb sizeLimit (plainSize p)
+  size-tells =
+      ⊎-elim
+      (λ z. eq-eqb r 0 z ∙ sym (lt-ltb _ _ (over-limit z)))
+      (λ n. ne-eqb r 0 n ∙ sym (le-ltb _ _ (within-limit n .0)))
+      (equal-or-not r 0)
 
-  module _ (some : r ≡ 0 → ⊥) where
-    -- the data is what the headers leave of the image
-    pub size-parts : r ≡ dataBefore (p .places) (p .count) + sectionHeaderSize * p .count + headerSize
-    size-parts = within-limit some .1 ∙ packed-before (p .places) (p .count)
+  -- the data is what the headers leave of the image
+  pub size-parts : (r ≡ 0 → ⊥) → r ≡ dataBefore (p .places) (p .count) + sectionHeaderSize * p .count + headerSize
+  size-parts some = within-limit some .1 ∙ packed-before (p .places) (p .count)
 
-    pub size-differs : (given ≡ dataBefore (p .places) (p .count) → ⊥) → dataLengthDiffers ≡ sizeFault p given
+  module _ (given : ℕ) where
+    pub size-over : r ≡ 0 → imageTooLong ≡ sizeFault p given
     unfolding sizeFault
-    size-differs h = simp (le-ltb _ _ (within-limit some .0), ne-eqb _ _ h)
+    size-over z = simp (lt-ltb _ _ (over-limit z))
 
-    pub size-fine : given ≡ dataBefore (p .places) (p .count) → 0 ≡ sizeFault p given
+    pub size-differs : (r ≡ 0 → ⊥) → (given ≡ dataBefore (p .places) (p .count) → ⊥) → dataLengthDiffers ≡ sizeFault p given
     unfolding sizeFault
-    size-fine h = simp (le-ltb _ _ (within-limit some .0), eq-eqb _ _ h)
+    size-differs some h = simp (le-ltb _ _ (within-limit some .0), ne-eqb _ _ h)
+
+    pub size-fine : (r ≡ 0 → ⊥) → given ≡ dataBefore (p .places) (p .count) → 0 ≡ sizeFault p given
+    unfolding sizeFault
+    size-fine some h = simp (le-ltb _ _ (within-limit some .0), eq-eqb _ _ h)

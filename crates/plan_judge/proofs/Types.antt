@@ -1,25 +1,23 @@
 -- The rules on section types: each answer from what its tests give, and one verdict for all functions that give the same types.
 -- Assumes nothing.
-use Prim.Native.Nat.{ℕ, _<_, _≤_}
+use Prim.Native.Nat.{ℕ, _≤_}
 use mathlib.Core.Path.{_≡_, sym, ap, _∙_}
-use mathlib.Core.Bool.{Bool, true, false}
+use mathlib.Core.Bool.{true, false}
 use mathlib.Core.List.{List}
 use native.Mathlib.Omega.{arith}
 use lib.ListN.{length, take, length-take}
 use lib.Seq.{getD-take}
 use Rattle.eif.specs.Numbers.{placeCount, typeNotAllowed, sectionMissing}
-use Rattle.octets.specs.Logic.{choose}
 use Rattle.eif.specs.Answers.{refuse}
-use Rattle.eif.specs.Rules.{typeFault, allowedIn, orderFault, missing, firstFault}
+use Rattle.eif.specs.Rules.{typeFault, allowedIn, orderFault, missing, firstFault, typesVerdict, missingFault}
 use Rattle.eif.specs.Plan.{plannedKind}
 use Rattle.eif.specs.declared.Place.{Place}
 use Rattle.eif.specs.declared.Refusal.{Refusal}
 use Rattle.eif.specs.declared.Verdict.the-variants.{Accepted, Refused}
-use Rattle.eif_lemmas.proofs.Verdicts.{then-same, walk-same}
-use Rattle.eif_lemmas.proofs.Types.{missing-same, type-same}
+use Rattle.eif_lemmas.proofs.Types.{types-same}
 use Rattle.eif_lemmas.proofs.Table.{filled-at, length-filled}
 use Rattle.type_judge.specs.Kinds.{listedKind}
-use Rattle.plan_judge.specs.Types.{kindsOf, typesVerdict}
+use Rattle.plan_judge.specs.Types.{kindsOf}
 
 -- ---- the answers
 
@@ -39,22 +37,12 @@ module _ (version : ℕ) (kinds : ℕ → ℕ) (n : ℕ) where
 
   module _ (walked : Accepted ≡ firstFault (typeFault version kinds) n 0) where
     pub types-missing : missing kinds version n ≡ true → refuse sectionMissing 0 ≡ typesVerdict version kinds n
-    unfolding typesVerdict
+    unfolding typesVerdict missingFault
     types-missing e = simp (sym walked, e)
 
     pub types-fine : missing kinds version n ≡ false → Accepted ≡ typesVerdict version kinds n
-    unfolding typesVerdict
+    unfolding typesVerdict missingFault
     types-fine e = simp (sym walked, e)
-
--- ---- the types alone decide
-
-module _ (version : ℕ) (f g : ℕ → ℕ) where
-  pub types-same : (n : ℕ) → ((j : ℕ) → j < n → f j ≡ g j) → typesVerdict version f n ≡ typesVerdict version g n
-  unfolding typesVerdict
-  types-same n h =
-      then-same (firstFault (typeFault version f) n 0) (firstFault (typeFault version g) n 0) _ _
-      (walk-same (typeFault version f) (typeFault version g) n (λ j l good. type-same f g version j (λ k m. h k (omega arith))))
-      (λ _. ap (λ (b : Bool). choose b (refuse sectionMissing 0) Accepted) (missing-same f g version n h))
 
 -- the first n types of a plan, lent
 pub types-lent : (version : ℕ) (l : List Place) (n : ℕ) → n ≤ placeCount
@@ -63,4 +51,4 @@ unfolding kindsOf
 types-lent version l n h =
     let e : length (take n (kindsOf l)) ≡ n = simp (length-take, length-filled) (omega arith) in
     ap (typesVerdict version (listedKind (take n (kindsOf l)))) e
-    ∙ types-same version (listedKind (take n (kindsOf l))) (plannedKind l) n (λ j k. rw getD-take (filled-at (plannedKind l) 0 0 placeCount placeCount j (omega arith) (omega arith)))
+    ∙ types-same (listedKind (take n (kindsOf l))) (plannedKind l) version n (λ j k. rw getD-take (filled-at (plannedKind l) 0 0 placeCount placeCount j (omega arith) (omega arith)))

@@ -3,10 +3,10 @@ ghost use mathlib.Core.Path.{_≡_};
 ghost use Prim.Native.Nat.{_<_, _≤_};
 ghost use lib.ListN.{length};
 ghost use Rattle.eif.specs.Numbers.{placeCount};
-ghost use Rattle.eif.specs.Rules.{typeFault};
+ghost use Rattle.eif.specs.Rules.{typeFault, typesVerdict};
 ghost use Rattle.eif.specs.Plan.{packedAt, sizeFault, planVerdict, planLength};
 ghost use Rattle.type_judge.specs.Kinds.{listedKind};
-ghost use Rattle.plan_judge.specs.Types.{kindsOf, typesVerdict};
+ghost use Rattle.plan_judge.specs.Types.{kindsOf};
 ghost use Rattle.plan_judge.specs.Size.{limited, imageSize, dataSize};
 use eif::Header;
 use eif::PLACES;
@@ -77,10 +77,7 @@ fn packed_size(places: [Place; PLACES], count: usize) -> u64
     let mut i: usize = 0;
     while i < count {
         let size = places[i].length.0;
-        if left < head {
-            return 0;
-        }
-        if left - head < size {
+        if octets::passes(left, head, size) {
             return 0;
         }
         left = left - head - size;

@@ -5,6 +5,7 @@ use case_images::WORKED_SIZE;
 use case_lines::hex;
 use case_lines::labelled;
 use case_lines::say;
+use case_lines::tell;
 use case_lines::text;
 use eif::FlagsRecord;
 use eif::Header;
@@ -13,7 +14,6 @@ use eif::RecordHead;
 use eif::RollReading;
 use eif::RollRecord;
 use eif::SectionType;
-use eif::Written;
 
 // ---- lines
 
@@ -85,7 +85,7 @@ const ROOM: usize = 72;
 // A record's head, and data after it.
 fn put_record(roll: &mut [u8], at: u16, kind: u16, length: u64, lent: &[u8]) {
     let from = at as usize;
-    octets::put_le64(roll, from, length);
+    octets::put_le64(roll, from + RecordHead::LENGTH_AT, length);
     octets::put_le16(roll, from + RecordHead::TYPE_AT, kind);
     octets::copy(roll, from + RecordHead::SIZE, lent);
 }
@@ -148,6 +148,7 @@ fn lengths(label: &[u8], told: [u64; RECORDS], lent: &[u8], size: usize) {
     read(label, [FlagsRecord::TYPE, 1, 2, 3, 0], told, lent, size);
 }
 
+// R1 to R6.
 fn rows() {
     worked(b"R1 no bytes", 12);
     read(
@@ -172,6 +173,10 @@ fn rows() {
         b"\0\0aK",
         54,
     );
+}
+
+// R7 to R11.
+fn later_rows() {
     read(
         b"R7 ramdisk first",
         [FlagsRecord::TYPE, 3, 1, 2, 0],
@@ -329,18 +334,12 @@ fn many_records() {
 
 // ---- writing a roll
 
-fn rolled(written: Written) {
-    let verdict = written.verdict;
-    say(verdict);
-    labelled(b", length ", written.length);
-}
-
 // The answer, the length and every byte of the output.
 fn write(label: &[u8], image: &[u8], out: &mut [u8]) {
     let written = roll_writer::write(image, out);
     text(label);
     text(b": ");
-    rolled(written);
+    case_lines::written(written);
     text(b", ");
     hex(out);
     text(b"\n");
@@ -370,7 +369,7 @@ fn planned() {
     let mut image = [0u8; WORKED_SIZE];
     let written = eif_writer::write(case_images::worked_plan(), b"Ka", &mut image);
     text(b"the worked plan: ");
-    rolled(written);
+    case_lines::written(written);
     text(b"\n");
     let mut out = [0xeeu8; 54];
     write(b"its image's roll", &image, &mut out);
@@ -386,14 +385,10 @@ fn compare(label: &[u8], one: &[u8], other: &[u8]) {
     let second = roll_writer::write(other, &mut y);
     text(label);
     text(b": ");
-    rolled(first);
+    case_lines::written(first);
     text(b"; ");
-    rolled(second);
-    if check::same(&x, &y) {
-        text(b"; equal\n");
-    } else {
-        text(b"; different\n");
-    }
+    case_lines::written(second);
+    tell(check::same(&x, &y), b"; equal\n", b"; different\n");
 }
 
 // Of two images, the second over bytes that are not zero where `fill` is not.
@@ -471,6 +466,7 @@ fn byte_moved() {
 
 fn reading() {
     rows();
+    later_rows();
     inner();
     flags();
     many_records();

@@ -23,13 +23,14 @@ use Rattle.eif.specs.declared.Verdict.the-variants.{Accepted, Refused}
 use Rattle.eif_lemmas.proofs.Room.{room-enough, room-handed-on, room-fine, room-short, wrote-refused, wrote-short, wrote-fine}
 use Rattle.roll_laws.specs.Listing.{listFrom, listingOf, foundIn}
 use Rattle.roll_laws.proofs.Prefix.{prefix-same}
-use Rattle.roll_laws.proofs.Positions.{kindOfRecord, sizeOfRecord, say-all, sizes, kinds}
+use Rattle.roll_laws.proofs.Positions.{sizeOfRecord, say-all, sizes, kinds}
 use Rattle.roll_laws.proofs.Flags.{flags-past, flags-back, read-on, flags-same}
 use Rattle.roll_laws.proofs.RollRules.{→roll}
 use Rattle.roll_laws.specs.Told.{ImageOf, ReadsList}
 use Rattle.roll_laws.proofs.ImageOfRoll.{image-of-roll}
 use Rattle.roll_laws.proofs.RollOfImage.{image-fit, image-few, roll-whole, shorter}
 use Rattle.roll_laws.proofs.Listing.{found-from, listing-is}
+use Rattle.eif_lemmas.proofs.Streams.{kindOfRecord}
 
 -- ---- two rolls
 

@@ -1,8 +1,7 @@
 -- The flags record: reading it gives the flags and leaves the rest, and an accepted roll is a flags record and the rest.
 -- Assumes nothing.
 use Prim.Native.Nat.{ℕ, _+_, _^_, _<_, _≤_}
-use mathlib.Core.Path.{_≡_, refl, sym, ap, ap₂, _∙_}
-use mathlib.Core.Bool.{Bool, true, false}
+use mathlib.Core.Path.{_≡_, sym, ap, ap₂, _∙_}
 use mathlib.Core.List.{List, _++_, append-assoc}
 use native.Mathlib.Omega.{arith}
 use borrow.Author.Tests.{eqb-true}
@@ -11,14 +10,14 @@ use lib.ListN.{length, drop, length-append}
 use lib.Seq.{drop-at}
 use Rattle.octets.specs.Bytes.{AreBytes, leBytes, leField}
 use Rattle.octets.proofs.Value.{leField-at}
-use Rattle.octets.specs.Logic.{choose}
-use Rattle.eif.specs.Answers.{refuse}
-use Rattle.eif.specs.Roll.{headOf, flagsType, flagsLength, flagsRecordSize, flagsRecord, flagsFault, rollFlags, restOf, refusedRoll, readRest, readRoll, recordHeadSize, recordTypeAt, recordLengthAt}
+use Rattle.eif.specs.Roll.{headOf, flagsType, flagsLength, flagsRecordSize, flagsRecord, flagsFault, rollFlags, restOf, readRest, readRoll, recordHeadSize, recordTypeAt, recordLengthAt}
 use Rattle.eif.specs.declared.Verdict.the-variants.{Accepted}
 use Rattle.eif_lemmas.proofs.Verdicts.{never}
 use Rattle.eif_lemmas.proofs.Head.{length-head, head-size, head-kind}
 use Rattle.eif_lemmas.proofs.Flags.{length-flags, flags-zero, zero-flags}
 use Rattle.octets.proofs.Fields.{le-split}
+use Rattle.octets.proofs.Logic.{choose-holds}
+use Rattle.eif.specs.declared.RollReading.{RollReading}
 
 -- ---- a flags record and what follows it
 
@@ -79,9 +78,6 @@ module _ (s : List ℕ) (w : AreBytes s) where
 
 pub read-accepted : (s : List ℕ) → readRoll s .verdict ≡ Accepted → (flagsFault s ≡ 0) × (readRest (rollFlags s) (restOf s) .verdict ≡ Accepted)
 unfolding readRoll
-read-accepted s e = go (eqb (flagsFault s) 0) refl e
-  where
-    go : (b : Bool) → eqb (flagsFault s) 0 ≡ b → choose b (readRest (rollFlags s) (restOf s)) (refusedRoll (refuse (flagsFault s) 0)) .verdict ≡ Accepted
-        → (flagsFault s ≡ 0) × (readRest (rollFlags s) (restOf s) .verdict ≡ Accepted)
-    go true q v = (eqb-true _ _ q, v)
-    go false q v = never _ v
+read-accepted s e =
+    choose-holds (λ (r : RollReading). r .verdict ≡ Accepted → (flagsFault s ≡ 0) × (readRest (rollFlags s) (restOf s) .verdict ≡ Accepted)) (eqb (flagsFault s) 0) _ _
+    (λ q v. (eqb-true _ _ q, v)) (λ _ v. never _ v) e

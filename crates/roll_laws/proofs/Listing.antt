@@ -13,8 +13,9 @@ use Rattle.eif.specs.Roll.{Record, recordHeadSize, flagsRecordSize, rollOf, rec
 use Rattle.eif.specs.declared.RollRecord.{RollRecord}
 use Rattle.eif_lemmas.proofs.Table.{filled-none}
 use Rattle.roll_laws.specs.Listing.{listFrom, listingOf, foundIn}
-use Rattle.roll_laws.proofs.Positions.{first-record, next-record, data-there, rest-there, kindOfRecord, sizeOfRecord, PlacesSay, say-first, say-later}
+use Rattle.roll_laws.proofs.Positions.{first-record, next-record, data-there, rest-there, sizeOfRecord, PlacesSay, say-first, say-later}
 use Rattle.roll_laws.proofs.RollRules.{listedRoll}
+use Rattle.eif_lemmas.proofs.Streams.{kindOfRecord}
 
 -- ---- what it points at
 

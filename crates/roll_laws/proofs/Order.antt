@@ -10,16 +10,17 @@ use borrow.Author.Tests.{ne-eqb}
 use lib.Dec.{eqb}
 use lib.ListN.{length}
 use Rattle.octets.specs.Lists.{All}
-use Rattle.eif.specs.Numbers.{placeCount, kernel, ramdisk, ramdiskBeforeKernel, typeRepeated}
+use Rattle.eif.specs.Numbers.{placeCount, kernel, ramdisk}
 use Rattle.octets.specs.Logic.{choose, either}
-use Rattle.eif.specs.Rules.{seen, orderFault, bootType}
+use Rattle.eif.specs.Rules.{seen, orderFault, bootType, orderOf}
 use Rattle.eif.specs.Table.{filled}
 use Rattle.eif.specs.Reading.{blankSection, dataOf}
 use Rattle.eif.specs.Roll.{Record, recordFor, recordsBy}
 use Rattle.eif.specs.declared.Section.{Section}
 use Rattle.octets.proofs.Logic.{not-both}
 use Rattle.roll_laws.proofs.Sections.{over-sections}
-use Rattle.roll_laws.proofs.Positions.{kindOfRecord, PlacesSay, say-first, say-later}
+use Rattle.roll_laws.proofs.Positions.{PlacesSay, say-first, say-later}
+use Rattle.eif_lemmas.proofs.Streams.{kindOfRecord}
 
 -- ---- the rules over a list of earlier types
 
@@ -28,7 +29,7 @@ has k [] = false
 has k (x ∷ xs) = either (eqb x k) (has k xs)
 
 pub orderIn : List ℕ → ℕ → ℕ
-orderIn e k = choose (eqb k ramdisk) (choose (has kernel e) 0 ramdiskBeforeKernel) (choose (has k e) typeRepeated 0)
+orderIn e k = orderOf (eqb k ramdisk) (has kernel e) (has k e)
 
 -- the earlier types after some records more
 abbrev pub kindsAfter : List ℕ → List Record → List ℕ

@@ -42,10 +42,6 @@ module _ (t : List ℕ) (at : ℕ) (r : Record) (rest : List ℕ) (e : drop at t
 abbrev pub emptyRecord : Record
 emptyRecord = record { kind = 0; bytes = [] }
 
--- what a record's head says of it
-abbrev pub kindOfRecord : Record → ℕ
-kindOfRecord r = r .kind
-
 abbrev pub sizeOfRecord : Record → ℕ
 sizeOfRecord r = length (r .bytes)
 

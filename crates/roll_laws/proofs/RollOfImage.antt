@@ -2,7 +2,7 @@
 -- Assumes nothing.
 use Prim.Native.Nat.{ℕ, zero, suc, _+_, _-_, _<_, _≤_}
 use mathlib.Core.Path.{_≡_, refl, sym, ap, subst, _∙_}
-use mathlib.Core.Bool.{Bool, true, false}
+use mathlib.Core.Bool.{true, false}
 use mathlib.Core.List.{List, [], _∷_, _++_, map, append-nil}
 use native.Mathlib.Omega.{arith}
 use native.Mathlib.Nat.{le-trans}
@@ -23,10 +23,10 @@ use Rattle.eif.specs.Roll.{Record, headOf, endType, flagsRecord, rollOf, record
 use Rattle.eif.specs.declared.Section.{Section}
 use Rattle.eif.specs.declared.Stream.the-variants.{Whole}
 use Rattle.eif.specs.declared.Verdict.the-variants.{Accepted}
-use Rattle.octets.proofs.Logic.{both-true, either-false}
+use Rattle.octets.proofs.Logic.{both-true, either-false, choose-holds}
 use Rattle.octets.proofs.Lists.{all-map}
 use Rattle.eif_lemmas.proofs.Table.{length-filled, all-at}
-use Rattle.eif_lemmas.proofs.Accept.{none-missing-of, order-at, sound-at, file-ends}
+use Rattle.eif_lemmas.proofs.Accept.{passes, order-at, sound-at, file-ends}
 use Rattle.eif_lemmas.proofs.Head.{length-head, head-size, head-kind}
 use Rattle.eif_lemmas.proofs.Flags.{length-flags}
 use Rattle.eif_lemmas.proofs.Types.{whole-kept}
@@ -34,10 +34,11 @@ use Rattle.plain_laws.proofs.WriteBack.{sound-head}
 use Rattle.stream_laws.proofs.Sections.{kept-fits}
 use Rattle.roll_laws.proofs.RollRules.{WholeRoll}
 use Rattle.roll_laws.proofs.Prefix.{FitsHead}
-use Rattle.roll_laws.proofs.Positions.{emptyRecord, kindOfRecord, say-all, suffix, sizes, kinds}
+use Rattle.roll_laws.proofs.Positions.{emptyRecord, say-all, suffix, sizes, kinds}
 use Rattle.roll_laws.proofs.Sections.{over-sections}
 use Rattle.roll_laws.proofs.ImageOfRoll.{boot-there, known-in-roll}
 use Rattle.roll_laws.proofs.Order.{InRoll, Types, Follows, knows-none, knows-both, knows-after, order-of-sections, order-of-records}
+use Rattle.eif_lemmas.proofs.Streams.{kindOfRecord}
 
 -- ---- records that an image can hold
 
@@ -60,11 +61,8 @@ module _ (s : List ℕ) (small : length s ≤ sizeLimit) where
   all-held : (l : List Section) → All Held (recordsBy (dataOf s) l)
   unfolding All measuredIn
   all-held [] = tt
-  all-held (x ∷ xs) = one (all-held xs) (bootType (x .kind)) refl
-    where
-      one : All Held (recordsBy (dataOf s) xs) → (b : Bool) → bootType (x .kind) ≡ b → All Held (map (recordFor (dataOf s)) (choose b (x ∷ measuredIn xs) (measuredIn xs)))
-      one a true t = (held-one x t, a)
-      one a false t = a
+  all-held (x ∷ xs) =
+      choose-holds (λ (l : List Section). All Held (map (recordFor (dataOf s)) l)) (bootType (x .kind)) _ _ (λ t. (held-one x t, all-held xs)) (λ _. all-held xs)
 
 -- ---- sizes
 
@@ -79,17 +77,14 @@ module _ (s : List ℕ) (ok : verdictOf s ≡ Accepted) where
 
   sum-one : (x : Section) (i : ℕ) (rest : List Section) → i < countOf s → x ≡ sectionAt s i → SumFits (suc i) rest
       → SumFits i (choose (bootType (x .kind)) (x ∷ rest) rest)
-  sum-one x i rest h e r = by (bootType (x .kind))
+  sum-one x i rest h e r =
+      choose-holds (SumFits i) (bootType (x .kind)) (x ∷ rest) rest (λ _. le-trans (omega (arith, fits, starts)) r) (λ _. le-trans (omega (arith, starts)) r)
     where
       fits : length (dataOf s x) ≤ sizeAt s i
       fits = rw e (simp length-take (omega arith))
 
       starts : offsetAt s i ≡ startAt s i
       starts = sound-at s ok i h .starts
-
-      by : (b : Bool) → SumFits i (choose b (x ∷ rest) rest)
-      by true = le-trans (omega (arith, fits, starts)) r
-      by false = le-trans (omega (arith, starts)) r
 
   -- the records fit in the image, after its header
   sum-small : headerSize + recordsSum (recordsOf s) ≤ length s
@@ -209,7 +204,7 @@ module _ (s : List ℕ) (ok : verdictOf s ≡ Accepted) where
 
   pub roll-whole : WholeRoll roll (length rs)
   roll-whole =
-      let m = boot-there (kindAt s) (countOf s) (boot-of-missing (kindAt s) (versionOf s) (countOf s) (none-missing-of s ok)) in
+      let m = boot-there (kindAt s) (countOf s) (boot-of-missing (kindAt s) (versionOf s) (countOf s) (passes s ok .complete)) in
       let z = sizes-sum rs held (length rs) (omega arith) in
       let u = sum-small s ok in
       let v = sound-head s ok .small in

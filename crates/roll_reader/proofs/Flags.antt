@@ -3,10 +3,9 @@
 use Prim.Native.Nat.{ℕ, _-_, _<_, _≤_}
 use mathlib.Core.Path.{_≡_, ap₂}
 use mathlib.Core.List.{List}
-use native.Mathlib.Omega.{arith}
 use borrow.Author.Tests.{lt-ltb, le-ltb, eq-eqb, ne-eqb}
-use lib.ListN.{length, take, length-drop}
-use lib.Seq.{take-all}
+use borrow.Rule.Slice.PartAt.{part-to-end}
+use lib.ListN.{length, take}
 use Rattle.octets.specs.Bytes.{leField}
 use Rattle.eif.specs.Numbers.{recordCut, recordTypeWrong}
 use Rattle.eif.specs.Answers.{refuse}
@@ -40,4 +39,4 @@ module _ (s : List ℕ) where
 
   pub read-on : flagsFault s ≡ 0 → (f : ℕ) → f ≡ rollFlags s → readRest f (take (length s - flagsRecordSize) (restOf s)) ≡ readRoll s
   unfolding readRoll
-  read-on e f q = rw e (ap₂ readRest q (take-all (length s - flagsRecordSize) (restOf s) (simp length-drop (omega arith))))
+  read-on e f q = rw e (ap₂ readRest q (part-to-end s flagsRecordSize))

@@ -8,7 +8,7 @@ ghost use Prim.Native.Nat.{_+_, _^_, _<_, _≤_};
 ghost use lib.ListN.{length};
 ghost use Rattle.eif.specs.Numbers.{placeCount};
 ghost use Rattle.eif.specs.Table.{filled};
-ghost use Rattle.eif.specs.Roll.{recordAt, recordKind, recordHeadSize, flagsRecordSize, flagsFault, rollFault, blankRecord, refusedRoll, readRest, readRoll};
+ghost use Rattle.eif.specs.Roll.{recordAt, recordKind, recordHeadSize, flagsRecordSize, flagsFault, rollFault, refusedRoll, readRest, readRoll};
 ghost use Rattle.roll_reader.specs.Walk.{recordFault, stoppedAt, walkOf};
 use eif::DataLength;
 use eif::FlagsRecord;
@@ -22,16 +22,6 @@ use eif::RollRecord;
 use eif::SectionHeader;
 use eif::SectionType;
 use eif::Verdict;
-
-fn blank() -> RollRecord
-    ensures { λ r. ⌜ r ≡ blankRecord ⌝ }
-{
-    RollRecord {
-        kind: 0,
-        position: RollPosition(0),
-        length: DataLength(0),
-    }
-}
 
 // ---- the flags record
 
@@ -103,7 +93,6 @@ fn stopped(number: u8, i: usize, at: usize) -> Walked
     requires { ⌜ flagsRecordSize + at < 2 ^ 64 ⌝ }
     ensures { λ r. ⌜ r ≡ stoppedAt number i at ⌝ }
 {
-    let none = blank();
     let index = if number == Refusal::WRONG_COUNT {
         0
     } else {
@@ -114,7 +103,7 @@ fn stopped(number: u8, i: usize, at: usize) -> Walked
         count: 0,
         end: 0,
         kinds: [0; PLACES],
-        records: [none; PLACES],
+        records: [RollRecord::BLANK; PLACES],
     }
 }
 
@@ -123,8 +112,7 @@ fn walk(rest: &[u8]) -> Walked
     requires { ⌜ flagsRecordSize + length (now rest) < 2 ^ 64 ⌝ }
     ensures { λ r. ⌜ r ≡ walkOf (now (rest .entry)) ⌝ }
 {
-    let none = blank();
-    let mut records = [none; PLACES];
+    let mut records = [RollRecord::BLANK; PLACES];
     let mut kinds = [0u16; PLACES];
     let mut at: usize = 0;
     let mut i: usize = 0;
@@ -186,12 +174,11 @@ fn roll_fault(rest: &[u8], kinds: &[u16], n: usize, end: usize) -> u8
 fn refused(verdict: Verdict) -> RollReading
     ensures { λ r. ⌜ r ≡ refusedRoll verdict ⌝ }
 {
-    let none = blank();
     RollReading {
         verdict,
         flags: 0,
         count: 0,
-        records: [none; PLACES],
+        records: [RollRecord::BLANK; PLACES],
     }
 }
 

@@ -24,6 +24,7 @@ use Rattle.eif_lemmas.proofs.Head.{length-head}
 use Rattle.eif_lemmas.proofs.Flags.{length-flags}
 use Rattle.staged.specs.View.{Holds}
 use Rattle.roll_writer.specs.Write.{rollPart, rollPartSize, rollFor, sizeFor, sizeBound, sectionsRoll}
+use Rattle.octets.proofs.Logic.{choose-holds}
 
 -- ---- one section
 
@@ -38,11 +39,7 @@ module _ (held : Section → List ℕ) (x : Section) (holds : Holds held x) wher
 
 part-small : (x : Section) → x .length .0 ≤ sizeLimit → rollPartSize x ≤ recordHeadSize + sizeLimit
 unfolding rollPartSize
-part-small x h = by (bootType (x .kind))
-  where
-    by : (b : Bool) → choose b (recordHeadSize + x .length .0) 0 ≤ recordHeadSize + sizeLimit
-    by true = omega arith
-    by false = omega arith
+part-small x h = choose-holds (λ (n : ℕ). n ≤ recordHeadSize + sizeLimit) (bootType (x .kind)) _ _ (λ _. omega arith) (λ _. omega arith)
 
 module _ (x : Section) where
   module _ (e : bootType (x .kind) ≡ true) where

@@ -1,15 +1,11 @@
 -- The answer to a piece, by whether the total would pass the limit.
 -- Assumes nothing.
-use Prim.Native.Nat.{ℕ, _+_, _-_, _<_, _≤_}
-use mathlib.Core.Path.{_≡_, sym, ap, _∙_}
+use Prim.Native.Nat.{ℕ, _+_, _-_}
+use mathlib.Core.Path.{_≡_, ap}
 use mathlib.Core.List.{List}
 use mathlib.Core.Bool.{true, false}
-use mathlib.Core.Logic.{⊎-elim}
-use native.Mathlib.Omega.{arith}
-use borrow.Author.Tests.{lt-ltb, le-ltb}
 use lib.Dec.{ltb}
 use lib.ListN.{length}
-use Rattle.octets.proofs.Logic.{le-or-lt}
 use Rattle.eif.specs.Numbers.{messageTooLong}
 use Rattle.eif.specs.Answers.{refuse}
 use Rattle.eif.specs.declared.Verdict.{Verdict}
@@ -18,14 +14,6 @@ use Rattle.sha384.specs.State.{takeBytes, fillingOf, absorbed, totalLimi
 use Rattle.sha384.specs.declared.Filling.{Filling}
 use Rattle.sha384.specs.declared.State.{State}
 use Rattle.sha384.specs.declared.Updated.{Updated}
-
--- a size compared with what is left below a limit
-pub left-over : (limit total size : ℕ) → total ≤ limit → ltb (limit - total) size ≡ ltb limit (total + size)
-left-over limit total size h =
-    ⊎-elim
-    (λ (g : total + size ≤ limit). le-ltb (limit - total) size (omega arith) ∙ sym (le-ltb limit (total + size) g))
-    (λ (g : limit < total + size). lt-ltb (limit - total) size (omega arith) ∙ sym (lt-ltb limit (total + size) g))
-    (le-or-lt (total + size) limit)
 
 module _ (st : State) (s : List ℕ) where
   abbrev with : Verdict → State → Updated

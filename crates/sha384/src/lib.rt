@@ -5,10 +5,9 @@
 // sha384_laws.
 ghost use mathlib.Core.Path.{_≡_};
 ghost use Prim.Native.Nat.{_+_, _<_, _≤_};
-ghost use lib.Dec.{ltb};
 ghost use lib.ListN.{length, take};
 ghost use Rattle.sha384_block.specs.Fips.{blockSize, leastPadding, mostPadding, roundConstants, digestOf, padding, zerosFor};
-ghost use Rattle.sha384.specs.State.{noBytes, takeBytes, initialState, totalLimit, updated, digestFrom};
+ghost use Rattle.sha384.specs.State.{noBytes, takeBytes, initialState, updated, digestFrom};
 use eif::Refusal;
 use eif::Verdict;
 use sha384_block::BLOCK_SIZE;
@@ -128,16 +127,6 @@ pub fn new() -> State
     }
 }
 
-// Whether a piece of so many bytes would carry the total past the limit; the sum itself could wrap.
-fn too_long(total: u64, size: u64) -> bool
-    ensures { λ r. ⌜ r ≡ ltb totalLimit (total + size) ⌝ }
-{
-    if TOTAL_LIMIT < total {
-        return true;
-    }
-    TOTAL_LIMIT - total < size
-}
-
 // The state after a piece; or a refusal, and the state as it was.
 pub fn update(state: State, piece: &[u8]) -> Updated
     ensures { λ r. ⌜ r ≡ updated state (now (piece .entry)) ⌝ }
@@ -146,7 +135,7 @@ pub fn update(state: State, piece: &[u8]) -> Updated
     let block = state.block;
     let total = state.total;
     let size = piece.len() as u64;
-    if too_long(total, size) {
+    if octets::passes(TOTAL_LIMIT, total, size) {
         return Updated {
             verdict: Verdict::refuse(Refusal::MESSAGE_TOO_LONG, 0),
             state,

@@ -36,29 +36,22 @@ fn pattern() -> [u8; 260] {
     bytes
 }
 
-// The state after the digests of each length, each message fed whole.
-fn lengths() -> State {
-    let bytes = pattern();
-    let mut all = sha384::new();
-    let mut n: usize = 0;
-    while n <= 260 {
-        let one = sha384::finish(fed(sha384::new(), &bytes[..n]));
-        let next = fed(all, &one);
-        all = next;
-        n += 1;
+// The state after a message that is fed whole, or in two pieces.
+fn message(bytes: &[u8], in_two: bool) -> State {
+    if !in_two {
+        return fed(sha384::new(), bytes);
     }
-    all
+    let cut = bytes.len() / 3;
+    fed(fed(sha384::new(), &bytes[..cut]), &bytes[cut..])
 }
 
-// The same, each message fed in two pieces.
-fn lengths_in_pieces() -> State {
+// The state after the digests of messages of each length.
+fn lengths(in_two: bool) -> State {
     let bytes = pattern();
     let mut all = sha384::new();
     let mut n: usize = 0;
     while n <= 260 {
-        let cut = n / 3;
-        let first = fed(sha384::new(), &bytes[..cut]);
-        let one = sha384::finish(fed(first, &bytes[cut..n]));
+        let one = sha384::finish(message(&bytes[..n], in_two));
         let next = fed(all, &one);
         all = next;
         n += 1;
@@ -113,8 +106,8 @@ fn main() {
         b"896-bits",
         b"abcdefghbcdefghicdefghijdefghijkefghijklfghijklmghijklmnhijklmnoijklmnopjklmnopqklmnopqrlmnopqrsmnopqrstnopqrstu",
     );
-    show(b"lengths-0-to-260", lengths());
-    show(b"the-same-in-two-pieces", lengths_in_pieces());
+    show(b"lengths-0-to-260", lengths(false));
+    show(b"the-same-in-two-pieces", lengths(true));
     show(b"a-million-a", million());
     limit();
 }

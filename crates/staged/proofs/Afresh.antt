@@ -13,7 +13,7 @@ use Rattle.eif.specs.Table.{joinFrom}
 use Rattle.eif.specs.Numbers.{sizeLimit, placeCount}
 use Rattle.octets.specs.Logic.{choose}
 use Rattle.eif.specs.Layout.{versionOf, countOf, kindAt, sectionHeaderSize}
-use Rattle.eif.specs.Reading.{verdictOf, blankSection, sectionAt, sectionsOf, dataOf}
+use Rattle.eif.specs.Reading.{verdictOf, blankSection, sectionAt, sectionsOf, dataOf, ownData}
 use Rattle.eif.specs.Plan.{blankPlace, placeAt, plannedKind, plannedSize, plainSize, plainImage, placeOf, planOf}
 use Rattle.staged.specs.Staged.{withLength, withPlace, stagedPlan, stagedPart, stagedJoined, afresh}
 use Rattle.eif.specs.declared.Place.{Place}
@@ -27,7 +27,7 @@ use Rattle.eif_lemmas.proofs.Table.{length-filled, join-same}
 use Rattle.plain_laws.proofs.PlanRules.{types-fine-same, Planned}
 use Rattle.plain_laws.proofs.Joined.{piece-is, length-joined}
 use Rattle.plain_laws.proofs.Written.{read-kind, read-count, read-offset, read-size, read-data}
-use Rattle.plain_laws.proofs.WriteBack.{plan, piece, sound-head, kind-is, length-piece-is}
+use Rattle.plain_laws.proofs.WriteBack.{plan, sound-head, kind-is, length-own}
 use Rattle.plain_laws.proofs.Plainness.{plan-planned}
 use Rattle.staged.proofs.Accept.{count-is}
 
@@ -62,7 +62,7 @@ module _ (l : List Place) (k size : ℕ) (h : k < length l) where
 module _ (s r : List ℕ) (k : ℕ) (ok : verdictOf s ≡ Accepted) where
   -- the data of section j
   abbrev pub partAt : ℕ → List ℕ
-  partAt j = choose (eqb j k) r (piece s j)
+  partAt j = choose (eqb j k) r (ownData s j)
 
   abbrev pub partsJoined : List ℕ
   partsJoined = joinFrom partAt (countOf s) 0
@@ -95,7 +95,7 @@ module _ (s r : List ℕ) (k : ℕ) (ok : verdictOf s ≡ Accepted) where
   pub part-replaced : partAt k ≡ r
   part-replaced = simp (eq-eqb k k refl)
 
-  pub part-kept : (j : ℕ) → (j ≡ k → ⊥) → partAt j ≡ piece s j
+  pub part-kept : (j : ℕ) → (j ≡ k → ⊥) → partAt j ≡ ownData s j
   part-kept j n = simp (ne-eqb j k n)
 
   -- ---- and has the section that is replaced
@@ -116,7 +116,7 @@ module _ (s r : List ℕ) (k : ℕ) (ok : verdictOf s ≡ Accepted) where
         (λ (e : j ≡ k).
         rw e (ap length part-replaced ∙ sym (ap (λ (x : Place). x .length .0) (place-same l k (length r) in-places))))
         (λ (n : j ≡ k → ⊥).
-        ap length (part-kept j n) ∙ length-piece-is s ok j q ∙ sym (ap (λ (x : Place). x .length .0) (place-other l k (length r) in-places j n)))
+        ap length (part-kept j n) ∙ length-own s ok j q ∙ sym (ap (λ (x : Place). x .length .0) (place-other l k (length r) in-places j n)))
         (equal-or-not j k)
 
     -- ---- and the image written afresh is within the limit
@@ -144,7 +144,7 @@ module _ (s r : List ℕ) (k : ℕ) (ok : verdictOf s ≡ Accepted) where
       pub fresh-kind : (j : ℕ) → j < countOf s → kindAt freshImage j ≡ kindAt s j
       fresh-kind j q = read-kind (changedPlan (length r)) partsJoined changed-planned j q ∙ same-kind j ∙ kind-is s ok j q
 
-      pub fresh-data : (j : ℕ) → j < countOf s → dataOf freshImage (sectionAt freshImage j) ≡ partAt j
+      pub fresh-data : (j : ℕ) → j < countOf s → ownData freshImage j ≡ partAt j
       fresh-data j q =
           let p = changedPlan (length r) in
           let a = changed-planned in

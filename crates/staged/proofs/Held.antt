@@ -16,24 +16,25 @@ use Rattle.eif.specs.Numbers.{placeCount, sizeLimit}
 use Rattle.octets.specs.Logic.{choose}
 use Rattle.eif.specs.Table.{filled}
 use Rattle.eif.specs.Layout.{headerFlagsOf, countOf, kindAt}
-use Rattle.eif.specs.Reading.{verdictOf, blankSection, sectionAt, sectionsOf, readImage, dataOf}
+use Rattle.eif.specs.Reading.{verdictOf, blankSection, sectionAt, sectionsOf, readImage, dataOf, ownData}
 use Rattle.eif.specs.Plan.{plainSize}
 use Rattle.eif.specs.Roll.{Record, flagsRecord, rollOf, recordsOf, rollBytes, recordsBy}
 use Rattle.eif.specs.Stream.{streamSections, streamOf}
 use Rattle.eif.specs.declared.Section.{Section}
 use Rattle.eif.specs.declared.Stream.{Stream}
 use Rattle.eif.specs.declared.Verdict.the-variants.{Accepted}
-use Rattle.octets.proofs.Logic.{equal-or-not, le-or-lt}
+use Rattle.octets.proofs.Logic.{equal-or-not, le-or-lt, choose-holds}
 use Rattle.eif_lemmas.proofs.Table.{all-filled, length-filled}
 use Rattle.eif_lemmas.proofs.Accept.{Inside, length-data, sound-at}
 use Rattle.eif_lemmas.proofs.Reading.{reading-section}
 use Rattle.plain_laws.proofs.Written.{size-small, read-flags}
-use Rattle.plain_laws.proofs.WriteBack.{piece, sound-head}
+use Rattle.plain_laws.proofs.WriteBack.{sound-head}
 use Rattle.staged.specs.Staged.{afresh}
 use Rattle.staged.specs.View.{moved, stagedSections, heldBy, heldStart, Holds}
 use Rattle.staged.proofs.Accept.{Stages, base-flags, base-sections, base-small}
 use Rattle.staged.proofs.Afresh.{partAt, partsJoined, changedPlan, freshImage, plan-is, afresh-is, part-replaced, size-kept, changed-planned, fresh-count, fresh-kind, fresh-data}
-use Rattle.staged.proofs.Same.{same-records, same-stream, set-filled}
+use Rattle.staged.proofs.Same.{same-records, set-filled}
+use Rattle.eif_lemmas.proofs.Streams.{same-stream}
 
 -- ---- the data of a section by where it starts
 
@@ -95,11 +96,7 @@ module _ (s r : List ℕ) (k : ℕ) where
 
   -- what holds of the moved section and of the base's section i holds of section i of the view
   staged-by : (P : Section → Type 0) (i : ℕ) → P movedSection → P (sectionAt s i) → P (stagedAt i)
-  staged-by P i p q = by (eqb i k)
-    where
-      by : (b : Bool) → P (choose b movedSection (sectionAt s i))
-      by true = p
-      by false = q
+  staged-by P i p q = choose-holds P (eqb i k) movedSection (sectionAt s i) (λ _. p) (λ _. q)
 
   replaced-data : heldBy s r movedSection ≡ r
   replaced-data =
@@ -111,7 +108,7 @@ module _ (s r : List ℕ) (k : ℕ) where
     pub held-is : (i : ℕ) → i < countOf s → heldBy s r (stagedAt i) ≡ partAt s r k ok i
     held-is i h = by (eqb i k)
       where
-        by : (b : Bool) → heldBy s r (choose b movedSection (sectionAt s i)) ≡ choose b r (piece s i)
+        by : (b : Bool) → heldBy s r (choose b movedSection (sectionAt s i)) ≡ choose b r (ownData s i)
         by true = replaced-data
         by false = held-inside s r (sectionAt s i) (sound-at s ok i h .ends)
 
@@ -157,7 +154,7 @@ module _ (s r : List ℕ) (k j : ℕ) (a : Stages s (length r) k j) where
   same-kinds : (i : ℕ) → i < countOf s → stagedAt s r k i .kind ≡ sectionAt image i .kind
   same-kinds i h = kind-is s r k ok i ∙ sym (fresh-kind s r k ok (a .replaced) within i h)
 
-  same-bytes : (i : ℕ) → i < countOf s → heldBy s r (stagedAt s r k i) ≡ dataOf image (sectionAt image i)
+  same-bytes : (i : ℕ) → i < countOf s → heldBy s r (stagedAt s r k i) ≡ ownData image i
   same-bytes i h = held-is s r k ok i h ∙ sym (fresh-data s r k ok (a .replaced) within i h)
 
   fresh-sections : filled (sectionAt image) blankSection placeCount (countOf s) ≡ sectionsOf image
@@ -172,11 +169,7 @@ module _ (s r : List ℕ) (k j : ℕ) (a : Stages s (length r) k j) where
 
   pub stream-is : (stream : Stream) → joinedBy (heldBy s r) (streamSections stream stagedList) ≡ streamOf (afresh s r k) stream
   unfolding streamOf
-  stream-is stream =
-      ap (λ (l : List Section). joinedBy (heldBy s r) (streamSections stream l)) (sections-are s r k ok (a .replaced))
-      ∙ same-stream (heldBy s r) (dataOf image) stream placeCount (countOf s) (stagedAt s r k) (sectionAt image) same-kinds same-bytes
-      ∙ ap (λ (l : List Section). joinedBy (dataOf image) (streamSections stream l)) fresh-sections
-      ∙ ap (λ (t : List ℕ). streamOf t stream) (sym (afresh-is s r k ok))
+  stream-is = same-stream (heldBy s r) (dataOf (afresh s r k)) stagedList (sectionsOf (afresh s r k)) records-are
 
   -- each is as long as the list says, and no longer than an image
 

@@ -1,27 +1,24 @@
--- Section lists of the same types whose data are the same, wherever these lie: their records and their streams are the same.
+-- Section lists of the same types whose data are the same, wherever these lie: their records are the same.
 -- What a section's data is, is given by a function.
 -- Assumes nothing.
-use Prim.Native.Nat.{ℕ, zero, suc, _+_, _<_, _≤_}
+use Prim.Native.Nat.{ℕ, zero, suc, _<_, _≤_}
 use mathlib.Core.Path.{_≡_, refl, sym, ap, _∙_}
 use mathlib.Core.Bool.{Bool, true, false}
-use mathlib.Core.List.{List, _∷_, map}
+use mathlib.Core.List.{List, _∷_, map, []}
 use native.Mathlib.Omega.{arith}
 use lib.Dec.{eqb, eqb·zero-suc, eqb·suc-zero, eqb·suc-suc}
-use lib.ListN.{set}
+use lib.ListN.{set, replicate}
 use Rattle.eif_lemmas.proofs.Types.{none-kept, whole-kept}
-use Rattle.octets.specs.Lists.{joinedBy}
 use Rattle.octets.specs.Logic.{choose}
-use Rattle.octets.proofs.Lists.{joined-map}
 use Rattle.eif.specs.Table.{filled}
-use Rattle.eif.specs.Reading.{ramdiskIn, blankSection, sectionKind}
-use Rattle.eif.specs.Roll.{Record, recordFor, recordsBy}
-use Rattle.eif.specs.Stream.{keeps, kept, streamSections}
+use Rattle.eif.specs.Reading.{blankSection}
+use Rattle.eif.specs.Roll.{recordFor, recordsBy, measuredIn}
 use Rattle.eif.specs.declared.Section.{Section}
-use Rattle.eif.specs.declared.Stream.{Stream}
 use Rattle.eif.specs.declared.Stream.the-variants.{Whole}
 use Rattle.eif_lemmas.proofs.Table.{filled-same}
+use Rattle.eif.specs.Rules.{bootType}
 
--- ---- what a stream keeps, and its data
+-- ---- the records of a roll
 
 -- one section more
 one-more : (held other : Section → List ℕ) (x y : Section) (k l : List Section) → x .kind ≡ y .kind → held x ≡ other y
@@ -29,40 +26,23 @@ one-more : (held other : Section → List ℕ) (x y : Section) (k l : List Secti
 one-more held other x y k l e d rest true = λ t. record { kind = e t; bytes = d t } ∷ rest t
 one-more held other x y k l e d rest false = rest
 
--- the types and the data of what a stream keeps, after so many ramdisks
-same-kept : (held other : Section → List ℕ) (stream : Stream) (before m n : ℕ) (f g : ℕ → Section)
-    → ((j : ℕ) → j < n → f j .kind ≡ g j .kind) → ((j : ℕ) → j < n → held (f j) ≡ other (g j))
-    → map (recordFor held) (kept stream sectionKind before (filled f blankSection m n))
-    ≡ map (recordFor other) (kept stream sectionKind before (filled g blankSection m n))
-unfolding kept
-same-kept held other stream before zero n f g hk hd = refl
-same-kept held other stream before (suc m) zero f g hk hd =
-    ap (map (recordFor held)) (none-kept stream before (suc m)) ∙ sym (ap (map (recordFor other)) (none-kept stream before (suc m)))
-same-kept held other stream before (suc m) (suc n) f g hk hd =
-    let k = hk 0 (omega arith) in
-    let later : ℕ → List Section = λ q. kept stream sectionKind (before + ramdiskIn q) (filled (λ j. g (suc j)) blankSection m n) in
-    one-more held other (f 0) (g 0) (kept stream sectionKind (before + ramdiskIn (f 0 .kind)) (filled (λ j. f (suc j)) blankSection m n)) (later (f 0 .kind)) k (hd 0 (omega arith))
-    (same-kept held other stream (before + ramdiskIn (f 0 .kind)) m n (λ j. f (suc j)) (λ j. g (suc j)) (λ j h. hk (suc j) (omega arith)) (λ j h. hd (suc j) (omega arith)))
-    (keeps stream (f 0 .kind) before)
-    ∙ ap (λ (q : ℕ). map (recordFor other) (choose (keeps stream q before) (g 0 ∷ later q) (later q))) k
+none-measured : (m : ℕ) → measuredIn (replicate m blankSection) ≡ []
+none-measured m = sym (whole-kept 0 (replicate m blankSection)) ∙ none-kept Whole 0 m
 
--- the records of a roll
 pub same-records : (held other : Section → List ℕ) (m n : ℕ) (f g : ℕ → Section)
     → ((j : ℕ) → j < n → f j .kind ≡ g j .kind) → ((j : ℕ) → j < n → held (f j) ≡ other (g j))
     → recordsBy held (filled f blankSection m n) ≡ recordsBy other (filled g blankSection m n)
-same-records held other m n f g hk hd =
-    ap (map (recordFor held)) (sym (whole-kept 0 (filled f blankSection m n)))
-    ∙ same-kept held other Whole 0 m n f g hk hd ∙ ap (map (recordFor other)) (whole-kept 0 (filled g blankSection m n))
-
--- the data of a stream's sections
-pub same-stream : (held other : Section → List ℕ) (stream : Stream) (m n : ℕ) (f g : ℕ → Section)
-    → ((j : ℕ) → j < n → f j .kind ≡ g j .kind) → ((j : ℕ) → j < n → held (f j) ≡ other (g j))
-    → joinedBy held (streamSections stream (filled f blankSection m n)) ≡ joinedBy other (streamSections stream (filled g blankSection m n))
-same-stream held other stream m n f g hk hd =
-    let bytes : Record → List ℕ = λ r. r .bytes in
-    sym (joined-map bytes (recordFor held) (streamSections stream (filled f blankSection m n)))
-    ∙ ap (joinedBy bytes) (same-kept held other stream 0 m n f g hk hd)
-    ∙ joined-map bytes (recordFor other) (streamSections stream (filled g blankSection m n))
+unfolding measuredIn
+same-records held other zero n f g hk hd = refl
+same-records held other (suc m) zero f g hk hd =
+    ap (map (recordFor held)) (none-measured (suc m)) ∙ sym (ap (map (recordFor other)) (none-measured (suc m)))
+same-records held other (suc m) (suc n) f g hk hd =
+    let k = hk 0 (omega arith) in
+    let later : List Section = measuredIn (filled (λ j. g (suc j)) blankSection m n) in
+    one-more held other (f 0) (g 0) (measuredIn (filled (λ j. f (suc j)) blankSection m n)) later k (hd 0 (omega arith))
+    (same-records held other m n (λ j. f (suc j)) (λ j. g (suc j)) (λ j h. hk (suc j) (omega arith)) (λ j h. hd (suc j) (omega arith)))
+    (bootType (f 0 .kind))
+    ∙ ap (λ (q : ℕ). map (recordFor other) (choose (bootType q) (g 0 ∷ later) later)) k
 
 -- ---- a store at a used place of a table
 

@@ -87,12 +87,14 @@ module _ (s : List ℕ) (size k j : ℕ) where
         (q ∙ section-kept (readImage s .sections) k j (length s) size n)
         ∙ sym (simp (e, ne-eqb j k n))
 
--- the bytes there are what is shown
+-- the bytes there, in the replacement where the answer says 1 and else in the base, are what is shown
 pub place-shows : (s r : List ℕ) (k j : ℕ) → stagedVerdict s (length r) k j ≡ Accepted
-    → take (stagedPlace s (length r) k j .length .0) (drop (stagedPlace s (length r) k j .start) (choose (eqb j k) r s)) ≡ shownPart s r k j
+    → take (stagedPlace s (length r) k j .length .0) (drop (stagedPlace s (length r) k j .start) (choose (eqb (stagedPlace s (length r) k j .«in_replacement») 1) r s))
+    ≡ shownPart s r k j
 unfolding stagedPlace shownPart stagedPart
 place-shows s r k j e = rw e (by (sectionIn (readImage s .sections) j) (eqb j k))
   where
-    by : (x : Section) (b : Bool) → take (choose b (length r) (x .length .0)) (drop (choose b 0 (x .position .0)) (choose b r s)) ≡ choose b r (dataOf s x)
+    by : (x : Section) (b : Bool)
+        → take (choose b (length r) (x .length .0)) (drop (choose b 0 (x .position .0)) (choose (eqb (choose b 1 0) 1) r s)) ≡ choose b r (dataOf s x)
     by x true = take-length r
     by x false = refl

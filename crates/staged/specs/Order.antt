@@ -5,11 +5,11 @@ use Prim.Native.Nat.{ℕ}
 use mathlib.Core.List.{List, [], _∷_, _++_}
 use lib.Dec.{ltb, leb}
 use lib.ListN.{length}
-use Rattle.eif.specs.Numbers.{sizeLimit, imageTooLong, outputTooShort, noSuchSection}
+use Rattle.eif.specs.Numbers.{sizeLimit, imageTooLong, noSuchSection}
 use Rattle.eif.specs.Layout.{countOf}
 use Rattle.eif.specs.Plan.{plainSize}
 use Rattle.eif.specs.Roll.{rollBytes}
-use Rattle.eif.specs.Order.{Rule, rule, imageRules}
+use Rattle.eif.specs.Order.{Rule, rule, imageRules, roomRule}
 use Rattle.staged.specs.Staged.{stagedPlan, afresh}
 
 -- of a view with section k replaced by so many bytes, of which section j is shown
@@ -23,4 +23,4 @@ stagedRules s size k j =
 
 unfoldable pub stagedRollRules : List ℕ → List ℕ → ℕ → ℕ → List Rule
 stagedRollRules s r k room =
-    stagedRules s (length r) k k ++ (rule (ltb room (length (rollBytes (afresh s r k)))) outputTooShort 0 0 ∷ [])
+    stagedRules s (length r) k k ++ (roomRule room (length (rollBytes (afresh s r k))) ∷ [])

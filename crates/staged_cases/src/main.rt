@@ -3,11 +3,11 @@ use case_images::Shape;
 use case_lines::hex;
 use case_lines::labelled;
 use case_lines::say;
+use case_lines::tell;
 use case_lines::text;
 use eif::PLACES;
 use eif::Plan;
 use eif::SectionType;
-use eif::Written;
 
 // ---- the view
 
@@ -27,12 +27,6 @@ fn shown<'a>(base: &'a [u8], replacement: &'a [u8], replaced: u64, section: u64)
     labelled(b" from ", place.start);
     labelled(b" length ", place.length.0);
     text(b"\n");
-}
-
-fn rolled(written: Written) {
-    let verdict = written.verdict;
-    say(verdict);
-    labelled(b", length ", written.length);
 }
 
 // ---- the base: kernel, command line and two ramdisks
@@ -58,28 +52,19 @@ fn damaged(base: &[u8]) {
 
 // ---- the roll
 
-fn told(equal: bool) {
-    if equal {
-        text(b"equal\n");
-    } else {
-        text(b"different\n");
-    }
-}
-
 // The roll of an image, and the staged roll.
 fn both<'a>(image: &[u8], base: &'a [u8], replacement: &'a [u8], replaced: u64) {
     let mut plain = [238u8; 82];
     let first = roll_writer::write(image, &mut plain);
     text(b"the image's roll: ");
-    rolled(first);
+    case_lines::written(first);
     let mut staged = [238u8; 82];
     let second = roll_writer::write_staged(base, replacement, replaced, &mut staged);
     text(b"; the staged roll: ");
-    rolled(second);
+    case_lines::written(second);
     text(b", ");
     hex(&staged);
-    text(b", ");
-    told(check::same(&plain, &staged));
+    tell(check::same(&plain, &staged), b", equal\n", b", different\n");
 }
 
 // The plan of the image written afresh with `mended` for section 2.
@@ -105,7 +90,7 @@ fn mended(base: &[u8]) {
     let mut fresh = [0u8; 615];
     let image = eif_writer::write(plan, b"Kerna=1mendedsecond", &mut fresh);
     text(b"afresh: ");
-    rolled(image);
+    case_lines::written(image);
     text(b"\n");
     both(&fresh, base, b"mended", 2);
 }
@@ -116,7 +101,7 @@ fn small_room(base: &[u8], replaced: u64) {
     let answered = roll_writer::write_staged(base, &base[..0], replaced, &mut out);
     labelled(b"room 8, section ", replaced);
     text(b": ");
-    rolled(answered);
+    case_lines::written(answered);
     text(b", ");
     hex(&out);
     text(b"\n");

@@ -3,7 +3,6 @@
 -- Assumes nothing.
 use Prim.Native.Nat.{ℕ, _<_}
 use mathlib.Core.Path.{_≡_, refl, ap, _∙_, sym}
-use mathlib.Core.Bool.{false}
 use mathlib.Core.List.{List, []}
 use native.Mathlib.Omega.{arith}
 use borrow.Author.Tests.{lt-leb, eq-eqb}
@@ -11,15 +10,14 @@ use lib.Dec.{ltb}
 use Rattle.octets.specs.Logic.{choose}
 use Rattle.eif.specs.Numbers.{sizeLimit, imageTooLong}
 use Rattle.eif.specs.Answers.{refuse, wholeVerdict}
-use Rattle.eif.specs.Rules.{fieldFault, typeFault, missing, firstFault}
+use Rattle.eif.specs.Rules.{fieldFault, typesVerdict}
 use Rattle.eif.specs.Layout.{versionOf, countOf}
 use Rattle.eif.specs.Reading.{verdictOf, readImage}
-use Rattle.eif.specs.Plan.{plannedKind, plainSize, dataBefore, sizeFault, planFault, planVerdict, planLength}
+use Rattle.eif.specs.Plan.{plannedKind, plainSize, dataBefore, sizeFault, planVerdict, planLength}
 use Rattle.eif.specs.declared.Plan.{Plan}
 use Rattle.eif.specs.declared.Verdict.{Verdict}
 use Rattle.eif.specs.declared.Verdict.the-variants.{Accepted}
-use Rattle.octets.proofs.Logic.{choose-zero}
-use Rattle.eif_lemmas.proofs.Verdicts.{then-accepted, accepted-zero, at-choose}
+use Rattle.eif_lemmas.proofs.Verdicts.{then-accepted, at-choose}
 use Rattle.plain_laws.proofs.WriteBack.{plan}
 use Rattle.plain_laws.proofs.Plainness.{plan-accepted}
 use Rattle.staged.specs.Staged.{stagedPlan, stagedVerdict}
@@ -39,17 +37,14 @@ module _ (s : List ℕ) (size k j : ℕ) (ok : verdictOf s ≡ Accepted) (replac
 
   -- the base's own plan meets the rules on fields and types, and these do not ask for a length
   planned : planVerdict p (dataBefore (p .places) (p .count)) ≡ long (plainSize p)
-  unfolding planVerdict planFault sizeFault
+  unfolding planVerdict sizeFault
   planned =
       let a = then-accepted _ _ (plan-accepted s ok) in
       let b = then-accepted _ _ (a .1) in
-      let m = choose-zero (missing (plannedKind (plan s .places)) (versionOf s) (countOf s)) _ _ (accepted-zero _ _ _ (b .1)) in
-      let types : firstFault (typeFault (versionOf s) (plannedKind (p .places))) (countOf s) 0 ≡ Accepted =
-      ap (λ (f : ℕ → ℕ). firstFault (typeFault (versionOf s) f) (countOf s) 0) same-kinds ∙ b .0 in
-      let there : missing (plannedKind (p .places)) (versionOf s) (countOf s) ≡ false =
-      ap (λ (f : ℕ → ℕ). missing f (versionOf s) (countOf s)) same-kinds ∙ m .0 in
+      let types : typesVerdict (versionOf s) (plannedKind (p .places)) (countOf s) ≡ Accepted =
+      ap (λ (f : ℕ → ℕ). typesVerdict (versionOf s) f (countOf s)) same-kinds ∙ b .0 in
       let fields : wholeVerdict (fieldFault (p .version) (p .count)) ≡ Accepted = a .0 in
-      simp (fields, types, there, eq-eqb (dataBefore (p .places) (p .count)) _ refl) (sym (at-choose (ltb sizeLimit (plainSize p)) imageTooLong 0 0 0 refl))
+      simp (fields, types, eq-eqb (dataBefore (p .places) (p .count)) _ refl) (sym (at-choose (ltb sizeLimit (plainSize p)) imageTooLong 0 0 0 refl))
 
   module _ (shown : j < countOf s) where
     pub staged-limit : stagedVerdict s size k j ≡ planLength (stagedPlan s k size) .verdict

@@ -1,7 +1,7 @@
 -- A refusal of a staged view, and of its roll, carries the number, the index and the position of the first rule that applies.
 -- Assumes nothing.
 use Prim.Native.Nat.{ℕ}
-use mathlib.Core.Path.{_≡_, refl, sym, ap, ap₂, _∙_}
+use mathlib.Core.Path.{_≡_, refl, ap, _∙_}
 use mathlib.Core.Bool.{Bool, true, false}
 use mathlib.Core.List.{List}
 use lib.Dec.{leb}
@@ -10,15 +10,13 @@ use Rattle.staged.specs.View.{stagedPlace}
 use Rattle.eif.specs.Numbers.{noSuchSection}
 use Rattle.octets.specs.Logic.{either, choose}
 use Rattle.eif.specs.Answers.{refuse, andThen}
-use Rattle.eif.specs.Output.{roomVerdict}
 use Rattle.eif.specs.Layout.{countOf}
 use Rattle.eif.specs.Reading.{verdictOf, readImage}
-use Rattle.eif.specs.Roll.{rollBytes}
 use Rattle.eif.specs.Order.{firstThatApplies, imageRules}
 use Rattle.eif.specs.declared.Verdict.{Verdict}
 use Rattle.eif.specs.declared.Verdict.the-variants.{Accepted, Refused}
-use Rattle.eif_laws.proofs.FirstApplies.{read-first, first-append}
-use Rattle.staged.specs.Staged.{stagedPlan, afresh, viewVerdict, stagedVerdict, stagedRollVerdict, stagedRollLength}
+use Rattle.eif_laws.proofs.FirstApplies.{read-first, then-first}
+use Rattle.staged.specs.Staged.{stagedPlan, viewVerdict, stagedVerdict, stagedRollVerdict, stagedRollLength}
 use Rattle.staged.specs.Order.{stagedRules, stagedRollRules}
 use Rattle.staged.proofs.Accept.{count-is}
 
@@ -41,14 +39,11 @@ module _ (s : List ℕ) (size k j : ℕ) where
   unfolding stagedVerdict stagedRules firstThatApplies
   staged-first =
       same-count (verdictOf s) refl
-      ∙ ap₂ andThen (read-first s) (both-tests (leb (countOf s) k) (leb (countOf s) j) (refuse noSuchSection 0) _)
-      ∙ sym (first-append (imageRules s) _)
+      ∙ then-first (imageRules s) _ (read-first s) (both-tests (leb (countOf s) k) (leb (countOf s) j) (refuse noSuchSection 0) _)
 
 pub staged-roll-first : (s r : List ℕ) (k room : ℕ) → stagedRollVerdict s r k room ≡ firstThatApplies (stagedRollRules s r k room)
 unfolding stagedRollVerdict stagedRollRules firstThatApplies
-staged-roll-first s r k room =
-    ap (λ (v : Verdict). andThen v (roomVerdict room (length (rollBytes (afresh s r k))))) (staged-first s (length r) k k)
-    ∙ sym (first-append (stagedRules s (length r) k k) _)
+staged-roll-first s r k room = then-first (stagedRules s (length r) k k) _ (staged-first s (length r) k k) refl
 
 -- where a section's data lies, and how long the roll is: the same rules as of the view
 pub staged-place-first : (s : List ℕ) (size k j : ℕ) → stagedPlace s size k j .verdict ≡ firstThatApplies (stagedRules s size k j)

@@ -2,20 +2,18 @@
 -- its own data gives the base's. Of base and replacement it is assumed only that they are bytes.
 use Prim.Native.Nat.{ℕ, _<_}
 use mathlib.Core.Path.{_≡_, ap}
-use mathlib.Core.List.{List}
+use mathlib.Core.List.{List, map}
 use lib.ListN.{length}
 use Rattle.octets.specs.Bytes.{AreBytes}
 use Rattle.eif.specs.Layout.{countOf}
-use Rattle.eif.specs.Reading.{verdictOf}
+use Rattle.eif.specs.Reading.{verdictOf, ownData}
 use Rattle.eif.specs.Order.{firstThatApplies}
 use Rattle.eif.specs.declared.Stream.{Stream}
-use Rattle.eif.specs.declared.Stream.the-variants.{Whole, Boot, App}
 use Rattle.eif.specs.declared.Verdict.the-variants.{Accepted}
 use Rattle.staged.specs.Staged.{afresh, stagedVerdict}
 use Rattle.staged.specs.Order.{stagedRules}
 use Rattle.sha384_block.specs.Fips.{sha384}
-use Rattle.eif_registers.specs.Registers.{registerFrom, registerOf, imageRegisters, registersAnswer, stagedRegisters}
-use Rattle.staged_laws.specs.Afresh.{ownData}
+use Rattle.eif_registers.specs.Registers.{registerFrom, registerOf, measuredStreams, imageRegisters, registersAnswer, stagedRegisters}
 use Rattle.staged_laws.proofs.Order.{staged-first}
 use Rattle.staged_laws.proofs.Staged.{fresh-accepted, own-accepted, own-stream}
 
@@ -39,7 +37,7 @@ module _ (s : List ℕ) (k : ℕ) (ok : verdictOf s ≡ Accepted) (h : k < count
 
   own-all : imageRegisters again ≡ imageRegisters s
   unfolding imageRegisters
-  own-all = rw (own-register Whole, own-register Boot, own-register App)
+  own-all = λ u. map (λ stream. own-register stream u) measuredStreams
 
   pub own-registers : stagedRegisters s (ownData s k) k ≡ registersAnswer s
   unfolding stagedRegisters registersAnswer

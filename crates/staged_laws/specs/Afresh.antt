@@ -6,13 +6,9 @@ use mathlib.Core.List.{List}
 use lib.ListN.{length}
 use Rattle.plain_laws.specs.RoundTrip.{Writes}
 use Rattle.eif.specs.Layout.{viewOf, defaultMem, defaultCpus, versionOf, headerFlagsOf, countOf, kindAt, flagsAt}
-use Rattle.eif.specs.Reading.{sectionAt, dataOf}
 use Rattle.eif.specs.Plan.{Plain}
 use Rattle.staged.specs.Staged.{stagedPart, afresh, stagedPlan, stagedJoined}
-
--- the data of section k of an image, as its own replacement
-abbrev pub ownData : List ℕ → ℕ → List ℕ
-ownData s k = dataOf s (sectionAt s k)
+use Rattle.eif.specs.Reading.{ownData}
 
 pub record WrittenAfresh (s r : List ℕ) (k : ℕ) : Type 0 where
   -- it is what the writer writes for the base's plan with the replacement's length, and the data with the replacement
@@ -27,4 +23,4 @@ pub record WrittenAfresh (s r : List ℕ) (k : ℕ) : Type 0 where
   pub count : countOf (afresh s r k) ≡ countOf s
   pub kinds : (j : ℕ) → j < countOf s → kindAt (afresh s r k) j ≡ kindAt s j
   pub section-flags : (j : ℕ) → j < countOf s → flagsAt (afresh s r k) j ≡ flagsAt s j
-  pub parts-are : (j : ℕ) → j < countOf s → dataOf (afresh s r k) (sectionAt (afresh s r k) j) ≡ stagedPart s r k j
+  pub parts-are : (j : ℕ) → j < countOf s → ownData (afresh s r k) j ≡ stagedPart s r k j

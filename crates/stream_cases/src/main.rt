@@ -4,6 +4,7 @@ use case_images::Shape;
 use case_lines::labelled;
 use case_lines::say;
 use case_lines::text;
+use eif::Copied;
 use eif::Header;
 use eif::SectionType;
 use eif::Stream;
@@ -18,8 +19,7 @@ fn in_brackets(bytes: &[u8]) {
 }
 
 // The answer, the number of bytes copied and every byte of the output.
-fn copy(label: &[u8], image: &[u8], stream: Stream, from: u64, out: &mut [u8]) {
-    let copied = stream_reader::copy(image, stream, StreamPosition(from), out);
+fn told(label: &[u8], copied: Copied, out: &[u8]) {
     let verdict = copied.verdict;
     text(label);
     text(b": ");
@@ -28,6 +28,11 @@ fn copy(label: &[u8], image: &[u8], stream: Stream, from: u64, out: &mut [u8]) {
     text(b" ");
     in_brackets(out);
     text(b"\n");
+}
+
+fn copy(label: &[u8], image: &[u8], stream: Stream, from: u64, out: &mut [u8]) {
+    let copied = stream_reader::copy(image, stream, StreamPosition(from), out);
+    told(label, copied, out);
 }
 
 // A copy of at most four bytes.
@@ -202,23 +207,17 @@ fn from_listed(label: &[u8], image: &[u8], size: usize, from: u64) {
     let sections = eif_reader::read(image).sections;
     let list = stream_reader::sections(sections, Stream::Whole);
     let copied = stream_reader::copy_listed(&image[..size], list, StreamPosition(from), &mut out);
-    let verdict = copied.verdict;
-    text(label);
-    say(verdict);
-    labelled(b", ", copied.count);
-    text(b" ");
-    in_brackets(&out);
-    text(b"\n");
+    told(label, copied, &out);
 }
 
 fn listed(image: &[u8]) {
-    from_listed(b"from its sections at 4: ", image, 633, 4);
-    from_listed(b"at 25: ", image, 633, 25);
-    from_listed(b"at 26: ", image, 633, 26);
-    from_listed(b"at 9, the image cut at 600: ", image, 600, 9);
-    from_listed(b"at 14, the image cut at 600: ", image, 600, 14);
-    from_listed(b"at 15, the image cut at 600: ", image, 600, 15);
-    from_listed(b"at 0, no image: ", image, 0, 0);
+    from_listed(b"from its sections at 4", image, 633, 4);
+    from_listed(b"at 25", image, 633, 25);
+    from_listed(b"at 26", image, 633, 26);
+    from_listed(b"at 9, the image cut at 600", image, 600, 9);
+    from_listed(b"at 14, the image cut at 600", image, 600, 14);
+    from_listed(b"at 15, the image cut at 600", image, 600, 15);
+    from_listed(b"at 0, no image", image, 0, 0);
 }
 
 // ---- the image's own refusal comes first

@@ -1,15 +1,15 @@
 -- The sections that a stream keeps: what holds of every section holds of them, the length of their data, and numbers of them added up.
 -- Assumes nothing.
-use Prim.Native.Nat.{ℕ, _+_, _≤_}
+use Prim.Native.Nat.{ℕ, _+_, _≤_, suc}
 use mathlib.Core.Path.{_≡_, refl, sym, ap, _∙_}
 use mathlib.Core.Bool.{Bool, true, false, not}
-use mathlib.Core.List.{List, [], _∷_, _++_, map}
+use mathlib.Core.List.{List, [], _∷_, _++_}
 use native.Mathlib.Omega.{arith}
 use native.Mathlib.Nat.{add-zero, add-assoc}
 use borrow.Author.Tests.{eqb-true}
 use lib.Dec.{eqb, ltb}
 use lib.ListN.{length}
-use Rattle.octets.proofs.Logic.{not-both}
+use Rattle.octets.proofs.Logic.{not-both, choose-holds, choose-ap}
 use Rattle.octets.specs.Lists.{All, sumBy}
 use Rattle.eif.specs.Numbers.{ramdisk}
 use Rattle.octets.specs.Logic.{both, choose}
@@ -42,10 +42,6 @@ later-in kind before false e = refl
 -- ---- what is kept, element by element
 
 module _ {A : Type 0} (stream : Stream) (kindOf : A → ℕ) where
-  choose-append : (b : Bool) (x : A) (k l : List A) → choose b (x ∷ (k ++ l)) (k ++ l) ≡ choose b (x ∷ k) k ++ l
-  choose-append true x k l = refl
-  choose-append false x k l = refl
-
   -- of two lists joined
   pub kept-append : (before : ℕ) (k l : List A) → kept stream kindOf before (k ++ l) ≡ kept stream kindOf before k ++ kept stream kindOf (before + ramdisksIn kindOf k) l
   unfolding kept
@@ -55,46 +51,23 @@ module _ {A : Type 0} (stream : Stream) (kindOf : A → ℕ) where
       let rest : List A = kept stream kindOf next xs in
       let b : Bool = keeps stream (kindOf x) before in
       ap (λ (r : List A). choose b (x ∷ r) r) (kept-append next xs l)
-      ∙ choose-append b x rest (kept stream kindOf (next + ramdisksIn kindOf xs) l)
+      ∙ sym (choose-ap (λ (r : List A). r ++ kept stream kindOf (next + ramdisksIn kindOf xs) l) b (x ∷ rest) rest)
       ∙ ap (λ (n : ℕ). choose b (x ∷ rest) rest ++ kept stream kindOf n l) (add-assoc before (ramdiskIn (kindOf x)) (ramdisksIn kindOf xs))
-
-  shorter-by : (x : A) (k : List A) (n : ℕ) (b : Bool) → length k ≤ n → length (choose b (x ∷ k) k) ≤ n + 1
-  shorter-by x k n true h = omega arith
-  shorter-by x k n false h = omega arith
 
   pub kept-fits : (before : ℕ) (l : List A) → length (kept stream kindOf before l) ≤ length l
   unfolding kept
   kept-fits before [] = omega arith
   kept-fits before (x ∷ xs) =
-      let next : ℕ = before + ramdiskIn (kindOf x) in
-      let h = shorter-by x (kept stream kindOf next xs) (length xs) (keeps stream (kindOf x) before) (kept-fits next xs) in
-      omega arith
+      let h = kept-fits (before + ramdiskIn (kindOf x)) xs in
+      choose-holds (λ (l : List A). length l ≤ suc (length xs)) (keeps stream (kindOf x) before) _ _ (λ _. omega arith) (λ _. omega arith)
 
   module _ (P : A → Type 0) where
-    all-by : (x : A) (xs : List A) (b : Bool) → P x → All P xs → All P (choose b (x ∷ xs) xs)
-    unfolding All
-    all-by x xs true p a = (p, a)
-    all-by x xs false p a = a
-
     pub all-kept : (before : ℕ) (l : List A) → All P l → All P (kept stream kindOf before l)
     unfolding All kept
     all-kept before [] a = tt
     all-kept before (x ∷ xs) a =
-        let next : ℕ = before + ramdiskIn (kindOf x) in
-        all-by x (kept stream kindOf next xs) (keeps stream (kindOf x) before) (a .0) (all-kept next xs (a .1))
-
-map-by : {A B : Type 0} (f : A → B) (b : Bool) (x : A) (l : List A) (r : List B) → map f l ≡ r → map f (choose b (x ∷ l) l) ≡ choose b (f x ∷ r) r
-map-by f true x l r e = ap (λ k. f x ∷ k) e
-map-by f false x l r e = e
-
--- what is kept of what a function gives of each is that of what is kept
-pub kept-map : {A B : Type 0} (stream : Stream) (kindOf : B → ℕ) (f : A → B) (before : ℕ) (l : List A)
-    → map f (kept stream (λ x. kindOf (f x)) before l) ≡ kept stream kindOf before (map f l)
-unfolding kept
-kept-map stream kindOf f before [] = refl
-kept-map stream kindOf f before (x ∷ xs) =
-    let next : ℕ = before + ramdiskIn (kindOf (f x)) in
-    map-by f (keeps stream (kindOf (f x)) before) x (kept stream (λ y. kindOf (f y)) next xs) (kept stream kindOf next (map f xs)) (kept-map stream kindOf f next xs)
+        let rest = all-kept (before + ramdiskIn (kindOf x)) xs (a .1) in
+        choose-holds (All P) (keeps stream (kindOf x) before) _ _ (λ _. (a .0, rest)) (λ _. rest)
 
 pub all-stream : (P : Section → Type 0) (stream : Stream) (l : List Section) → All P l → All P (streamSections stream l)
 all-stream P stream l a = all-kept stream sectionKind P 0 l a

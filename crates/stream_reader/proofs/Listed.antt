@@ -114,10 +114,6 @@ joined-bound s (x ∷ xs) bound h =
     let m : suc (length xs) * bound ≡ length xs * bound + bound = suc-mul (length xs) bound in
     omega arith
 
--- what is left of data after as much of it as there is
-rest-of : (d : List ℕ) (skip passed : ℕ) → passed ≡ min skip (length d) → drop passed d ≡ drop skip d
-rest-of d skip passed e = ap (λ (k : ℕ). drop k d) e ∙ drop-min skip d
-
--- as it is lent, up to its end
+-- what is left of data after as much of it as there is, as it is lent, up to its end
 pub part-to-rest : (d : List ℕ) (skip passed : ℕ) → passed ≡ min skip (length d) → take (length d - passed) (drop passed d) ≡ drop skip d
-part-to-rest d skip passed e = part-to-end d passed ∙ rest-of d skip passed e
+part-to-rest d skip passed e = part-to-end d passed ∙ ap (λ (k : ℕ). drop k d) e ∙ drop-min skip d

@@ -2,7 +2,7 @@
 -- grammar says it; otherwise its answer is the ordinary one's, or 21. And its refusal is the first that applies in its order.
 -- Assumes nothing.
 use Prim.Native.Nat.{ℕ, zero, suc, _+_, _<_, _≤_}
-use mathlib.Core.Path.{_≡_, refl, sym, ap, ap₂, _∙_}
+use mathlib.Core.Path.{_≡_, refl, sym, ap, _∙_}
 use mathlib.Core.Bool.{Bool, true, false, not, false≢true}
 use mathlib.Core.List.{List}
 use mathlib.Core.Logic.{_⊎_, inl, inr, ⊎-elim}
@@ -17,7 +17,6 @@ use Rattle.json_machine.specs.Machine.{jsonVerdict}
 use Rattle.json_laws.proofs.Laws.{accepted-exactly-when}
 use Rattle.eif.specs.Numbers.{metadata, metadataVersion}
 use Rattle.octets.specs.Logic.{both}
-use Rattle.eif.specs.Answers.{andThen}
 use Rattle.eif.specs.Layout.{viewOf, countOf, versionOf}
 use Rattle.eif.specs.Reading.{verdictOf, sectionAt, dataOf, readingOf, readView, readImage}
 use Rattle.eif.specs.Acceptance.{MeetsRules}
@@ -29,7 +28,7 @@ use Rattle.octets.proofs.Logic.{both-true, true-or-false}
 use Rattle.eif_lemmas.proofs.Reading.{verdict-kept}
 use Rattle.eif_lemmas.proofs.Verdicts.{then-accepted, refused-not, refusal-none→, →refusal-none}
 use Rattle.eif_laws.proofs.Acceptance as acceptance
-use Rattle.eif_laws.proofs.FirstApplies.{first-append, walk-first, read-first}
+use Rattle.eif_laws.proofs.FirstApplies.{walk-first, read-first, then-first}
 use Rattle.eif.specs.Rules.{firstRefusal}
 use Rattle.strict_reader.specs.Strict.{MetadataIsJson, tellsText, notJson, refuseMetadata, metadataVerdict, strictVerdict, readStrict, metadataRules, strictRules, textVerdict}
 use Rattle.strict_laws.specs.Refused.{Refused21}
@@ -170,8 +169,7 @@ metadata-first s = walk-first (λ v. v) refl (λ v w. refl) (metadataRules s) (�
 
 pub strict-first : (s : List ℕ) → strictVerdict s ≡ firstThatApplies (strictRules s)
 unfolding strictVerdict strictRules
-strict-first s =
-    ap₂ andThen (read-first s) (sym (metadata-first s)) ∙ sym (first-append (imageRules s) (joinFrom (metadataRules s) (countOf s) 0))
+strict-first s = then-first (imageRules s) (joinFrom (metadataRules s) (countOf s) 0) (read-first s) (sym (metadata-first s))
 
 -- the reading carries that verdict
 pub strict-verdict : (s : List ℕ) → readStrict s .verdict ≡ strictVerdict s

@@ -4,6 +4,7 @@ use case_images::Shape;
 use case_images::WORKED_SIZE;
 use case_lines::labelled;
 use case_lines::say;
+use case_lines::tell;
 use case_lines::text;
 use eif::Header;
 use eif::Plan;
@@ -46,14 +47,6 @@ fn attempt(label: &[u8], asked: Plan, lent: &[u8], out: &mut [u8]) {
             labelled(b"wrote ", written.length);
         }
         Verdict::Refused(_) => say(verdict),
-    }
-}
-
-fn tell(same: bool, yes: &[u8], no: &[u8]) {
-    if same {
-        text(yes);
-    } else {
-        text(no);
     }
 }
 

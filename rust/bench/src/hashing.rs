@@ -4,7 +4,7 @@ use crate::sample::{bytes, Sample};
 use crate::scratch::Scratch;
 use crate::table::row;
 use crate::timing::{compare, times};
-use eif::{Digest, Sha384, Stream};
+use eif::{Digest, Sha384, Stream, DIGEST_LENGTH};
 use eif_twin as twin;
 use std::fs::File;
 use std::hint::black_box;
@@ -23,7 +23,7 @@ fn digest(message: &[u8]) -> Digest {
     hash.finish()
 }
 
-fn twin_digest(message: &[u8]) -> [u8; 48] {
+fn twin_digest(message: &[u8]) -> [u8; DIGEST_LENGTH] {
     let mut hash = twin::Sha384::new();
     hash.update(message).expect("a message within the limit");
     hash.finish()

@@ -74,6 +74,26 @@ pub fn encode_with(item: &Item, form: &dyn Fn(usize) -> Head) -> Vec<u8> {
     encoder.out
 }
 
+/// The bytes of an item with one head in another form, for each head and each form that is not its own, with
+/// a name that says which.
+pub fn other_forms(item: &Item) -> Vec<(String, Vec<u8>)> {
+    let shortest = encode(item);
+    let mut others = Vec::new();
+    for chosen in 0..count_heads(item) {
+        for form in Head::OTHERS {
+            let bytes = encode_with(item, &|head| match head == chosen {
+                true => form,
+                false => Head::Shortest,
+            });
+            // Some heads are that wide by themselves.
+            if bytes != shortest {
+                others.push((format!("head {chosen} {form:?}"), bytes));
+            }
+        }
+    }
+    others
+}
+
 /// How many heads an item has.
 pub fn count_heads(item: &Item) -> usize {
     match item {

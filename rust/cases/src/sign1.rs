@@ -1,10 +1,13 @@
 //! COSE_Sign1 byte strings and what reading them answers.
 
-use crate::cbor::{count_heads, encode, encode_with, numbers, Head, Item};
+use crate::cbor::{encode, numbers, other_forms, Item};
 
 /// The algorithms by their number in the COSE registry with its sign left off, and how long their
 /// signatures are: ES256, ES384, ES512.
 pub const SIGN1_ALGORITHMS: [(u64, usize); 3] = [(7, 64), (35, 96), (36, 132)];
+
+/// The length of a register's value.
+const REGISTER: usize = 48;
 
 /// What a COSE_Sign1 claims.
 #[derive(Clone, Debug, PartialEq, Eq)]
@@ -14,7 +17,7 @@ pub struct Sign1Parts {
     /// The register's index.
     pub index: u64,
     /// The register's value.
-    pub value: [u8; 48],
+    pub value: [u8; REGISTER],
     /// The signature.
     pub signature: Vec<u8>,
 }
@@ -87,7 +90,8 @@ pub fn sign1_cases() -> Vec<Sign1Case> {
     let mut cases = accepted_cases();
     for (algorithm, length) in SIGN1_ALGORITHMS {
         let good = sign1_example(algorithm, length);
-        cases.extend(head_cases(&good));
+        let others = other_forms(&good.item()).into_iter();
+        cases.extend(others.map(|(name, bytes)| refused_case(name, bytes)));
         cases.extend(length_cases(&good));
         let refused = refused_items(&good).into_iter();
         cases.extend(refused.map(|(name, item)| refused_case(name, encode(&item))));
@@ -119,7 +123,7 @@ fn accepted_cases() -> Vec<Sign1Case> {
             cases.push(accepted_case(&format!("index {index}"), parts));
         }
         for byte in [0, 23, 24, 255] {
-            let value = [byte; 48];
+            let value = [byte; REGISTER];
             let parts = Sign1Parts {
                 value,
                 ..good.clone()
@@ -136,26 +140,6 @@ fn accepted_case(name: &str, parts: Sign1Parts) -> Sign1Case {
         bytes: parts.bytes(),
         answer: Some(parts),
     }
-}
-
-/// Each head in each other form.
-fn head_cases(good: &Sign1Parts) -> Vec<Sign1Case> {
-    let item = good.item();
-    let shortest = encode(&item);
-    let mut cases = Vec::new();
-    for chosen in 0..count_heads(&item) {
-        for form in Head::OTHERS {
-            let bytes = encode_with(&item, &|head| match head == chosen {
-                true => form,
-                false => Head::Shortest,
-            });
-            // Some heads are that wide by themselves.
-            if bytes != shortest {
-                cases.push(refused_case(format!("head {chosen} {form:?}"), bytes));
-            }
-        }
-    }
-    cases
 }
 
 /// Every cut, and bytes after the end.
@@ -284,15 +268,18 @@ fn refused_indices() -> Named {
 }
 
 fn refused_values(value: &[u8]) -> Named {
-    let mut wide = vec![Item::Unsigned(1); 48];
-    wide[47] = Item::Unsigned(256);
+    let mut wide = vec![Item::Unsigned(1); REGISTER];
+    wide[REGISTER - 1] = Item::Unsigned(256);
     let longer = [value, &[7]].concat();
     vec![
         ("value as a byte string", Item::Bytes(value.to_vec())),
-        ("47 numbers", numbers(&value[..47])),
+        ("47 numbers", numbers(&value[..REGISTER - 1])),
         ("49 numbers", numbers(&longer)),
         ("a number of 256", Item::Array(wide)),
-        ("negative numbers", Item::Array(vec![Item::Negative(0); 48])),
+        (
+            "negative numbers",
+            Item::Array(vec![Item::Negative(0); REGISTER]),
+        ),
         ("no value", Item::Null),
     ]
 }

@@ -5,7 +5,7 @@ use crate::{Call, Message, Output, PlanInput, ReadingInput, Rng, Tally};
 use eif::raw::{self, Answer, Reading, RegistersAnswer, RollReading, StreamSections};
 use eif::{
     DataLength, Digest, FilePosition, Refusal, Registers, RollPosition, SectionType, Stream,
-    StreamPosition,
+    StreamPosition, DIGEST_LENGTH, REGISTERS,
 };
 use eif_cases::MAX_SECTIONS;
 use eif_twin as twin;
@@ -52,6 +52,20 @@ pub fn parts(refusal: Refusal) -> Parts {
     (refusal.number(), refusal.index(), refusal.position())
 }
 
+/// The answer of this type beside a refusal with these [`Parts`]: all else is zero.
+#[macro_export]
+macro_rules! refused {
+    ($answer:path, $parts:expr) => {{
+        let (number, index, position) = $parts;
+        $answer {
+            number,
+            index,
+            position,
+            ..Default::default()
+        }
+    }};
+}
+
 pub(crate) fn twin_parts(refusal: twin::Refusal) -> Parts {
     (refusal.number, refusal.index, refusal.position)
 }
@@ -70,12 +84,7 @@ fn twin_answer(answer: Result<u64, twin::Refusal>) -> Answer {
             length,
             ..Answer::default()
         },
-        Err((number, index, position)) => Answer {
-            number,
-            index,
-            position,
-            ..Answer::default()
-        },
+        Err(parts) => refused!(Answer, parts),
     }
 }
 
@@ -112,13 +121,10 @@ fn twin_stream(stream: Stream) -> twin::Stream {
 }
 
 /// The reading beside a refusal: all else is zero, and there is no first ramdisk.
-pub fn refused_reading((number, index, position): Parts) -> Reading {
+pub fn refused_reading(parts: Parts) -> Reading {
     Reading {
-        number,
-        index,
-        position,
         first_ramdisk: raw::NO_RAMDISK,
-        ..Reading::default()
+        ..refused!(Reading, parts)
     }
 }
 
@@ -135,7 +141,9 @@ pub(crate) fn twin_reading(answer: &Result<twin::Reading, twin::Refusal>) -> Rea
         count: reading.sections.len() as u16,
         ramdisk_mark: reading.ramdisk_mark(),
         ramdisk_count: reading.ramdisk_count() as u32,
-        first_ramdisk: reading.first_ramdisk().unwrap_or(32) as u32,
+        first_ramdisk: reading
+            .first_ramdisk()
+            .map_or(raw::NO_RAMDISK, |i| i as u32),
         architecture: reading.architecture(),
         sections: in_places(&reading.sections),
         ..Reading::default()
@@ -145,14 +153,7 @@ pub(crate) fn twin_reading(answer: &Result<twin::Reading, twin::Refusal>) -> Rea
 fn twin_roll_reading(answer: &Result<twin::Roll, twin::Refusal>) -> RollReading {
     let roll = match answer {
         Ok(roll) => roll,
-        Err(refusal) => {
-            return RollReading {
-                number: refusal.number,
-                index: refusal.index,
-                position: refusal.position,
-                ..RollReading::default()
-            }
-        }
+        Err(refusal) => return refused!(RollReading, twin_parts(*refusal)),
     };
     let mut records = [raw::RollRecord::default(); MAX_SECTIONS];
     for (to, from) in records.iter_mut().zip(&roll.records) {
@@ -171,18 +172,15 @@ fn twin_roll_reading(answer: &Result<twin::Roll, twin::Refusal>) -> RollReading 
     }
 }
 
-fn twin_registers(answer: Result<[[u8; 48]; 3], twin::Refusal>) -> RegistersAnswer {
+type TwinRegisters = Result<[[u8; DIGEST_LENGTH]; REGISTERS], twin::Refusal>;
+
+fn twin_registers(answer: TwinRegisters) -> RegistersAnswer {
     match answer.map_err(twin_parts) {
         Ok(registers) => RegistersAnswer {
             registers: registers.map(Digest),
             ..RegistersAnswer::default()
         },
-        Err((number, index, position)) => RegistersAnswer {
-            number,
-            index,
-            position,
-            ..RegistersAnswer::default()
-        },
+        Err(parts) => refused!(RegistersAnswer, parts),
     }
 }
 
@@ -267,7 +265,7 @@ pub(crate) fn compare_registers(
     what: &str,
     c: RegistersAnswer,
     rust: Result<Registers, Refusal>,
-    twin: Result<[[u8; 48]; 3], twin::Refusal>,
+    twin: TwinRegisters,
 ) -> u8 {
     same(input, what, c, twin_registers(twin));
     let expected = in_rust(c.registers, (c.number, c.index, c.position));

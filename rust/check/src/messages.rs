@@ -2,7 +2,7 @@
 
 use crate::Rng;
 use eif::raw::Sha384;
-use eif::MAX_MESSAGE_LENGTH;
+use eif::{MAX_MESSAGE_LENGTH, SHA384_BLOCK_LENGTH};
 
 /// A digest in progress and the pieces that it is fed.
 pub struct Message {
@@ -40,10 +40,10 @@ fn any_state(rng: &mut Rng) -> Sha384 {
         0 => rng.next(),
         _ => rng.hostile(near),
     };
-    let mut block: [u8; 128] = std::array::from_fn(|_| rng.next() as u8);
+    let mut block: [u8; SHA384_BLOCK_LENGTH] = std::array::from_fn(|_| rng.next() as u8);
     // A run leaves zeros behind the bytes that are there; any other state is one too.
     if rng.once_in(2) {
-        block[(total % 128) as usize..].fill(0);
+        block[(total % SHA384_BLOCK_LENGTH as u64) as usize..].fill(0);
     }
     Sha384 {
         words: std::array::from_fn(|_| rng.next()),

@@ -1,10 +1,10 @@
 //! COSE_Sign1 byte strings and claims: valid, damaged and hostile; and the library held to the twin on them.
 
 use crate::compare::{compare_c_output, compare_output, parts, same, twin_parts, Input};
-use crate::{Call, Rng, Tally};
+use crate::{refused, Call, Rng, Tally};
 use eif::raw::sign1::{self as raw, Sign1Claim, Sign1Reading};
 use eif::sign1::{Algorithm, Claim, Sign1Position};
-use eif::{DataLength, Digest};
+use eif::{DataLength, Digest, DIGEST_LENGTH};
 use eif_cases::cbor::{count_heads, encode, encode_with, numbers, Head, Item};
 use eif_cases::{Sign1Parts, SIGN1_ALGORITHMS};
 use eif_twin as twin;
@@ -31,7 +31,7 @@ fn any_number(rng: &mut Rng) -> u64 {
 }
 
 /// Values whose numbers are all narrow, all wide, or mixed.
-fn any_value(rng: &mut Rng) -> [u8; 48] {
+fn any_value(rng: &mut Rng) -> [u8; DIGEST_LENGTH] {
     let choices = rng.pick(&[&[0, 23][..], &[24, 255], &[22, 23, 24, 25], &[]]);
     std::array::from_fn(|_| match choices {
         [] => rng.next() as u8,
@@ -217,12 +217,7 @@ fn twin_reading(answer: Result<twin::Sign1, twin::Refusal>) -> Sign1Reading {
             signature_length: DataLength(sign1.length as u64),
             ..Sign1Reading::default()
         },
-        Err((number, index, position)) => Sign1Reading {
-            number,
-            index,
-            position,
-            ..Sign1Reading::default()
-        },
+        Err(parts) => refused!(Sign1Reading, parts),
     }
 }
 

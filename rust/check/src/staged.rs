@@ -3,7 +3,7 @@
 use crate::compare::{
     compare_length, compare_output, compare_registers, parts, same, twin_parts, Input,
 };
-use crate::{accepted_layout, any_image, any_image_of, Call, Rng, Tally};
+use crate::{accepted_layout, any_image, any_image_of, refused, Call, Rng, Tally};
 use eif::raw::staged::{self as raw, StagedPart};
 use eif::{staged, DataLength};
 use eif_twin as twin;
@@ -83,12 +83,7 @@ fn twin_part(answer: Result<twin::StagedPart, twin::Refusal>) -> StagedPart {
             length: DataLength(part.length),
             ..StagedPart::default()
         },
-        Err((number, index, position)) => StagedPart {
-            number,
-            index,
-            position,
-            ..StagedPart::default()
-        },
+        Err(parts) => refused!(StagedPart, parts),
     }
 }
 

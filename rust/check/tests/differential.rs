@@ -6,100 +6,56 @@ use eif::MAX_IMAGE_LENGTH;
 use eif_cases::{flags_record, put, record, zero_image, FLAGS_RECORD, RECORD_HEAD, SHORTEST};
 use eif_check::*;
 use std::io::{self, Write};
-use std::ops::Range;
 
 const SEED: u64 = 0x2024_0621;
-const IMAGES: u64 = 100_000;
-const PLANS: u64 = 60_000;
-const ROLLS: u64 = 80_000;
-const MESSAGES: u64 = 40_000;
-const READINGS: u64 = 40_000;
-const ARRIVALS: u64 = 40_000;
-const STATES: u64 = 40_000;
-const SIGN1S: u64 = 100_000;
-const CLAIMS: u64 = 40_000;
-const STAGED: u64 = 60_000;
-const TRANSFERS: u64 = 40_000;
 
 /// Writes a line that is seen also where the test passes.
 fn say(line: &str) {
     writeln!(io::stderr(), "{line}").expect("standard error takes a line");
 }
 
-fn images(seed: u64, ordinals: Range<u64>, tally: &mut Tally) {
-    for ordinal in ordinals {
-        let mut rng = Rng::of_input(seed, ordinal);
-        let image = any_image(&mut rng);
-        compare_image(&mut rng, ordinal, &image, tally);
-    }
-}
+/// Makes an input with its own generator, by its ordinal, and compares it.
+type Compare = fn(&mut Rng, u64, &mut Tally);
 
-fn plans(seed: u64, ordinals: Range<u64>, tally: &mut Tally) {
-    for ordinal in ordinals {
-        let mut rng = Rng::of_input(!seed, ordinal);
-        let plan = any_plan(&mut rng);
-        compare_plan(&mut rng, ordinal, &plan, tally);
-    }
-}
-
-fn rolls(seed: u64, ordinals: Range<u64>, tally: &mut Tally) {
-    for ordinal in ordinals {
-        let mut rng = Rng::of_input(seed.rotate_left(32), ordinal);
-        compare_roll(ordinal, &any_roll(&mut rng), tally);
-    }
-}
-
-fn messages(seed: u64, ordinals: Range<u64>, tally: &mut Tally) {
-    for ordinal in ordinals {
-        let mut rng = Rng::of_input(!seed.rotate_left(32), ordinal);
-        compare_message(ordinal, &any_message(&mut rng), tally);
-    }
-}
-
-fn readings(seed: u64, ordinals: Range<u64>, tally: &mut Tally) {
-    for ordinal in ordinals {
-        let mut rng = Rng::of_input(seed.rotate_left(16), ordinal);
-        let given = any_reading_input(&mut rng);
-        compare_reading(&mut rng, ordinal, &given, tally);
-    }
-}
-
-fn arrivals(seed: u64, ordinals: Range<u64>, tally: &mut Tally) {
-    for ordinal in ordinals {
-        let mut rng = Rng::of_input(seed.rotate_left(48), ordinal);
-        let image = any_image(&mut rng);
-        compare_arriving(&mut rng, ordinal, &image, tally);
-    }
-}
-
-fn states(seed: u64, ordinals: Range<u64>, tally: &mut Tally) {
-    for ordinal in ordinals {
-        let mut rng = Rng::of_input(!seed.rotate_left(48), ordinal);
-        compare_arriving_state(&mut rng, ordinal, tally);
-    }
-}
-
-fn sign1s(seed: u64, ordinals: Range<u64>, tally: &mut Tally) {
-    for ordinal in ordinals {
-        let mut rng = Rng::of_input(seed.rotate_left(8), ordinal);
-        compare_sign1(ordinal, &any_sign1(&mut rng), tally);
-    }
-}
-
-fn claims(seed: u64, ordinals: Range<u64>, tally: &mut Tally) {
-    for ordinal in ordinals {
-        let mut rng = Rng::of_input(!seed.rotate_left(8), ordinal);
-        let given = any_claim(&mut rng);
-        compare_claim(&mut rng, ordinal, &given, tally);
-    }
-}
-
-fn staged(seed: u64, ordinals: Range<u64>, tally: &mut Tally) {
-    for ordinal in ordinals {
-        let mut rng = Rng::of_input(seed.rotate_left(24), ordinal);
-        let given = any_staged(&mut rng);
-        compare_staged(&mut rng, ordinal, &given, tally);
-    }
+/// Of each kind of input: how many there are, their seed, and what makes and compares one.
+fn kinds(seed: u64) -> [(u64, u64, Compare); 11] {
+    [
+        (100_000, seed, |rng, ordinal, tally| {
+            let image = any_image(rng);
+            compare_image(rng, ordinal, &image, tally);
+        }),
+        (60_000, !seed, |rng, ordinal, tally| {
+            let plan = any_plan(rng);
+            compare_plan(rng, ordinal, &plan, tally);
+        }),
+        (80_000, seed.rotate_left(32), |rng, ordinal, tally| {
+            compare_roll(ordinal, &any_roll(rng), tally);
+        }),
+        (40_000, !seed.rotate_left(32), |rng, ordinal, tally| {
+            compare_message(ordinal, &any_message(rng), tally);
+        }),
+        (40_000, seed.rotate_left(16), |rng, ordinal, tally| {
+            let given = any_reading_input(rng);
+            compare_reading(rng, ordinal, &given, tally);
+        }),
+        (40_000, seed.rotate_left(48), |rng, ordinal, tally| {
+            let image = any_image(rng);
+            compare_arriving(rng, ordinal, &image, tally);
+        }),
+        (40_000, !seed.rotate_left(48), compare_arriving_state),
+        (100_000, seed.rotate_left(8), |rng, ordinal, tally| {
+            compare_sign1(ordinal, &any_sign1(rng), tally);
+        }),
+        (40_000, !seed.rotate_left(8), |rng, ordinal, tally| {
+            let given = any_claim(rng);
+            compare_claim(rng, ordinal, &given, tally);
+        }),
+        (60_000, seed.rotate_left(24), |rng, ordinal, tally| {
+            let given = any_staged(rng);
+            compare_staged(rng, ordinal, &given, tally);
+        }),
+        (40_000, seed.rotate_left(40), compare_transfer),
+    ]
 }
 
 /// Replacements with which an image would be about as long as it may be. That they are too long is found
@@ -126,13 +82,6 @@ fn long_replacements(seed: u64, tally: &mut Tally) {
             shown: rng.below(count) as u64,
         };
         compare_staged(&mut rng, ordinal, &given, tally);
-    }
-}
-
-fn transfers(seed: u64, ordinals: Range<u64>, tally: &mut Tally) {
-    for ordinal in ordinals {
-        let mut rng = Rng::of_input(seed.rotate_left(40), ordinal);
-        compare_transfer(&mut rng, ordinal, tally);
     }
 }
 
@@ -171,17 +120,11 @@ fn long_rolls(tally: &mut Tally) {
 /// One of `parts` equal shares of the inputs; the long ones are made once.
 fn run(seed: u64, times: u64, part: u64, parts: u64) -> Tally {
     let mut tally = Tally::default();
-    images(seed, share(IMAGES * times, part, parts), &mut tally);
-    plans(seed, share(PLANS * times, part, parts), &mut tally);
-    rolls(seed, share(ROLLS * times, part, parts), &mut tally);
-    messages(seed, share(MESSAGES * times, part, parts), &mut tally);
-    readings(seed, share(READINGS * times, part, parts), &mut tally);
-    arrivals(seed, share(ARRIVALS * times, part, parts), &mut tally);
-    states(seed, share(STATES * times, part, parts), &mut tally);
-    sign1s(seed, share(SIGN1S * times, part, parts), &mut tally);
-    claims(seed, share(CLAIMS * times, part, parts), &mut tally);
-    staged(seed, share(STAGED * times, part, parts), &mut tally);
-    transfers(seed, share(TRANSFERS * times, part, parts), &mut tally);
+    for (inputs, seed, compare) in kinds(seed) {
+        for ordinal in share(inputs * times, part, parts) {
+            compare(&mut Rng::of_input(seed, ordinal), ordinal, &mut tally);
+        }
+    }
     if part == 0 {
         long_images(seed, &mut tally);
         long_replacements(seed, &mut tally);

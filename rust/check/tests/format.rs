@@ -7,7 +7,7 @@ use eif_cases::{
     two_sections, worked_image, Layout, Section, ACCEPTED, CHECKSUM_AT, FLAGS_RECORD, HEADER,
     RECORD_HEAD, SECTION_HEADER, WORKED_LENGTH, WORKED_OFFSETS, WORKED_ROLL,
 };
-use eif_check::{parts, refused_reading};
+use eif_check::{parts, refused, refused_reading};
 use std::io::Read;
 
 fn worked_plan() -> Plan {
@@ -261,10 +261,7 @@ fn parts_by_name_and_by_index() {
 
 #[test]
 fn lengths_beside_a_refusal_are_zero() {
-    let refused = |number| raw::Answer {
-        number,
-        ..raw::Answer::default()
-    };
+    let refused = |number| refused!(raw::Answer, (number, 0, 0));
     let mut out = [0xaa; 53];
     let image = worked_image();
     assert_eq!(raw::roll_write(&image, &mut out), refused(14));

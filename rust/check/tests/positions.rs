@@ -4,7 +4,7 @@
 use eif::raw;
 use eif::{Arriving, DataLength, Place, Plan, Refusal, SectionType, Stream, StreamPosition};
 use eif_cases::{located_images, located_plans, located_rolls, worked_image, Answer};
-use eif_check::{parts, refused_reading};
+use eif_check::{parts, refused, refused_reading};
 
 /// Every number in the answers, once.
 fn numbers(answers: impl Iterator<Item = Answer>) -> Vec<u8> {
@@ -55,22 +55,11 @@ fn images() {
 #[test]
 fn all_else_is_zero() {
     for case in located_images() {
-        let (number, index, position) = case.answer;
         let reading = refused_reading(case.answer);
         assert_eq!(raw::read(&case.image), reading, "{}", case.name);
-        let registers = raw::RegistersAnswer {
-            number,
-            index,
-            position,
-            ..raw::RegistersAnswer::default()
-        };
+        let registers = refused!(raw::RegistersAnswer, case.answer);
         assert_eq!(raw::registers(&case.image), registers, "{}", case.name);
-        let length = raw::Answer {
-            number,
-            index,
-            position,
-            ..raw::Answer::default()
-        };
+        let length = refused!(raw::Answer, case.answer);
         assert_eq!(raw::roll_length(&case.image), length, "{}", case.name);
     }
 }
@@ -81,13 +70,7 @@ fn rolls() {
         let expected = case.answer.clone().unwrap_err();
         let answer = eif::read_roll(&case.roll).map(|_| ()).map_err(parts);
         assert_eq!(answer, Err(expected), "{}", case.name);
-        let (number, index, position) = expected;
-        let refused = raw::RollReading {
-            number,
-            index,
-            position,
-            ..raw::RollReading::default()
-        };
+        let refused = refused!(raw::RollReading, expected);
         assert_eq!(raw::roll_read(&case.roll), refused, "{}", case.name);
     }
     // 1 stands in the tests of the limits.

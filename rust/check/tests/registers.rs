@@ -1,6 +1,6 @@
 //! The registers of images: the examples, `sha384sum`, and the rule itself.
 
-use eif::{raw, Registers, Sha384, Stream};
+use eif::{raw, Registers, Sha384, Stream, DIGEST_LENGTH};
 use eif_cases::{image_cases, image_of_length, register_cases};
 use eif_check::{accepted_layout, Rng};
 use std::fs;
@@ -85,7 +85,7 @@ fn registers_are_digests_of_digests_of_streams() {
             let bytes = eif::stream_to_vec(&image, stream).unwrap();
             measured.update(&bytes).unwrap();
             let mut extended = Sha384::new();
-            extended.update(&[0; 48]).unwrap();
+            extended.update(&[0; DIGEST_LENGTH]).unwrap();
             extended.update(&measured.finish().0).unwrap();
             assert_eq!(registers.of(stream), extended.finish());
         }

@@ -3,9 +3,9 @@
 
 use eif::raw::sign1::{self as raw, Sign1Claim, Sign1Reading};
 use eif::sign1::{self, Algorithm, Sign1Position};
-use eif::{DataLength, Digest, Reason};
+use eif::{DataLength, Digest, Reason, DIGEST_LENGTH};
 use eif_cases::{sign1_cases, sign1_example, Sign1Parts, SIGN1_ALGORITHMS};
-use eif_check::{compare_sign1, Output, Tally};
+use eif_check::{compare_sign1, refused, Output, Tally};
 use std::path::Path;
 use std::process::Command;
 
@@ -30,10 +30,7 @@ fn reading_of(parts: &Sign1Parts) -> Sign1Reading {
 
 /// 28 at 0, and zeros beside it, the position too.
 fn refused() -> Sign1Reading {
-    Sign1Reading {
-        number: 28,
-        ..Sign1Reading::default()
-    }
+    refused!(Sign1Reading, (28, 0, 0))
 }
 
 /// Writes into a buffer with a byte more than is needed.
@@ -148,7 +145,7 @@ fn the_longest() {
     let parts = Sign1Parts {
         algorithm: 36,
         index: u64::MAX,
-        value: [255; 48],
+        value: [255; DIGEST_LENGTH],
         signature: vec![255; 132],
     };
     assert_eq!(parts.bytes().len(), sign1::MAX_LENGTH);

@@ -2,6 +2,9 @@
 
 use std::fmt::Write;
 
+/// The option of a subcommand that can print JSON.
+pub const FLAG: &str = "--json";
+
 /// An object, member by member.
 #[derive(Default)]
 pub struct Object(String);

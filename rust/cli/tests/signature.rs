@@ -5,6 +5,7 @@ mod common;
 use common::json::{parse, Value};
 use common::signing::{certificate, has_openssl, is_genuine, sign};
 use common::{repository, Folder};
+use eif::{DIGEST_LENGTH, REGISTERS};
 use eif_cases::cbor::{encode, numbers, signature_entry as entry, Item};
 use eif_cases::{
     hex, sign1_example, worked_image, Layout, Section, Sign1Parts, HEADER, SECTION_HEADER,
@@ -28,7 +29,7 @@ fn image(section: &[u8]) -> Vec<u8> {
 const DATA_AT: usize = HEADER + 5 * SECTION_HEADER + 10 + 5 + 9 + 9;
 
 /// The registers of such an image.
-fn registers() -> [[u8; 48]; 3] {
+fn registers() -> [[u8; DIGEST_LENGTH]; REGISTERS] {
     eif::registers(&image(&[])).unwrap().0.map(|r| r.0)
 }
 
@@ -39,7 +40,7 @@ fn section(signatures: &[&[u8]]) -> Vec<u8> {
 }
 
 /// A claim that the image's register `index` has this value, with made-up signature bytes.
-fn claim(index: u64, value: [u8; 48]) -> Sign1Parts {
+fn claim(index: u64, value: [u8; DIGEST_LENGTH]) -> Sign1Parts {
     Sign1Parts {
         index,
         value,
@@ -47,8 +48,8 @@ fn claim(index: u64, value: [u8; 48]) -> Sign1Parts {
     }
 }
 
-fn claim_lines(index: u64, claimed: &[u8; 48], computed: &[u8; 48], comparison: &str) -> String {
-    let [claimed, computed] = [claimed, computed].map(|value| hex(value));
+fn claim_lines(index: u64, claimed: &[u8], computed: &[u8], comparison: &str) -> String {
+    let [claimed, computed] = [claimed, computed].map(hex);
     format!(
         "    claimed   PCR{index} {claimed}\n    computed  PCR{index} {computed}\n    \
          {comparison}, not verified\n"
@@ -74,8 +75,8 @@ fn a_claim_that_differs() {
     let folder = Folder::new();
     let [value, other, _] = registers();
     let mut near = value;
-    near[47] ^= 1;
-    for claimed in [near, other, [0; 48]] {
+    near[DIGEST_LENGTH - 1] ^= 1;
+    for claimed in [near, other, [0; DIGEST_LENGTH]] {
         let parts = claim(0, claimed);
         folder.put("image", image(&section(&[&parts.bytes()])));
         let lines = claim_lines(0, &claimed, &value, "differs");

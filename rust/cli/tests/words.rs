@@ -56,60 +56,43 @@ fn macro_name(reason: Reason) -> String {
     name
 }
 
+/// One of the header's enums has these names with these numbers, and a function gives them these words, in
+/// this order and no others.
+#[track_caller]
+fn header_has(name: &str, function: &str, rows: &[(String, u16, &str)]) {
+    let header = repository_text("include/eif.h");
+    let numbers = rows.iter().map(|(name, number, _)| (&name[..], *number));
+    assert_eq!(enumerators(&header, name), numbers.collect::<Vec<_>>());
+    let words = rows.iter().map(|(name, _, words)| (&name[..], *words));
+    assert_eq!(cases(&header, function), words.collect::<Vec<_>>());
+}
+
 #[test]
 fn the_header_has_the_same_numbers_and_words() {
-    let header = repository_text("include/eif.h");
-    let numbers = enumerators(&header, "eif_number");
-    let words = cases(&header, "eif_meaning");
-    assert_eq!(
-        (numbers[0], words[0]),
-        (("EIF_ACCEPTED", 0), ("EIF_ACCEPTED", "accepted"))
-    );
-    let names: Vec<String> = Reason::ALL
-        .iter()
-        .map(|&reason| macro_name(reason))
-        .collect();
-    let reasons = || names.iter().map(|name| &name[..]).zip(Reason::ALL);
-    let expected: Vec<_> = reasons().map(|(name, &r)| (name, r as u16)).collect();
-    assert_eq!(numbers[1..], expected);
-    let expected: Vec<_> = reasons().map(|(name, r)| (name, r.meaning())).collect();
-    assert_eq!(words[1..], expected);
+    let mut rows = vec![("EIF_ACCEPTED".to_string(), 0, "accepted")];
+    let reasons = Reason::ALL.iter();
+    rows.extend(reasons.map(|&reason| (macro_name(reason), reason as u16, reason.meaning())));
+    header_has("eif_number", "eif_meaning", &rows);
 }
 
 #[test]
 fn the_header_has_the_same_section_types() {
-    let header = repository_text("include/eif.h");
-    let numbers = enumerators(&header, "eif_section_type");
-    let words = cases(&header, "eif_section_name");
-    let named = |kind: SectionType| kind.name().expect("a name");
-    let name = |kind| format!("EIF_{}", named(kind).replace(' ', "_").to_uppercase());
-    let names = SectionType::ALL.map(name);
-    let types = || names.iter().map(|name| &name[..]).zip(SectionType::ALL);
-    assert_eq!(
-        numbers,
-        types()
-            .map(|(name, kind)| (name, kind.0))
-            .collect::<Vec<_>>()
-    );
-    assert_eq!(
-        words,
-        types()
-            .map(|(name, kind)| (name, named(kind)))
-            .collect::<Vec<_>>()
-    );
+    let rows = SectionType::ALL.map(|kind| {
+        let name = kind.name().expect("a name");
+        let macro_name = format!("EIF_{}", name.replace(' ', "_").to_uppercase());
+        (macro_name, kind.0, name)
+    });
+    header_has("eif_section_type", "eif_section_name", &rows);
 }
 
 #[test]
 fn the_header_has_the_same_architectures() {
-    let header = repository_text("include/eif.h");
-    let numbers = enumerators(&header, "eif_architecture");
-    let words = cases(&header, "eif_architecture_name");
-    let names = Architecture::ALL.map(|a| format!("EIF_{}", a.name().to_uppercase()));
-    let all = || names.iter().map(|name| &name[..]).zip(Architecture::ALL);
-    let expected: Vec<_> = all().map(|(name, a)| (name, a.flags())).collect();
-    assert_eq!(numbers, expected);
-    let expected: Vec<_> = all().map(|(name, a)| (name, a.name())).collect();
-    assert_eq!(words, expected);
+    let rows = Architecture::ALL.map(|architecture| {
+        let name = architecture.name();
+        let macro_name = format!("EIF_{}", name.to_uppercase());
+        (macro_name, architecture.flags(), name)
+    });
+    header_has("eif_architecture", "eif_architecture_name", &rows);
 }
 
 #[test]
@@ -126,6 +109,7 @@ fn the_header_has_the_same_limits() {
         ("EIF_REGISTERS", eif::REGISTERS),
         ("EIF_MAX_JSON_DEPTH", eif::json::MAX_DEPTH),
         ("EIF_DIGEST_LENGTH", eif::DIGEST_LENGTH),
+        ("EIF_SHA384_BLOCK_LENGTH", eif::SHA384_BLOCK_LENGTH),
         ("EIF_MAX_SIGN1_LENGTH", eif::sign1::MAX_LENGTH),
         ("EIF_PIECE_LENGTH", eif::assembler::PIECE_LENGTH),
         (

@@ -1,5 +1,6 @@
 //! Checking an image while it arrives.
 
+use crate::state::over_state;
 use crate::{raw, Reading, Refusal};
 use std::io;
 
@@ -79,11 +80,7 @@ impl Arriving {
     }
 }
 
-impl Default for Arriving {
-    fn default() -> Self {
-        Self::new()
-    }
-}
+over_state!(Arriving, raw::Arriving);
 
 /// What is written is fed. After the end is told nothing is taken, so that nothing more can be written.
 impl io::Write for Arriving {
@@ -93,19 +90,5 @@ impl io::Write for Arriving {
 
     fn flush(&mut self) -> io::Result<()> {
         Ok(())
-    }
-}
-
-/// Any state can be gone on from.
-impl From<raw::Arriving> for Arriving {
-    fn from(state: raw::Arriving) -> Self {
-        Arriving(state)
-    }
-}
-
-/// The state, to be kept and gone on from later.
-impl From<Arriving> for raw::Arriving {
-    fn from(arriving: Arriving) -> Self {
-        arriving.0
     }
 }

@@ -34,6 +34,7 @@
 //! its checksum tells of damage that the records do not show.
 
 use crate::raw::assembler as raw;
+use crate::state::over_state;
 use crate::{Refusal, RECORD_HEAD_LENGTH};
 
 /// The bytes of every piece but the last.
@@ -97,25 +98,7 @@ impl Assembler {
     }
 }
 
-impl Default for Assembler {
-    fn default() -> Self {
-        Self::new()
-    }
-}
-
-/// Any state can be gone on from.
-impl From<raw::State> for Assembler {
-    fn from(state: raw::State) -> Self {
-        Assembler(state)
-    }
-}
-
-/// The state, to be kept and gone on from later.
-impl From<Assembler> for raw::State {
-    fn from(assembler: Assembler) -> Self {
-        assembler.0
-    }
-}
+over_state!(Assembler, raw::State);
 
 /// How many pieces an image of this length has, and so how many marks.
 pub fn pieces(image_length: usize) -> usize {

@@ -100,6 +100,7 @@ mod roll;
 mod sha384;
 pub mod sign1;
 pub mod staged;
+mod state;
 mod stream;
 
 pub use arriving::Arriving;
@@ -137,6 +138,9 @@ pub const FLAGS_RECORD_LENGTH: usize = RECORD_HEAD_LENGTH + 2;
 
 /// The length of a SHA-384 digest, and of a register.
 pub const DIGEST_LENGTH: usize = 48;
+
+/// The length of a SHA-384 block.
+pub const SHA384_BLOCK_LENGTH: usize = 128;
 
 /// The most bytes that one SHA-384 digest is of.
 pub const MAX_MESSAGE_LENGTH: u64 = (1 << 61) - 1;

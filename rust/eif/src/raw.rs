@@ -7,6 +7,7 @@
 use crate::{
     DataLength, Digest, FilePosition, Place, RollPosition, SectionType, Stream, StreamPosition,
     DIGEST_LENGTH, HEADER_LENGTH, MAX_SECTIONS, REGISTERS, SECTION_HEADER_LENGTH,
+    SHA384_BLOCK_LENGTH,
 };
 use std::mem::{align_of, offset_of, size_of};
 
@@ -172,7 +173,7 @@ pub struct Sha384 {
     /// The hash value after the whole blocks.
     pub words: [u64; 8],
     /// The bytes of the block that is being filled, the others 0.
-    pub block: [u8; 128],
+    pub block: [u8; SHA384_BLOCK_LENGTH],
     /// How many bytes were taken in all.
     pub total: u64,
 }
@@ -265,7 +266,7 @@ const _: () = {
     assert!(offset_of!(RollReading, flags) == 2 && offset_of!(RollReading, records) == 32);
     assert!(size_of::<StreamSections>() == 8 + MAX_SECTIONS * 24);
     assert!(align_of::<StreamSections>() == 8 && offset_of!(StreamSections, sections) == 8);
-    assert!(size_of::<Sha384>() == 8 * 8 + 128 + 8);
+    assert!(size_of::<Sha384>() == 8 * 8 + SHA384_BLOCK_LENGTH + 8);
     assert!(offset_of!(Sha384, block) == 64 && offset_of!(Sha384, total) == 192);
     assert!(size_of::<Sha384Fed>() == 1 + 7 + 8 + 8 + size_of::<Sha384>());
     assert!(offset_of!(Sha384Fed, state) == 24);

@@ -1,5 +1,6 @@
 //! SHA-384.
 
+use crate::state::over_state;
 use crate::{raw, Refusal, DIGEST_LENGTH};
 use std::fmt;
 
@@ -68,22 +69,4 @@ impl Sha384 {
     }
 }
 
-impl Default for Sha384 {
-    fn default() -> Self {
-        Self::new()
-    }
-}
-
-/// Any state can be gone on from.
-impl From<raw::Sha384> for Sha384 {
-    fn from(state: raw::Sha384) -> Self {
-        Sha384(state)
-    }
-}
-
-/// The state, to be kept and gone on from later.
-impl From<Sha384> for raw::Sha384 {
-    fn from(hash: Sha384) -> Self {
-        hash.0
-    }
-}
+over_state!(Sha384, raw::Sha384);

@@ -13,7 +13,7 @@
 //! let claim = Claim {
 //!     algorithm: Algorithm::Es384,
 //!     register_index: 0,
-//!     register_value: eif::Digest([7; 48]),
+//!     register_value: eif::Digest([7; eif::DIGEST_LENGTH]),
 //! };
 //! let mut bytes = [0; sign1::MAX_LENGTH];
 //! let length = sign1::write(&claim, &[1; 96], &mut bytes)?;

@@ -8,17 +8,16 @@ use Rattle.arriving.proofs.kept_from.Tie as tie
 
 returns : tie.Need-returns
 unfolding keptFrom
-returns c = omega (arith, c .before .be64 .ensures)
+returns c = omega (arith, c .before .offset-at .ensures)
 
 returns-2 : tie.Need-returns-2
 unfolding keptFrom
-returns-2 c = omega (arith, c .before .be64 .ensures)
+returns-2 c = omega (arith, c .before .offset-at .ensures)
 
 pub kept-from-spec : {M : Type 1} → statement M
 kept-from-spec =
     tie.close
     (tie.spec
-    (λ c. omega arith)
     (λ c. omega arith)
     (λ c κs. search needs)
     returns

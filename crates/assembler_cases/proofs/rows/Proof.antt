@@ -8,11 +8,11 @@ use Rattle.assembler_cases.proofs.rows.Statement.{statement}
 use Rattle.assembler_cases.proofs.rows.Tie as tie
 
 abbrev Inv-loop : tie.InvT-loop
-Inv-loop first end image₀ marks₀ sendings state₀ i₀ image marks state i =
+Inv-loop first end image₀ marks₀ sendings bound state₀ i₀ image marks state i =
     (length image ≡ length image₀) × (length marks ≡ length marks₀)
 
 abbrev μ-loop : tie.MeasureT-loop
-μ-loop first end image₀ marks₀ sendings state₀ i₀ image marks state i = end - i
+μ-loop first end image₀ marks₀ sendings bound state₀ i₀ image marks state i = bound - i
 
 pub rows-spec : {M : Type 1} → statement M
 rows-spec =
@@ -20,6 +20,7 @@ rows-spec =
     (tie.spec
     Inv-loop
     μ-loop
+    (λ c κs. search needs)
     (λ c κs. search needs)
     (λ c. (refl, refl))
     (λ c. omega arith)

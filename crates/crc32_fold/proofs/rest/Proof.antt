@@ -4,6 +4,7 @@ use Prim.Native.Nat.{_+_, _-_, _^_, _<_, _≤_}
 use mathlib.Core.Path.{_≡_, refl, sym, ap, _∙_}
 use lib.ListN.{length}
 use Rattle.crc32_lemmas.specs.Fold.{remainderFrom}
+use Rattle.crc32_lemmas.specs.Sizes.{carrySize}
 use Rattle.crc32_fold.specs.Carried.{carried}
 use Rattle.crc32_fold.proofs.Carried.{bits-turn}
 use borrow.Author.Needs.{needs}
@@ -12,7 +13,7 @@ use Rattle.crc32_fold.proofs.rest.Statement.{statement}
 use Rattle.crc32_fold.proofs.rest.Tie as tie
 
 abbrev Inv-loop : tie.InvT-loop
-Inv-loop s from n₀ i₀ n i = (i + 40 ≤ length s) × (remainderFrom s i (carried n) ≡ remainderFrom s from (carried n₀)) × (n .a < 2 ^ 64)
+Inv-loop s from n₀ i₀ n i = (i + carrySize ≤ length s) × (remainderFrom s i (carried n) ≡ remainderFrom s from (carried n₀)) × (n .a < 2 ^ 64)
 
 abbrev μ-loop : tie.MeasureT-loop
 μ-loop s from n₀ i₀ n i = length s - i

@@ -3,9 +3,9 @@
 use Prim.Native.Nat.{ℕ, _-_}
 use mathlib.Core.Path.{sym, ap, _∙_}
 use native.Mathlib.Omega.{arith}
-use lib.ListN.{length, take, drop, length-take, length-drop, take-append-drop}
-use lib.Seq.{take-all}
+use lib.ListN.{length, take, drop, length-take, take-append-drop}
 use borrow.Author.Needs.{needs}
+use borrow.Rule.Slice.PartAt.{part-to-end}
 use Rattle.crc32.specs.Crc.{crcFrom}
 use Rattle.crc32.proofs.Linear.{crcFrom-append}
 use Rattle.crc32_fold.proofs.update.Statement.{statement}
@@ -24,7 +24,7 @@ returns-4 c =
     let h : ℕ = 640 in
     c .longer2 .ensures
     ∙ ap (λ (x : ℕ). crcFrom x (take (length s - h) (drop h s))) (c .before .before .long2 .ensures)
-    ∙ ap (crcFrom (crcFrom (a .state) (take h s))) (take-all (length s - h) (drop h s) (simp length-drop (omega arith)))
+    ∙ ap (crcFrom (crcFrom (a .state) (take h s))) (part-to-end s h)
     ∙ sym (crcFrom-append (a .state) (take h s) (drop h s))
     ∙ ap (crcFrom (a .state)) (take-append-drop h s)
 

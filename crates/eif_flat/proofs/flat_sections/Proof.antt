@@ -19,19 +19,19 @@ abbrev μ-loop : tie.MeasureT-loop
 
 loop-holds : tie.Need-loop-holds Inv-loop μ-loop
 loop-holds c =
-    let size : length (c .args .t1) ≡ placeCount = search needs in
+    let size : length (c .before .args .t1) ≡ placeCount = search needs in
     (omega arith, record { sizes = sym size; so-far = refl })
 
 loop-again : tie.Need-loop-again Inv-loop μ-loop
 loop-again c =
-    let l = c .before .before .before .before .args .t1 in
+    let l = c .before .before .before .before .before .args .t1 in
     let o = c .before .before .before .loop in
     let size : length l ≡ placeCount = search needs in
-    (omega arith, mapped-next flatSection l (o .flat) (o .i) blankSection (c .flat-section .result) (omega arith) (c .flat-section .ensures) (o .inv .1))
+    (omega arith, mapped-next flatSection l (o .flat) (o .i) blankSection (c .flat-section2 .result) (omega arith) (c .flat-section2 .ensures) (o .inv .1))
 
 returns : tie.Need-returns Inv-loop μ-loop
 returns c =
-    let l = c .before .before .args .t1 in
+    let l = c .before .before .before .args .t1 in
     let size : length l ≡ placeCount = search needs in
     mapped-all flatSection l (c .before .loop .flat) (c .before .loop .i) (omega arith) (c .before .loop .inv .1)
 
@@ -41,6 +41,7 @@ flat-sections-spec =
     (tie.spec
     Inv-loop
     μ-loop
+    (λ c κs. search needs)
     loop-holds
     (λ c. omega arith)
     (λ c. omega arith)

@@ -17,8 +17,8 @@ use Rattle.eif_judge.proofs.mark.Tie as tie
 twice : (k : ℕ) {m : ℕ} → m < 2 ^ k → m * 2 + 1 < 2 ^ suc k
 twice k h = rw pow-suc (omega arith)
 
-doubled : (k : ℕ) {m : ℕ} → m < 2 ^ k → k < 32 → m * 2 + 1 < 2 ^ 32
-doubled k h g = lt-of-lt-of-le (twice k h) (pow-le-pow-right {n = 2} (lit< tt) {i = suc k} {j = 32} g)
+doubled : (k : ℕ) {m : ℕ} → m < 2 ^ k → k < placeCount → m * 2 + 1 < 2 ^ placeCount
+doubled k h g = lt-of-lt-of-le (twice k h) (pow-le-pow-right {n = 2} (lit< tt) {i = suc k} {j = placeCount} g)
 
 abbrev Inv-loop : tie.InvT-loop
 Inv-loop used sections m₀ j₀ m j = (j ≤ placeCount) × (m < 2 ^ (placeCount - j)) × (m ≡ markOf (drop j sections))

@@ -85,9 +85,12 @@ position-spec =
     returns-2
     returns-3
     returns-4
+    (λ c. search needs)
     (λ c κs. search needs)
     returns-5
+    (λ c. search needs)
     (λ c κs. search needs)
     returns-6
+    (λ c. search needs)
     (λ c κs. search needs)
     returns-7)

@@ -30,10 +30,10 @@ loop-again c =
     let u = c .before .before .before .before in
     let s = u .before .before .before .args .image .now in
     let few : u .used .result ≤ placeCount = rw (u .used .ensures) (omega arith) in
-    let offset = c .before .be64 .ensures in
+    let offset = c .before .offset-at .ensures in
     ⊎-elim
     (λ w.
-    let n : c .before .be64 .result + sectionHeaderSize - c .before .be64 .result ≡ sectionHeaderSize = omega arith in
+    let n : c .before .offset-at .result + sectionHeaderSize - c .before .offset-at .result ≡ sectionHeaderSize = omega arith in
     let e : c .if2 .headers ≡ over (l .headers) (sectionHeaderSize * l .i) (take sectionHeaderSize (drop (offsetAt s (l .i)) s)) =
     w .5 ∙ w .3 .ensures ∙ ap₂ (λ (m at : ℕ). over (l .headers) (sectionHeaderSize * l .i) (take m (drop at s))) n offset in
     (omega arith, ap length e ∙ length-over _ _ _ ∙ l .inv .1, gathered-next s (l .headers) (c .if2 .headers) (l .i) (l .inv .1) (omega (arith, few)) (l .inv .2) (omega (arith, w .0)) e))
@@ -55,7 +55,6 @@ gather-spec =
     (λ c. omega arith)
     (λ c κs. search needs)
     (λ c. (omega arith, refl, λ i h l. absurd (omega arith)))
-    (λ c. let e = c .before .before .used .ensures in omega arith)
     (λ c. let e = c .before .before .used .ensures in omega arith)
     (λ c κs. search needs)
     (λ c. search needs)

@@ -6,13 +6,13 @@ use mathlib.Core.List.{List}
 use denote.Ref.{now}
 use lib.ListN.{length}
 use Rattle.eif.specs.declared.Verdict.{Verdict}
-use Rattle.staged.specs.Staged.{stagedVerdict}
+use Rattle.staged.specs.Staged.{stagedVerdict, afresh}
 use Rattle.staged.specs.View.{heldBy}
 use Rattle.staged.proofs.Accept.{staged→}
 use Rattle.staged_view.proofs.View.{view-verdict, view-sections}
-use Rattle.eif_registers.specs.Registers.{imageRegisters, noRegisters, registersFor, stepRegisters}
-use Rattle.eif_registers.proofs.Answers.{three}
-use Rattle.eif_registers.proofs.Staged.{staged-registers, staged-refused, staged-accepted}
+use Rattle.eif_registers.specs.Registers.{imageRegisters, noRegisters, registersFor, stagedRegisters, stepRegisters}
+use Rattle.eif_registers.proofs.Answers.{three, beside-refused, beside-accepted}
+use Rattle.eif_registers.proofs.Staged.{staged-registers}
 use borrow.Author.Needs.{needs}
 use Rattle.eif_registers.proofs.registers_staged.Statement.{statement}
 use Rattle.eif_registers.proofs.registers_staged.Tie as tie
@@ -32,14 +32,15 @@ module _ (c : tie.After-judge) where
   verdict-is = view-verdict base (length given) k k (c .judge .result) (c .judge .ensures)
 
 returns : tie.Need-returns
+unfolding stagedRegisters
 returns c =
     let w = c .before .before .before in
     let t = c .before .enum-told2 .given in
     c .refused .ensures ∙ ap (λ (v : Verdict). registersFor v noRegisters) (t .1)
-    ∙ staged-refused (base w) (given w) (k w) (t .0 .0) (sym (verdict-is w) ∙ t .1)
+    ∙ beside-refused (stagedVerdict (base w) (length (given w)) (k w) (k w)) (afresh (base w) (given w) (k w)) (t .0 .0) (sym (verdict-is w) ∙ t .1)
 
 returns-2 : tie.Need-returns-2
-unfolding imageRegisters
+unfolding imageRegisters stagedRegisters
 returns-2 c =
     let w = c .before .before .before .before .before in
     let t = c .before .before .before .enum-told .given .1 in
@@ -49,7 +50,7 @@ returns-2 c =
     let listed = view-sections s (length r) (k w) (k w) (w .judge .result) (w .judge .ensures) t in
     c .measured .ensures
     ∙ ap three (c .before .step-over .ensures ∙ ap (stepRegisters (heldBy s r)) listed ∙ staged-registers s r (k w) (staged→ s (length r) (k w) (k w) ok))
-    ∙ staged-accepted s r (k w) ok
+    ∙ beside-accepted (stagedVerdict s (length r) (k w) (k w)) (afresh s r (k w)) ok
 
 pub registers-staged-spec : {M : Type 1} → statement M
 registers-staged-spec =

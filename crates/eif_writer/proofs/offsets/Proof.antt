@@ -7,7 +7,7 @@ use native.Mathlib.Omega.{arith}
 use native.Mathlib.Numerals.{add-one}
 use lib.ListN.{set}
 use Rattle.eif.specs.Numbers.{placeCount}
-use Rattle.eif.specs.Plan.{packedAt, offsetsOf, plannedSize}
+use Rattle.eif.specs.Plan.{packedAt, tableOf, plannedSize}
 use Rattle.eif_lemmas.proofs.Table.{filled-more}
 use Rattle.plain_laws.proofs.Shape.{packed-suc, packed-zero}
 use Rattle.eif_writer.proofs.Pieces.{ends-inside}
@@ -15,7 +15,7 @@ use Rattle.eif_writer.proofs.offsets.Statement.{statement}
 use Rattle.eif_writer.proofs.offsets.Tie as tie
 
 abbrev Inv-loop : tie.InvT-loop
-Inv-loop count places table₀ at₀ i₀ table at i = (i ≤ count) × (at ≡ packedAt places i) × (table ≡ offsetsOf places i)
+Inv-loop count places table₀ at₀ i₀ table at i = (i ≤ count) × (at ≡ packedAt places i) × (table ≡ tableOf (packedAt places) i)
 
 abbrev μ-loop : tie.MeasureT-loop
 μ-loop count places table₀ at₀ i₀ table at i = count - i
@@ -48,7 +48,7 @@ returns : tie.Need-returns Inv-loop μ-loop
 returns c =
     let a = c .before .before .args in
     let z : c .before .loop .i ≡ a .count = omega arith in
-    c .before .loop .inv .2 ∙ ap (offsetsOf (a .t1)) z
+    c .before .loop .inv .2 ∙ ap (tableOf (packedAt (a .t1))) z
 
 pub offsets-spec : {M : Type 1} → statement M
 offsets-spec =

@@ -9,10 +9,12 @@ use Rattle.octets.specs.Bytes.{beBytesEach}
 use Rattle.octets.specs.Over.{over}
 use Rattle.eif.specs.Layout.{offsetsAt, sizesAt, entrySize}
 use Rattle.eif_writer.proofs.Image.{header-over}
+use Rattle.eif.specs.Plan.{tableBytes}
 use Rattle.eif_writer.proofs.put_header.Statement.{statement}
 use Rattle.eif_writer.proofs.put_header.Tie as tie
 
 returns : tie.Need-returns
+unfolding tableBytes
 returns c =
     let z = c .before .before in
     let y = z .before .before .before .before in

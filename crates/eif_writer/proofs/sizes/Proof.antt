@@ -6,13 +6,13 @@ use native.Mathlib.Omega.{arith}
 use native.Mathlib.Numerals.{add-one}
 use lib.ListN.{set}
 use Rattle.eif.specs.Numbers.{placeCount}
-use Rattle.eif.specs.Plan.{plannedSize, sizesOf}
+use Rattle.eif.specs.Plan.{plannedSize, tableOf}
 use Rattle.eif_lemmas.proofs.Table.{filled-more}
 use Rattle.eif_writer.proofs.sizes.Statement.{statement}
 use Rattle.eif_writer.proofs.sizes.Tie as tie
 
 abbrev Inv-loop : tie.InvT-loop
-Inv-loop count places table₀ i₀ table i = (i ≤ count) × (table ≡ sizesOf places i)
+Inv-loop count places table₀ i₀ table i = (i ≤ count) × (table ≡ tableOf (plannedSize places) i)
 
 abbrev μ-loop : tie.MeasureT-loop
 μ-loop count places table₀ i₀ table i = count - i
@@ -30,7 +30,7 @@ returns : tie.Need-returns Inv-loop μ-loop
 returns c =
     let a = c .before .before .args in
     let z : c .before .loop .i ≡ a .count = omega arith in
-    c .before .loop .inv .1 ∙ ap (sizesOf (a .t1)) z
+    c .before .loop .inv .1 ∙ ap (tableOf (plannedSize (a .t1))) z
 
 pub sizes-spec : {M : Type 1} → statement M
 sizes-spec =

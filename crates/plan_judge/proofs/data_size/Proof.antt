@@ -25,7 +25,7 @@ module _ (c : tie.Else1) where
   some z = c .if1 .left (c .before .image-size .ensures ∙ z)
 
   parts : c .before .image-size .result ≡ dataBefore (plan .places) (plan .count) + sectionHeaderSize * plan .count + headerSize
-  parts = let s = c .before .image-size in size-parts plan 0 (s .result) (size-few plan some) (s .ensures) (c .if1 .left)
+  parts = let s = c .before .image-size in size-parts plan (s .result) (size-few plan some) (s .ensures) (c .if1 .left)
 
 sub-result : tie.Need-sub-result
 sub-result c = let e = parts c in omega arith

@@ -8,13 +8,13 @@ use borrow.Author.Needs.{needs}
 use lib.ListN.{length, take, length-take}
 use Rattle.eif.specs.Numbers.{placeCount}
 use Rattle.eif.specs.Answers.{refuse}
-use Rattle.eif.specs.Rules.{fieldFault}
+use Rattle.eif.specs.Rules.{fieldFault, typesVerdict}
 use Rattle.eif.specs.Plan.{plannedKind}
 use Rattle.eif.specs.declared.Plan.{Plan}
 use Rattle.eif_lemmas.proofs.Fields.{fields}
 use Rattle.eif_lemmas.proofs.Table.{length-filled}
 use Rattle.type_judge.specs.Kinds.{listedKind}
-use Rattle.plan_judge.specs.Types.{kindsOf, typesVerdict}
+use Rattle.plan_judge.specs.Types.{kindsOf}
 use Rattle.plan_judge.proofs.Types.{types-lent}
 use Rattle.plan_judge.proofs.Verdict.{by-fields, by-types, by-sizes, by-none}
 use Rattle.plan_judge.proofs.judge.Statement.{statement}

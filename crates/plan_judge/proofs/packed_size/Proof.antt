@@ -1,10 +1,12 @@
 -- `plan_judge::packed_size` meets its contract: what is left and the size of the places passed make up the limit; where
 -- the next section is more than what is left, the whole image is over the limit, since sizes only grow. Assumes
 -- nothing.
-use Prim.Native.Nat.{suc, _+_, _-_, _<_, _≤_}
-use mathlib.Core.Path.{_≡_, ap, _∙_}
+use Prim.Native.Nat.{ℕ, suc, _+_, _-_, _≤_}
+use mathlib.Core.Path.{_≡_, sym, ap, _∙_}
+use mathlib.Core.Bool.{true, false}
 use native.Mathlib.Omega.{arith}
 use native.Mathlib.Numerals.{add-one}
+use borrow.Author.Tests.{ltb-true, ltb-false}
 use Rattle.eif.specs.Numbers.{sizeLimit}
 use Rattle.eif.specs.Layout.{sectionHeaderSize}
 use Rattle.eif.specs.Plan.{plannedSize, packedAt}
@@ -23,29 +25,34 @@ abbrev μ-loop : tie.MeasureT-loop
 loop-holds : tie.Need-loop-holds Inv-loop μ-loop
 loop-holds c = let z = packed-zero (plannedSize (c .args .t1)) in (omega arith, omega arith)
 
--- a section after place i is too much
-module _ (c : tie.In-loop Inv-loop μ-loop) where
-  too-long : c .before .loop .left < sectionHeaderSize + plannedSize (c .before .before .args .t1) (c .before .loop .i) → 0 ≡ limited (packedAt (c .before .before .args .t1) (c .before .before .args .count))
+module _ (c : tie.After-passes Inv-loop μ-loop) where
+  abbrev next : ℕ
+  next = sectionHeaderSize + plannedSize (c .before .before .before .args .t1) (c .before .before .loop .i)
+
+  -- a section after place i is too much
+  too-long : c .passes .result ≡ true → 0 ≡ limited (packedAt (c .before .before .before .args .t1) (c .before .before .before .args .count))
   too-long h =
-      let l = c .before .before .args .t1 in
-      let i = c .before .loop .i in
+      let l = c .before .before .before .args .t1 in
+      let i = c .before .before .loop .i in
       let e = packed-suc (plannedSize l) i in
-      let m = packed-le l (suc i) (c .before .before .args .count) (omega arith) in
-      limited-over (packedAt l (c .before .before .args .count)) (omega arith)
+      let m = packed-le l (suc i) (c .before .before .before .args .count) (omega arith) in
+      let o = ltb-true (c .before .before .loop .left) next (sym (c .passes .ensures) ∙ h) in
+      limited-over (packedAt l (c .before .before .before .args .count)) (omega arith)
+
+  fits : c .passes .result ≡ false → next ≤ c .before .before .loop .left
+  fits h = ltb-false (c .before .before .loop .left) next (sym (c .passes .ensures) ∙ h)
 
 returns : tie.Need-returns Inv-loop μ-loop
-returns c = too-long (c .before) (omega arith)
-
-returns-2 : tie.Need-returns-2 Inv-loop μ-loop
-returns-2 c = too-long (c .before .before) (omega arith)
+returns c = too-long (c .before) (c .if1 .taken)
 
 loop-again : tie.Need-loop-again Inv-loop μ-loop
 loop-again c =
+    let f = fits (c .before) (c .if1 .left) in
     let e = packed-suc (plannedSize (c .before .before .before .before .args .t1)) (c .before .before .before .loop .i) in
     rw add-one (omega arith, omega arith)
 
-returns-3 : tie.Need-returns-3 Inv-loop μ-loop
-returns-3 c =
+returns-2 : tie.Need-returns-2 Inv-loop μ-loop
+returns-2 c =
     let a = c .before .before .args in
     let z : c .before .loop .i ≡ a .count = omega arith in
     let e = ap (packedAt (a .t1)) z in
@@ -62,11 +69,12 @@ packed-size-spec =
     loop-holds
     (λ c. omega arith)
     (λ c. omega arith)
+    (λ c κs. tt)
     returns
-    returns-2
-    (λ c. omega arith)
+    (λ c. let f = fits (c .before) (c .if1 .left) in omega arith)
+    (λ c. let f = fits (c .before) (c .if1 .left) in omega arith)
     (λ c. omega arith)
     (λ c. omega arith)
     loop-again
     (λ c. omega arith)
-    returns-3)
+    returns-2)

@@ -11,7 +11,7 @@ returns : tie.Need-returns
 returns c =
     let a = c .before .before .args in
     let s = c .before .image-size in
-    size-over (a .plan) (a .given) (s .result) (omega arith) (s .ensures) (c .if1 .taken)
+    size-over (a .plan) (s .result) (omega arith) (s .ensures) (a .given) (c .if1 .taken)
 
 -- the size is not 0, and the data's size is known
 module _ (c : tie.After-data-size) where
@@ -25,14 +25,14 @@ returns-2 c =
     let w = c .before in
     let a = w .before .before .before .args in
     let s = w .before .before .image-size in
-    size-differs (a .plan) (a .given) (s .result) (omega arith) (s .ensures) (w .before .if1 .left) (λ z. c .if2 .taken (z ∙ sym (data-is w)))
+    size-differs (a .plan) (s .result) (omega arith) (s .ensures) (a .given) (w .before .if1 .left) (λ z. c .if2 .taken (z ∙ sym (data-is w)))
 
 returns-3 : tie.Need-returns-3
 returns-3 c =
     let w = c .before in
     let a = w .before .before .before .args in
     let s = w .before .before .image-size in
-    size-fine (a .plan) (a .given) (s .result) (omega arith) (s .ensures) (w .before .if1 .left) (c .if2 .left ∙ data-is w)
+    size-fine (a .plan) (s .result) (omega arith) (s .ensures) (a .given) (w .before .if1 .left) (c .if2 .left ∙ data-is w)
 
 pub size-fault-spec : {M : Type 1} → statement M
 size-fault-spec =

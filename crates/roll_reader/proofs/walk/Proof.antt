@@ -8,7 +8,7 @@ use native.Mathlib.Omega.{arith}
 use native.Mathlib.Numerals.{add-one}
 use borrow.Author.Needs.{needs}
 use denote.Ref.{now}
-use lib.ListN.{length, replicate}
+use lib.ListN.{length}
 use Rattle.eif.specs.Numbers.{placeCount, recordCut}
 use Rattle.eif.specs.Table.{filled}
 use Rattle.eif.specs.Roll.{recordHeadSize, endType, recordAt, recordKind, listedAt, blankRecord, headFault, bodyFault, endFrom}
@@ -33,7 +33,7 @@ abbrev μ-loop : tie.MeasureT-loop
 
 module _ (c : tie.At-loop Inv-loop μ-loop) where
   abbrev roll : List ℕ
-  roll = now (c .before .before .before .args .rest)
+  roll = now (c .before .before .args .rest)
 
   abbrev i : ℕ
   i = c .loop .i
@@ -83,13 +83,10 @@ module _ (c : tie.After-le64 Inv-loop μ-loop) where
   inside : at t + recordHeadSize + c .le64 .result ≤ length (roll t)
   inside = omega (arith, next, body-zero (roll t) (i t) rest-good .1)
 
-blank-requires : tie.Need-blank-requires Inv-loop μ-loop
-blank-requires c κs = search needs
-
 loop-holds : tie.Need-loop-holds Inv-loop μ-loop
 unfolding recordAt
 loop-holds c =
-    (search needs, search needs, refl, refl, ap (replicate placeCount) (c .blank .ensures), refl)
+    (search needs, search needs, refl, refl, refl, refl)
 
 sub-if1 : tie.Need-sub-if1 Inv-loop μ-loop
 sub-if1 c = search needs
@@ -183,7 +180,6 @@ walk-spec =
     (tie.spec
     Inv-loop
     μ-loop
-    blank-requires
     loop-holds
     sub-if1
     stopped-requires

@@ -20,18 +20,18 @@ kept total size e f = ltb-false totalLimit (total + size) (sym e ∙ f)
 add-total-after : tie.Need-add-total-after
 add-total-after c =
     let a = c .before .before .before .before .before .before .before .before .args in
-    let h = kept (a .state .total) (length (now (a .piece))) (c .before .before .before .before .too-long .ensures) (c .before .before .before .if1 .left) in
+    let h = kept (a .state .total) (length (now (a .piece))) (c .before .before .before .before .passes .ensures) (c .before .before .before .if1 .left) in
     record { fits = omega arith }
 
 returns : tie.Need-returns
 returns c =
     let a = c .before .before .before .before .before .before .args in
-    piece-refused (a .state) (now (a .piece)) (sym (c .before .before .too-long .ensures) ∙ c .before .if1 .taken) (c .refuse .ensures)
+    piece-refused (a .state) (now (a .piece)) (sym (c .before .before .passes .ensures) ∙ c .before .if1 .taken) (c .refuse .ensures)
 
 returns-2 : tie.Need-returns-2
 returns-2 c =
     let a = c .before .before .before .before .before .before .before .before .args in
-    piece-taken (a .state) (now (a .piece)) (sym (c .before .before .before .before .too-long .ensures) ∙ c .before .before .before .if1 .left) (c .before .before .take-bytes .ensures)
+    piece-taken (a .state) (now (a .piece)) (sym (c .before .before .before .before .passes .ensures) ∙ c .before .before .before .if1 .left) (c .before .before .take-bytes .ensures)
 
 pub update-spec : {M : Type 1} → statement M
 update-spec =

@@ -8,13 +8,10 @@ use Rattle.sha384_cases.proofs.lengths.Statement.{statement}
 use Rattle.sha384_cases.proofs.lengths.Tie as tie
 
 abbrev Inv-loop : tie.InvT-loop
-Inv-loop bytes all₀ n₀ all n = (n ≤ 261) × (length bytes ≡ 260)
+Inv-loop two bytes all₀ n₀ all n = (n ≤ 261) × (length bytes ≡ 260)
 
 abbrev μ-loop : tie.MeasureT-loop
-μ-loop bytes all₀ n₀ all n = 261 - n
-
-slice-aggregate-fed : tie.Need-slice-aggregate-fed Inv-loop μ-loop
-slice-aggregate-fed c = simp length-take (omega arith)
+μ-loop two bytes all₀ n₀ all n = 261 - n
 
 pub lengths-spec : {M : Type 1} → statement M
 lengths-spec =
@@ -25,9 +22,8 @@ lengths-spec =
     (λ c κs. search needs)
     (λ c κs. search needs)
     (λ c. search needs)
-    (λ c κs. search needs)
     (λ c. search needs)
-    slice-aggregate-fed
+    (λ c. simp length-take (omega arith))
     (λ c κs. search needs)
     (λ c κs. search needs)
     (λ c. search needs)

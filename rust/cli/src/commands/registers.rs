@@ -3,7 +3,7 @@
 use super::Command;
 use crate::args::{Args, Options};
 use crate::status::{Status, Trouble};
-use crate::{help, input, objects, output, words};
+use crate::{help, input, json, objects, output, words};
 use eif::{Refusal, Registers};
 use std::ffi::OsStr;
 
@@ -28,7 +28,7 @@ says of it.
         help::ACCEPTED,
     ],
     options: Options {
-        flags: &["--json"],
+        flags: &[json::FLAG],
         values: &[],
     },
     run,
@@ -39,7 +39,7 @@ type Answer = Result<Registers, Refusal>;
 fn run(args: Args) -> Result<Status, Trouble> {
     let names = args.some_operands("FILE")?;
     let form = match names {
-        _ if args.has("--json") => object,
+        _ if args.has(json::FLAG) => object,
         [_] => lines,
         _ => named_lines,
     };

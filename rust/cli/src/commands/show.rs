@@ -32,7 +32,7 @@ what to do.
         help::ACCEPTED,
     ],
     options: Options {
-        flags: &[input::STRICT, "--json"],
+        flags: &[input::STRICT, json::FLAG],
         values: &[],
     },
     run,
@@ -43,7 +43,7 @@ type Answer<'a> = Result<Content<'a>, Neither>;
 fn run(args: Args) -> Result<Status, Trouble> {
     let names = args.some_operands("FILE")?;
     // The registers, which the objects have, are computed from the bytes.
-    let (form, keep): (fn(&Arrived, &Answer) -> Vec<u8>, _) = if args.has("--json") {
+    let (form, keep): (fn(&Arrived, &Answer) -> Vec<u8>, _) = if args.has(json::FLAG) {
         (object, Keep::All)
     } else {
         (text, Keep::Rolls)

@@ -35,7 +35,7 @@ Exit status: 0 accepted, 1 refused, 2 wrong usage, input or output trouble.
 ",
     ],
     options: Options {
-        flags: &["--json", output::FLAG],
+        flags: &[json::FLAG, output::FLAG],
         values: &[output::VALUE],
     },
     run,
@@ -66,7 +66,7 @@ fn run(args: Args) -> Result<Status, Trouble> {
         index,
         replacement: input::read(replacement)?,
     };
-    let form = if args.has("--json") { object } else { lines };
+    let form = if args.has(json::FLAG) { object } else { lines };
     let answer = afresh(&staged, named.is_some());
     let text = form(&staged, &answer);
     let image_alone = named.is_some_and(|name| name == "-");

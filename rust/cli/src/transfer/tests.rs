@@ -72,8 +72,12 @@ impl Torn {
     }
 }
 
-fn gone<T>() -> io::Result<T> {
-    Err(io::Error::other("the power is cut"))
+/// What a call answers, cut or not.
+fn ended(cut: bool) -> io::Result<()> {
+    match cut {
+        true => Err(io::Error::other("the power is cut")),
+        false => Ok(()),
+    }
 }
 
 impl Disk for Torn {
@@ -97,11 +101,7 @@ impl Disk for Torn {
         if let Some(bytes) = left {
             self.files.borrow_mut().insert(file.to_path_buf(), bytes);
         }
-        if cut {
-            gone()
-        } else {
-            Ok(())
-        }
+        ended(cut)
     }
 
     fn write(&mut self, file: &Path, parts: &[Part]) -> io::Result<()> {
@@ -124,17 +124,13 @@ impl Disk for Torn {
                 }
             }
         }
-        if cut {
-            gone()
-        } else {
-            Ok(())
-        }
+        ended(cut)
     }
 
     fn rename(&mut self, from: &Path, to: &Path, force: bool) -> io::Result<()> {
         let cut = self.is_cut()?;
         if cut && self.way % 2 == 0 {
-            return gone();
+            return ended(cut);
         }
         let mut files = self.files.borrow_mut();
         if !force && files.contains_key(to) {
@@ -142,11 +138,7 @@ impl Disk for Torn {
         }
         let bytes = files.remove(from).expect("a file that is there");
         files.insert(to.to_path_buf(), bytes);
-        if cut {
-            gone()
-        } else {
-            Ok(())
-        }
+        ended(cut)
     }
 
     fn remove(&mut self, file: &Path) -> io::Result<()> {
@@ -154,11 +146,7 @@ impl Disk for Torn {
         if !(cut && self.way % 2 == 0) {
             self.files.borrow_mut().remove(file);
         }
-        if cut {
-            gone()
-        } else {
-            Ok(())
-        }
+        ended(cut)
     }
 }
 

@@ -89,7 +89,7 @@ mod tests {
     const CLAIM: Sign1Claim = Sign1Claim {
         algorithm: 35,
         register_index: u64::MAX,
-        register_value: Digest([0xee; 48]),
+        register_value: Digest([0xee; DIGEST_LENGTH]),
     };
 
     #[test]

@@ -40,7 +40,7 @@ or is not of the form, or one image is refused; 2 one cannot be read.
 ",
     ],
     options: Options {
-        flags: &["--json"],
+        flags: &[json::FLAG],
         values: &[],
     },
     run,
@@ -74,7 +74,7 @@ type Answer = Result<Option<Section>, Refusal>;
 
 fn run(args: Args) -> Result<Status, Trouble> {
     let names = args.some_operands("FILE")?;
-    let form = match args.has("--json") {
+    let form = match args.has(json::FLAG) {
         true => object,
         false => text,
     };

@@ -179,9 +179,7 @@ impl<'a> Cursor<'a> {
 #[cfg(test)]
 mod tests {
     use super::*;
-    use eif_cases::cbor::{
-        count_heads, encode, encode_with, numbers, signature_entry as map, Head as Form, Item,
-    };
+    use eif_cases::cbor::{encode, numbers, other_forms, signature_entry as map, Item};
 
     fn bytes(bytes: &[u8]) -> Item {
         Item::Bytes(bytes.to_vec())
@@ -229,19 +227,8 @@ mod tests {
 
     #[test]
     fn only_shortest_heads_and_definite_lengths() {
-        let item = two();
-        let section = encode(&item);
-        for chosen in 0..count_heads(&item) {
-            for form in Form::OTHERS {
-                let other = encode_with(&item, &|head| match head == chosen {
-                    true => form,
-                    false => Form::Shortest,
-                });
-                assert!(
-                    other == section || take_apart(&other).is_err(),
-                    "{chosen} {form:?}"
-                );
-            }
+        for (name, other) in other_forms(&two()) {
+            assert!(take_apart(&other).is_err(), "{name}");
         }
     }
 
