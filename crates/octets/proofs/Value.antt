@@ -30,9 +30,13 @@ pow-bytes (suc j) = ap (λ (n : ℕ). 2 ^ n) (mul-suc 8 j) ∙ pow-add 2 (8 * j)
 pub digit-lt : (i : ℕ) {v b : ℕ} → v < 256 ^ i → b < 256 → v * 256 + b < 256 ^ (i + 1)
 digit-lt i hv hb = rw (add-one, pow-suc) (digits-lt hv hb)
 
--- and fits 64 bits where there are at most eight
-pub digit-fits : (i : ℕ) {v b : ℕ} → i < 8 → v < 256 ^ i → b < 256 → v * 256 + b < 2 ^ 64
-digit-fits i hi hv hb = lt-of-lt-of-le (digit-lt i hv hb) (pow-le {i = i + 1} {j = 8} (omega arith))
+-- also where its weight is the highest
+pub weighted-lt : (i : ℕ) {v b : ℕ} → v < 256 ^ i → b < 256 → v + b * 256 ^ i < 256 ^ (i + 1)
+weighted-lt i {v} {b} hv hb = rw (add-one, pow-succ', add-comm v (b * 256 ^ i)) (digits-lt hb hv)
+
+-- and then it fits 64 bits where there are at most eight
+pub weighted-fits : (i : ℕ) {v b : ℕ} → i < 8 → v < 256 ^ i → b < 256 → v + b * 256 ^ i < 2 ^ 64
+weighted-fits i hi hv hb = lt-of-lt-of-le (weighted-lt i hv hb) (pow-le {i = i + 1} {j = 8} (omega arith))
 
 -- ---- byte strings
 
@@ -97,7 +101,6 @@ leValue-leBytes zero n h = sym (lt-one h)
 leValue-leBytes (suc w) n h =
     rw (leValue-leBytes w (n / 256) (div-lt-iff-lt-mul (lit< tt) .1 (rw pow-suc at h))) (add-comm (n % 256) (256 * (n / 256)) ∙ div-add-mod n 256)
 
--- two numbers with the same bytes are equal
 -- ---- value of bytes, and its bytes
 
 be-div : (c : ℕ) (s : List ℕ) → AreBytes s → beFrom c s / 256 ^ length s ≡ c

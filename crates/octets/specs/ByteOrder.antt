@@ -22,12 +22,12 @@ abbrev pub fieldOf : ByteOrder → ℕ → ℕ → List ℕ → ℕ
 fieldOf Big w at s = field w at s
 fieldOf Little w at s = leField w at s
 
--- where the byte stands, of so many, that counts most after k others
-abbrev pub bytePlace : ByteOrder → ℕ → ℕ → ℕ
-bytePlace Big count k = k
-bytePlace Little count k = count - 1 - k
+-- the weight of the byte at place k of a string of `count` bytes, as a power of 256; the byte of weight k is at the place of the same number
+abbrev pub byteWeight : ByteOrder → ℕ → ℕ → ℕ
+byteWeight Big count k = count - 1 - k
+byteWeight Little count k = k
 
--- the number of the k bytes of a byte string that count most
-abbrev pub soFar : ByteOrder → List ℕ → ℕ → ℕ
-soFar Big t k = beValue (take k t)
-soFar Little t k = leValue (drop (length t - k) t)
+-- the number of the k bytes of a byte string that have the lowest weights
+abbrev pub lowBytes : ByteOrder → List ℕ → ℕ → ℕ
+lowBytes Big t k = beValue (drop (length t - k) t)
+lowBytes Little t k = leValue (take k t)

@@ -5,9 +5,9 @@
 ghost use mathlib.Core.Path.{_≡_};
 ghost use Prim.Native.Nat.{_+_, _-_, _*_, _^_, _<_, _≤_, min};
 ghost use lib.Dec.{ltb};
-ghost use lib.ListN.{length, take, drop};
+ghost use lib.ListN.{length};
 ghost use Rattle.octets.specs.Bytes.{beBytes, leBytes, field, leField};
-ghost use Rattle.octets.specs.ByteOrder.{bytesOf, fieldOf, bytePlace, soFar};
+ghost use Rattle.octets.specs.ByteOrder.{bytesOf, fieldOf, byteWeight};
 ghost use Rattle.octets.specs.Over.{over};
 
 fn wide(b: u8) -> u64
@@ -57,132 +57,84 @@ enum ByteOrder {
     Little,
 }
 
-// ---- a number that a slice has only a part of, byte by byte
-
-// Where the byte stands, of `count`, that counts most after k others.
-fn place(order: ByteOrder, count: usize, k: usize) -> usize
+// The weight of the byte at place k of `count` bytes, as a power of 256; and the place of the byte that has the weight k.
+fn weight(order: ByteOrder, count: usize, k: usize) -> usize
     requires { ⌜ k < count ⌝ }
-    ensures { λ r. ⌜ r ≡ bytePlace order count k ⌝ }
+    ensures { λ r. ⌜ r ≡ byteWeight order count k ⌝ }
     ensures { λ r. ⌜ r < count ⌝ }
 {
     match order {
-        ByteOrder::Big => k,
-        ByteOrder::Little => count - 1 - k,
+        ByteOrder::Big => count - 1 - k,
+        ByteOrder::Little => k,
     }
 }
 
-// The number of one byte more, in the order in which they count, of `count` bytes at a position.
-fn next(value: u64, s: &[u8], at: usize, count: usize, order: ByteOrder, k: usize) -> u64
-    requires { ⌜ (k < count) × (count ≤ 8) × (at + count ≤ length (now s)) × (value < 256 ^ k) × (value ≡ soFar order (take count (drop at (now s))) k) ⌝ }
-    ensures { λ r. ⌜ (r < 256 ^ (k + 1)) × (r ≡ soFar order (take count (drop at (now (s .entry)))) (k + 1)) ⌝ }
-{
-    let i = place(order, count, k);
-    value * 256 + wide(s[at + i])
-}
+// ---- reading
 
-// The number of the bytes of a field that there are.
-fn part_value(s: &[u8], at: usize, width: usize, order: ByteOrder) -> u64
-    requires { ⌜ width ≤ 8 ⌝ }
-    ensures { λ r. ⌜ r ≡ fieldOf order width at (now (s .entry)) ⌝ }
-    ensures { λ r. ⌜ r < 256 ^ width ⌝ }
+// The number of `count` bytes at a position, added up from the byte of the lowest weight. With a constant `count` the compiler turns the loop
+// into one load.
+fn weighted_sum(s: &[u8], at: usize, count: usize, order: ByteOrder) -> u64
+    requires { ⌜ (count ≤ 8) × (count ≤ length (now s) - at) ⌝ }
+    ensures { λ r. ⌜ r ≡ fieldOf order count at (now (s .entry)) ⌝ }
+    ensures { λ r. ⌜ r < 256 ^ count ⌝ }
 {
-    let count = room(s.len(), at, width);
     let mut v: u64 = 0;
     let mut k: usize = 0;
     while k < count {
-        v = next(v, s, at, count, order, k);
+        let i = weight(order, count, k);
+        v += wide(s[at + i]) << (8 * k);
         k += 1;
     }
     v
 }
 
-// ---- a number that a slice has whole: the same with no loop, which compiles to one load
-
-fn two(s: &[u8], at: usize, order: ByteOrder) -> u64
-    requires { ⌜ at + 2 ≤ length (now s) ⌝ }
-    ensures { λ r. ⌜ r ≡ fieldOf order 2 at (now (s .entry)) ⌝ }
-    ensures { λ r. ⌜ r < 256 ^ 2 ⌝ }
+// The number of a field of at most eight bytes; of a field that the slice's end cuts, the number of the bytes that the slice has. A whole field
+// is a case of its own, since its width is a constant at each call below.
+fn number(s: &[u8], at: usize, width: usize, order: ByteOrder) -> u64
+    requires { ⌜ width ≤ 8 ⌝ }
+    ensures { λ r. ⌜ r ≡ fieldOf order width at (now (s .entry)) ⌝ }
+    ensures { λ r. ⌜ r < 256 ^ width ⌝ }
 {
-    let a = next(0, s, at, 2, order, 0);
-    next(a, s, at, 2, order, 1)
+    let count = room(s.len(), at, width);
+    if count < width {
+        return weighted_sum(s, at, count, order);
+    }
+    weighted_sum(s, at, width, order)
 }
-
-fn four(s: &[u8], at: usize, order: ByteOrder) -> u64
-    requires { ⌜ at + 4 ≤ length (now s) ⌝ }
-    ensures { λ r. ⌜ r ≡ fieldOf order 4 at (now (s .entry)) ⌝ }
-    ensures { λ r. ⌜ r < 256 ^ 4 ⌝ }
-{
-    let a = next(0, s, at, 4, order, 0);
-    let b = next(a, s, at, 4, order, 1);
-    let c = next(b, s, at, 4, order, 2);
-    next(c, s, at, 4, order, 3)
-}
-
-fn eight(s: &[u8], at: usize, order: ByteOrder) -> u64
-    requires { ⌜ at + 8 ≤ length (now s) ⌝ }
-    ensures { λ r. ⌜ r ≡ fieldOf order 8 at (now (s .entry)) ⌝ }
-    ensures { λ r. ⌜ r < 256 ^ 8 ⌝ }
-{
-    let a = next(0, s, at, 8, order, 0);
-    let b = next(a, s, at, 8, order, 1);
-    let c = next(b, s, at, 8, order, 2);
-    let d = next(c, s, at, 8, order, 3);
-    let e = next(d, s, at, 8, order, 4);
-    let f = next(e, s, at, 8, order, 5);
-    let g = next(f, s, at, 8, order, 6);
-    next(g, s, at, 8, order, 7)
-}
-
-// ---- reading
 
 pub fn be16(s: &[u8], at: usize) -> u16
     ensures { λ r. ⌜ r ≡ field 2 at (now (s .entry)) ⌝ }
 {
-    if room(s.len(), at, 2) < 2 {
-        return part_value(s, at, 2, ByteOrder::Big) as u16;
-    }
-    two(s, at, ByteOrder::Big) as u16
+    number(s, at, 2, ByteOrder::Big) as u16
 }
 
 pub fn be32(s: &[u8], at: usize) -> u32
     ensures { λ r. ⌜ r ≡ field 4 at (now (s .entry)) ⌝ }
 {
-    if room(s.len(), at, 4) < 4 {
-        return part_value(s, at, 4, ByteOrder::Big) as u32;
-    }
-    four(s, at, ByteOrder::Big) as u32
+    number(s, at, 4, ByteOrder::Big) as u32
 }
 
 pub fn be64(s: &[u8], at: usize) -> u64
     ensures { λ r. ⌜ r ≡ field 8 at (now (s .entry)) ⌝ }
 {
-    if room(s.len(), at, 8) < 8 {
-        return part_value(s, at, 8, ByteOrder::Big);
-    }
-    eight(s, at, ByteOrder::Big)
+    number(s, at, 8, ByteOrder::Big)
 }
 
 pub fn le16(s: &[u8], at: usize) -> u16
     ensures { λ r. ⌜ r ≡ leField 2 at (now (s .entry)) ⌝ }
 {
-    if room(s.len(), at, 2) < 2 {
-        return part_value(s, at, 2, ByteOrder::Little) as u16;
-    }
-    two(s, at, ByteOrder::Little) as u16
+    number(s, at, 2, ByteOrder::Little) as u16
 }
 
 pub fn le64(s: &[u8], at: usize) -> u64
     ensures { λ r. ⌜ r ≡ leField 8 at (now (s .entry)) ⌝ }
 {
-    if room(s.len(), at, 8) < 8 {
-        return part_value(s, at, 8, ByteOrder::Little);
-    }
-    eight(s, at, ByteOrder::Little)
+    number(s, at, 8, ByteOrder::Little)
 }
 
 // ---- writing
 
-// The `width` low bytes of `n`: each is shifted down by the bytes that count less.
+// The `width` low bytes of `n`: each is shifted down by the bytes of lower weight.
 fn put(out: &mut [u8], at: usize, width: usize, n: u64, order: ByteOrder)
     requires { ⌜ width ≤ 8 ⌝ }
     ensures { λ _. ⌜ now (out .exit) ≡ over (now (out .entry)) at (bytesOf order width n) ⌝ }
@@ -190,8 +142,8 @@ fn put(out: &mut [u8], at: usize, width: usize, n: u64, order: ByteOrder)
     let count = room(out.len(), at, width);
     let mut k: usize = 0;
     while k < count {
-        let i = place(order, width, k);
-        out[at + k] = ((n >> (8 * (width - 1 - i))) % 256) as u8;
+        let i = weight(order, width, k);
+        out[at + k] = ((n >> (8 * i)) % 256) as u8;
         k += 1;
     }
 }

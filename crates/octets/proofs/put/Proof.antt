@@ -6,7 +6,7 @@ use native.Mathlib.Omega.{arith}
 use native.Mathlib.Nat.{add-zero}
 use borrow.Author.Needs.{needs}
 use lib.ListN.{length, drop, length-drop, length-set}
-use Rattle.octets.specs.ByteOrder.{bytesOf, bytePlace}
+use Rattle.octets.specs.ByteOrder.{bytesOf, byteWeight}
 use Rattle.octets.specs.Over.{over}
 use Rattle.octets.proofs.Value.{pow-bytes}
 use Rattle.octets.proofs.Over.{over-step, over-end}
@@ -29,7 +29,7 @@ loop-again c =
     let l = c .before .before .loop in
     let a = c .before .before .before .before .before .args in
     let n = length-bytes (a .order) (a .width) (a .n) in
-    let p = ap (λ (i : ℕ). 2 ^ (8 * (a .width - 1 - i))) (c .place .ensures .0) ∙ pow-bytes (a .width - 1 - bytePlace (a .order) (a .width) (l .k)) in (
+    let p = ap (λ (i : ℕ). 2 ^ (8 * i)) (c .weight .ensures .0) ∙ pow-bytes (byteWeight (a .order) (a .width) (l .k)) in (
       omega arith,
       simp length-set (l .inv .1),
       over-step (l .out) (bytesOf (a .order) (a .width) (a .n)) (a .at) (l .k) _ (omega arith) (ap (λ (u : ℕ). a .n / u % 256) p ∙ sym (byte-at (a .order) (a .width) (a .n) (l .k) (omega arith)))
@@ -52,8 +52,6 @@ put-spec =
     (λ c κs. search needs)
     loop-holds
     (λ c κs. omega arith)
-    (λ c. omega arith)
-    (λ c. omega arith)
     (λ c. omega arith)
     (λ c. omega arith)
     (λ c. omega arith)
