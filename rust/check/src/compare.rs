@@ -343,8 +343,10 @@ fn compare_image_view(input: &Input, twin: &Result<twin::Reading, twin::Refusal>
             let data = sections.map(|s| &input.bytes[s.position..s.position + s.length]);
             let data: Vec<&[u8]> = data.collect();
             let count = image.sections().len();
-            let view: Vec<&[u8]> = (0..count).map(|i| image.section_data(i)).collect();
+            let view: Vec<&[u8]> = (0..count).filter_map(|i| image.section_data(i)).collect();
             same(input, "section data", view, data);
+            let past = [count, MAX_SECTIONS, usize::MAX].map(|i| image.section_data(i));
+            same(input, "no section", past, [None; 3]);
             let header = (image.version(), image.flags(), image.default_mem());
             let twin_header = (reading.version, reading.flags, reading.default_mem);
             same(input, "header", header, twin_header);
@@ -607,7 +609,9 @@ pub fn compare_roll(ordinal: u64, roll: &[u8], tally: &mut Tally) {
             let architecture = view.architecture().flags();
             same(input, "architecture", architecture, twin.flags & 1);
             let count = view.records().len();
-            let view: Vec<&[u8]> = (0..count).map(|i| view.record_data(i)).collect();
+            let past = [count, MAX_SECTIONS, usize::MAX].map(|i| view.record_data(i));
+            same(input, "no record", past, [None; 3]);
+            let view: Vec<&[u8]> = (0..count).filter_map(|i| view.record_data(i)).collect();
             same(input, "record data", view, data);
         }
         (Err(refusal), Err(twin)) => same(input, "refusal", parts(refusal), twin_parts(twin)),

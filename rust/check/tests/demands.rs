@@ -22,8 +22,7 @@ fn roll_of(image: &[u8]) -> Vec<u8> {
 
 /// Type and data of every section of type 1, 2 or 3, in file order.
 fn listed<'a>(image: &Image<'a>) -> Vec<(u16, &'a [u8])> {
-    let sections = image.sections().iter().enumerate();
-    let all = sections.map(|(i, s)| (s.section_type.0, image.section_data(i)));
+    let all = image.iter().map(|(s, data)| (s.section_type.0, data));
     all.filter(|(kind, _)| *kind <= 3).collect()
 }
 
@@ -160,10 +159,8 @@ fn a_roll_lists_its_image() {
         let image = eif::read(&bytes).unwrap();
         let roll = roll_of(&bytes);
         let view = eif::read_roll(&roll).unwrap();
-        let records = view.records().iter().enumerate();
-        let list: Vec<_> = records
-            .map(|(i, r)| (r.section_type.0, view.record_data(i)))
-            .collect();
+        let records = view.iter().map(|(r, data)| (r.section_type.0, data));
+        let list: Vec<_> = records.collect();
         assert_eq!(list, listed(&image));
         assert_eq!(view.flags(), image.flags());
         let starts = record_starts(&view);
@@ -244,8 +241,8 @@ fn an_accepted_roll_is_the_roll_of_an_image() {
         let Ok(roll) = eif::read_roll(&bytes) else {
             continue;
         };
-        let records = roll.records().iter().enumerate();
-        let sections = records.map(|(i, r)| Section::new(r.section_type.0, roll.record_data(i)));
+        let sections = roll.iter();
+        let sections = sections.map(|(r, data)| Section::new(r.section_type.0, data));
         let layout = Layout {
             flags: roll.flags(),
             ..Layout::new(2, sections.collect())

@@ -45,7 +45,7 @@ fn check_afresh(base: &[u8], replacement: &[u8], replaced: usize) {
     assert_eq!(registers, eif::registers(&bytes));
     for shown in 0..afresh.sections().len() {
         let data = staged::section(base, replacement, replaced, shown).unwrap();
-        assert_eq!(data, afresh.section_data(shown));
+        assert_eq!(Some(data), afresh.section_data(shown));
         let whole = if shown == replaced { replacement } else { base };
         assert!(is_part(data, whole), "a copy");
     }
@@ -263,8 +263,8 @@ fn a_base_at_the_limit() {
     let written = staged::write_roll(&base, b"new", 1, &mut roll);
     assert_eq!(written, Ok(roll.len()));
     let list = eif::read_roll(&roll).unwrap();
-    assert_eq!(list.record_data(0), b"");
-    assert_eq!(list.record_data(1), b"new");
+    assert_eq!(list.record_data(0), Some(&b""[..]));
+    assert_eq!(list.record_data(1), Some(&b"new"[..]));
     let longer = zero_image(MAX_IMAGE_LENGTH + 1);
     let part = staged::section(&longer, b"new", 1, 0);
     assert_eq!(part.map_err(parts), Err(TOO_LONG));

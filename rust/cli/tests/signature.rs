@@ -386,7 +386,7 @@ fn the_sample_is_signed() {
     ended.ends(0, "\n    equal, not verified\n");
     assert_eq!(folder.eif("compare image a").status, 0);
     let image = eif::read(&sample).unwrap();
-    let (certificate, parts) = only_signature(image.section_data(5));
+    let (certificate, parts) = only_signature(image.section_data(5).unwrap());
     if has_openssl() {
         assert!(is_genuine(&folder, &certificate, &parts));
         let mut other = parts.clone();

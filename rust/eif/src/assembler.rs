@@ -144,13 +144,12 @@ fn record(kind: u16, parts: &[&[u8]]) -> Vec<u8> {
 pub fn announced(record: &[u8]) -> Option<u64> {
     let (head, rest) = record.split_first_chunk::<RECORD_HEAD_LENGTH>()?;
     let number: [u8; NUMBER_LENGTH] = rest.try_into().ok()?;
-    let is_open = head[..] == open_record(0)[..RECORD_HEAD_LENGTH];
+    let is_open = open_record(0).starts_with(head);
     is_open.then_some(u64::from_le_bytes(number))
 }
 
 /// How many bytes follow a record's head, as its first bytes say, for whoever takes records from a stream.
 pub fn length_after_head(head: &[u8; RECORD_HEAD_LENGTH]) -> u64 {
-    let mut length = [0; 8];
-    length.copy_from_slice(&head[..8]);
+    let [length @ .., _, _] = *head;
     u64::from_le_bytes(length)
 }

@@ -82,9 +82,16 @@ pub fn read_strict(image: &[u8]) -> Result<Image<'_>, Refusal> {
     Image::accepted(image, raw::read_strict(image))
 }
 
-/// The data that stand at a position of an accepted image.
+/// The data at a position of an accepted image, which lies in the image.
 pub(crate) fn data_at(image: &[u8], position: FilePosition, length: DataLength) -> &[u8] {
-    &image[position.0 as usize..][..length.0 as usize]
+    part_of(image, position.0, length).unwrap_or_default()
+}
+
+/// The `length` bytes of `bytes` from `start` on, if `bytes` has them all.
+pub(crate) fn part_of(bytes: &[u8], start: u64, length: DataLength) -> Option<&[u8]> {
+    let start = usize::try_from(start).ok()?;
+    let length = usize::try_from(length.0).ok()?;
+    bytes.get(start..)?.get(..length)
 }
 
 impl Reading {
@@ -127,7 +134,8 @@ impl Reading {
 
     /// The sections in file order, 2 to 32 of them.
     pub fn sections(&self) -> &[Section] {
-        &self.answer.sections[..usize::from(self.answer.count)]
+        let count = usize::from(self.answer.count);
+        self.answer.sections.get(..count).unwrap_or_default()
     }
 
     /// The ramdisk mark: bit i is one exactly when section i is a ramdisk.
@@ -177,16 +185,30 @@ impl<'a> Image<'a> {
         self.bytes
     }
 
-    /// The data of section `index`.
+    /// The data of section `index`. None if `index` is at or past the number of sections; an empty section has
+    /// `Some` data of no bytes.
     ///
-    /// # Panics
+    /// ```
+    /// use eif::{DataLength, Place, Plan, SectionType};
     ///
-    /// Where there is no such section; [`get`](Image::get) does not.
-    pub fn section_data(&self, index: usize) -> &'a [u8] {
-        self.data_of(self.sections()[index])
+    /// let places = vec![
+    ///     Place::new(SectionType::KERNEL, DataLength(4)),
+    ///     Place::new(SectionType::COMMAND_LINE, DataLength(0)),
+    /// ];
+    /// let plan = Plan { version: 2, places, ..Plan::default() };
+    /// let bytes = eif::write_to_vec(&plan, b"kern")?;
+    /// let image = eif::read(&bytes)?;
+    /// assert_eq!(image.section_data(0), Some(&b"kern"[..]));
+    /// assert_eq!(image.section_data(1), Some(&[][..]));
+    /// assert_eq!(image.section_data(2), None);
+    /// assert_eq!(image.section_data(usize::MAX), None);
+    /// # Ok::<(), eif::Refusal>(())
+    /// ```
+    pub fn section_data(&self, index: usize) -> Option<&'a [u8]> {
+        self.get(index).map(|(_, data)| data)
     }
 
-    /// Section `index` and its data, if there is such a section.
+    /// Section `index` and its data. None if `index` is at or past the number of sections.
     pub fn get(&self, index: usize) -> Option<(Section, &'a [u8])> {
         let section = *self.sections().get(index)?;
         Some((section, self.data_of(section)))

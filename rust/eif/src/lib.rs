@@ -19,9 +19,10 @@
 //! | [`sign1::read`], [`sign1::write`], [`sign1::to_vec`] | what a signature claims, not verified |
 //! | [`staged::section`], [`staged::roll_to_vec`], [`staged::registers`] | the same of an image with one section replaced, and no second image |
 //!
-//! Every call takes any bytes and any numbers. A [`Refusal`] has the first answer number that applies,
-//! in the order that FORMAT.md gives for the call, and says where; then no byte of an output buffer has
-//! changed. An accepted call changes only the bytes that it reports.
+//! Every call takes any bytes and any numbers, and none panics. A [`Refusal`] has the first answer number that
+//! applies, in the order that FORMAT.md gives for the call, and says where; then no byte of an output buffer has
+//! changed. An accepted call changes only the bytes that it reports. A call that looks up a section or a record by
+//! its number returns `None` if there is none.
 //!
 //! # Example
 //!
@@ -57,7 +58,8 @@
 //! let roll = eif::read_roll(&roll)?;
 //! assert_eq!(roll.flags(), image.flags());
 //! assert_eq!(roll.records().len(), 3);
-//! assert_eq!(roll.record_data(0), [0x4b]);
+//! assert_eq!(roll.record_data(0), Some(&[0x4b][..]));
+//! assert_eq!(roll.record_data(3), None);
 //!
 //! let mut measured = [0; 8];
 //! let copied = eif::copy_stream(&bytes, Stream::Whole, StreamPosition(0), &mut measured)?;
@@ -85,6 +87,21 @@
 //! the environment variable `EIF_LIB_DIR` names, or else in `target/staticlib` of the repository. It
 //! links into x86-64 programs only.
 #![deny(missing_docs)]
+// What could panic is an error of `make rust-lint`: indices and slices, unwrapping, and arithmetic that can overflow.
+#![cfg_attr(
+    not(test),
+    deny(
+        clippy::arithmetic_side_effects,
+        clippy::expect_used,
+        clippy::indexing_slicing,
+        clippy::panic,
+        clippy::string_slice,
+        clippy::todo,
+        clippy::unimplemented,
+        clippy::unreachable,
+        clippy::unwrap_used
+    )
+)]
 
 mod arriving;
 pub mod assembler;

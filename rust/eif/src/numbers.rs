@@ -111,7 +111,10 @@ impl Architecture {
 
     /// The architecture that these flags tell.
     pub fn of_flags(flags: u16) -> Architecture {
-        Architecture::ALL[usize::from(flags & 1)]
+        match flags & 1 {
+            0 => Architecture::X86_64,
+            _ => Architecture::Aarch64,
+        }
     }
 
     /// Flags that tell this architecture, the other bits 0.

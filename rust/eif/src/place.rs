@@ -2,6 +2,9 @@
 
 use crate::{Refusal, HEADER_LENGTH, MAX_SECTIONS};
 
+/// The record that is one too many. The flags record, which is record 0, is not one of the 32.
+const RECORD_TOO_MANY: u64 = MAX_SECTIONS as u64 + 1;
+
 /// The words of these two stand here and nowhere else in the Rust code; a test of the command holds the
 /// manual to them.
 impl Refusal {
@@ -51,8 +54,7 @@ impl Refusal {
         let at_end = self.position() == roll.len() as u64;
         let place = match self.number() {
             1 | 12 => "the start of the roll".to_string(),
-            // The flags record is not one of the 32.
-            5 => start_of(MAX_SECTIONS as u64 + 1),
+            5 => start_of(RECORD_TOO_MANY),
             16 if at_end => format!("the end of the roll, where {} should start", record(index)),
             10 | 11 | 16 | 17 => start_of(index),
             18 => "the first byte after the end record".to_string(),

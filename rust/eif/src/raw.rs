@@ -251,6 +251,7 @@ pub struct ArrivingFinished {
 
 // The layout that eif.h gives to a C compiler. Each size is the sum of the fields' sizes, so an answer
 // has no padding.
+#[allow(clippy::arithmetic_side_effects)] // the compiler computes these sums
 const _: () = {
     assert!(size_of::<SectionType>() == 2);
     assert!(size_of::<FilePosition>() == 8 && size_of::<RollPosition>() == 8);

@@ -21,11 +21,13 @@ macro_rules! reasons {
         #[repr(u8)]
         #[derive(Clone, Copy, Debug, PartialEq, Eq, PartialOrd, Ord, Hash)]
         pub enum Reason {
+            /// A number that this crate does not know. The archive of this version answers none.
+            Unknown = 0,
             $(#[doc = concat!("Number ", $number, ": ", $meaning, ".")] $name = $number,)*
         }
 
         impl Reason {
-            /// Every reason, in the order of their numbers.
+            /// Every reason with a number, so all but [`Unknown`](Reason::Unknown), in the order of their numbers.
             pub const ALL: &'static [Reason] = &[$(Reason::$name),*];
 
             /// The reason with this number. 0 is acceptance and has none.
@@ -39,6 +41,7 @@ macro_rules! reasons {
             /// What the number means.
             pub fn meaning(self) -> &'static str {
                 match self {
+                    Reason::Unknown => "unknown answer number",
                     $(Reason::$name => $meaning,)*
                 }
             }
@@ -46,6 +49,7 @@ macro_rules! reasons {
             /// What whoever holds the file should do about it.
             pub fn advice(self) -> &'static str {
                 match self {
+                    Reason::Unknown => "build the program with the archive of its own version",
                     $(Reason::$name => $advice,)*
                 }
             }
@@ -134,38 +138,41 @@ impl fmt::Display for Reason {
 /// ```
 #[derive(Clone, Copy, Debug, PartialEq, Eq, Hash)]
 pub struct Refusal {
-    reason: Reason,
+    number: u8,
     index: u64,
     position: u64,
 }
 
 impl Refusal {
     /// `Ok` for number 0, which is acceptance.
-    ///
-    /// # Panics
-    ///
-    /// Where the table above has no such number, which the library does not answer.
     pub(crate) fn check(number: u8, index: u64, position: u64) -> Result<(), Refusal> {
-        let reason = match (number, Reason::from_number(number)) {
-            (0, _) => return Ok(()),
-            (_, Some(reason)) => reason,
-            (_, None) => panic!("the archive answers {number}, which this crate does not know"),
-        };
-        Err(Refusal {
-            reason,
-            index,
-            position,
-        })
+        match number {
+            0 => Ok(()),
+            _ => Err(Refusal {
+                number,
+                index,
+                position,
+            }),
+        }
     }
 
-    /// Why.
+    /// The refusal for a reason that has no place in the bytes.
+    pub(crate) fn of(reason: Reason) -> Refusal {
+        Refusal {
+            number: reason as u8,
+            index: 0,
+            position: 0,
+        }
+    }
+
+    /// Why. [`Reason::Unknown`] if this crate does not know the number.
     pub fn reason(&self) -> Reason {
-        self.reason
+        Reason::from_number(self.number).unwrap_or(Reason::Unknown)
     }
 
     /// The answer number.
     pub fn number(&self) -> u8 {
-        self.reason as u8
+        self.number
     }
 
     /// The index of the section or record for 6 to 11, 16, 17, 21 and, where a section is not packed, 20;
@@ -185,8 +192,8 @@ impl Refusal {
 
 impl fmt::Display for Refusal {
     fn fmt(&self, f: &mut fmt::Formatter<'_>) -> fmt::Result {
-        let (number, index, position) = (self.number(), self.index, self.position);
-        let meaning = self.reason;
+        let (number, index, position) = (self.number, self.index, self.position);
+        let meaning = self.reason();
         write!(f, "refused {number} at {index} byte {position}: {meaning}")
     }
 }
@@ -206,6 +213,20 @@ mod tests {
             assert_eq!(refusal.reason(), reason);
             assert_eq!(refusal.number(), reason as u8);
             assert_eq!((refusal.index(), refusal.position()), (7, 84));
+        }
+        for number in (1..=u8::MAX).filter(|&number| Reason::from_number(number).is_none()) {
+            let refusal = Refusal::check(number, 7, 84).unwrap_err();
+            assert_eq!(
+                (refusal.number(), refusal.reason()),
+                (number, Reason::Unknown)
+            );
+            assert!(!Reason::ALL.contains(&refusal.reason()));
+            let shown = format!("refused {number} at 7 byte 84: unknown answer number");
+            assert_eq!(refusal.to_string(), shown);
+            assert_eq!(
+                (refusal.place_in_image(), refusal.place_in_roll(&[])),
+                (None, None)
+            );
         }
     }
 }

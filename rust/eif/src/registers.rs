@@ -14,7 +14,12 @@ impl Registers {
 
     /// The register that measures a stream: 0 Whole, 1 Boot, 2 App.
     pub fn of(&self, stream: Stream) -> Digest {
-        self.0[stream as usize]
+        let [whole, boot, app] = self.0;
+        match stream {
+            Stream::Whole => whole,
+            Stream::Boot => boot,
+            Stream::App => app,
+        }
     }
 
     /// The registers with their names.

@@ -1,5 +1,6 @@
 //! The boot roll: header flags of an image, then its kernel, command line and ramdisks in file order.
 
+use crate::image::part_of;
 use crate::{raw, Architecture, DataLength, Refusal, RollPosition, SectionType};
 
 /// A record of an accepted roll.
@@ -100,15 +101,13 @@ impl<'a> Roll<'a> {
     }
 
     /// The data of the record at place `index` in [`records`](Roll::records), which does not count the flags record.
-    ///
-    /// # Panics
-    ///
-    /// Where there is no such record; [`get`](Roll::get) does not.
-    pub fn record_data(&self, index: usize) -> &'a [u8] {
-        self.data_of(self.records()[index])
+    /// None if `index` is at or past the number of records; an empty record has `Some` data of no bytes.
+    pub fn record_data(&self, index: usize) -> Option<&'a [u8]> {
+        self.get(index).map(|(_, data)| data)
     }
 
-    /// The record at place `index` in [`records`](Roll::records) and its data, if there is one.
+    /// The record at place `index` in [`records`](Roll::records) and its data. None if `index` is at or past the number
+    /// of records.
     pub fn get(&self, index: usize) -> Option<(RollRecord, &'a [u8])> {
         let record = *self.records().get(index)?;
         Some((record, self.data_of(record)))
@@ -121,6 +120,7 @@ impl<'a> Roll<'a> {
     }
 
     fn data_of(&self, record: RollRecord) -> &'a [u8] {
-        &self.bytes[record.position.0 as usize..][..record.length.0 as usize]
+        // The data of an accepted roll's records lie in the roll.
+        part_of(self.bytes, record.position.0, record.length).unwrap_or_default()
     }
 }

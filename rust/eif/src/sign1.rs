@@ -28,8 +28,9 @@
 //! # Ok::<(), eif::Refusal>(())
 //! ```
 
+use crate::image::part_of;
 use crate::raw::sign1 as raw;
-use crate::{Digest, Refusal};
+use crate::{Digest, Reason, Refusal};
 use std::fmt;
 
 /// The length of the longest COSE_Sign1 of this form. A buffer of this length takes any.
@@ -65,7 +66,11 @@ impl Algorithm {
 
     /// Its number in the COSE registry, which is negative.
     pub fn number(self) -> i8 {
-        -(self as i8)
+        match self {
+            Algorithm::Es256 => -7,
+            Algorithm::Es384 => -35,
+            Algorithm::Es512 => -36,
+        }
     }
 
     /// Its name in the COSE registry.
@@ -86,14 +91,10 @@ impl Algorithm {
         }
     }
 
-    /// # Panics
-    ///
-    /// Where the library answers another number, which it does not.
-    fn from_raw(number: u64) -> Algorithm {
-        let known = Algorithm::ALL.into_iter();
-        let mut found = known.filter(|&algorithm| algorithm as u64 == number);
-        let unknown = || panic!("the archive answers algorithm {number}");
-        found.next().unwrap_or_else(unknown)
+    /// The algorithm with this number, its sign left off. The library accepts no other.
+    fn from_raw(number: u64) -> Option<Algorithm> {
+        let mut known = Algorithm::ALL.into_iter();
+        known.find(|&algorithm| algorithm as u64 == number)
     }
 }
 
@@ -141,15 +142,23 @@ pub struct Sign1<'a> {
 pub fn read(bytes: &[u8]) -> Result<Sign1<'_>, Refusal> {
     let reading = raw::sign1_read(bytes);
     Refusal::check(reading.number, reading.index, reading.position)?;
-    let start = reading.signature_position.0 as usize;
-    Ok(Sign1 {
-        claim: Claim {
-            algorithm: Algorithm::from_raw(reading.claim.algorithm),
-            register_index: reading.claim.register_index,
-            register_value: reading.claim.register_value,
-        },
-        signature: &bytes[start..][..reading.signature_length.0 as usize],
-    })
+    match accepted(bytes, reading) {
+        Some(parts) => Ok(parts),
+        None => Err(Refusal::of(Reason::NotSign1)),
+    }
+}
+
+/// The parts of accepted bytes. None, which is then refused by 28, if the answer names another algorithm or bytes that
+/// are not there; the library accepts neither.
+fn accepted(bytes: &[u8], reading: raw::Sign1Reading) -> Option<Sign1<'_>> {
+    let claim = Claim {
+        algorithm: Algorithm::from_raw(reading.claim.algorithm)?,
+        register_index: reading.claim.register_index,
+        register_value: reading.claim.register_value,
+    };
+    let start = reading.signature_position.0;
+    let signature = part_of(bytes, start, reading.signature_length)?;
+    Some(Sign1 { claim, signature })
 }
 
 /// Writes the COSE_Sign1 of a claim and its signature over the start of `out` and answers its length. Bytes of

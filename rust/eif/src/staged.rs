@@ -32,6 +32,7 @@
 //! # Ok::<(), eif::Refusal>(())
 //! ```
 
+use crate::image::part_of;
 use crate::raw::staged as raw;
 use crate::{DataLength, Refusal, Registers};
 
@@ -53,7 +54,8 @@ pub fn section<'a>(
         0 => base,
         _ => replacement,
     };
-    Ok(&held[part.start as usize..][..part.length.0 as usize])
+    // An accepted part lies in the slice that it names.
+    Ok(part_of(held, part.start, part.length).unwrap_or_default())
 }
 
 fn part(
@@ -124,8 +126,10 @@ pub fn write_to_vec(base: &[u8], replacement: &[u8], replaced: usize) -> Result<
     let image = crate::read(base)?;
     let mut plan = image.plan();
     let mut data: Vec<&[u8]> = image.iter().map(|(_, data)| data).collect();
-    // Both have as many as there are sections, and there is such a section.
-    plan.places[replaced].length = DataLength(replacement.len() as u64);
-    data[replaced] = replacement;
+    // Both have as many as there are sections, and 27 was refused above.
+    if let (Some(place), Some(data)) = (plan.places.get_mut(replaced), data.get_mut(replaced)) {
+        place.length = DataLength(replacement.len() as u64);
+        *data = replacement;
+    }
     crate::write_to_vec(&plan, &data.concat())
 }

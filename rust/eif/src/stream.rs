@@ -135,8 +135,9 @@ impl BufRead for StreamReader<'_> {
         Ok(self.rest)
     }
 
+    /// Consumes `amount` bytes of what [`fill_buf`](BufRead::fill_buf) gives, or all of them if there are fewer.
     fn consume(&mut self, amount: usize) {
-        self.rest = &self.rest[amount..];
+        self.rest = self.rest.get(amount..).unwrap_or_default();
     }
 }
 

@@ -35,6 +35,7 @@ pub struct Stepped {
 }
 
 // The layout that eif.h gives to a C compiler, with no padding.
+#[allow(clippy::arithmetic_side_effects)] // the compiler computes these sums
 const _: () = {
     assert!(size_of::<State>() == 4 * 8 && align_of::<State>() == 8);
     assert!(offset_of!(State, room) == 16);

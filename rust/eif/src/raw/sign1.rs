@@ -38,6 +38,7 @@ pub struct Sign1Reading {
 }
 
 // The layout that eif.h gives to a C compiler, with no padding.
+#[allow(clippy::arithmetic_side_effects)] // the compiler computes these sums
 const _: () = {
     assert!(size_of::<Sign1Claim>() == 8 + 8 + DIGEST_LENGTH && align_of::<Sign1Claim>() == 8);
     assert!(offset_of!(Sign1Claim, register_value) == 16);
