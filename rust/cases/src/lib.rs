@@ -17,6 +17,7 @@ pub mod cbor;
 mod digests;
 mod images;
 mod layout;
+mod orders;
 mod positions;
 mod rolls;
 mod sign1;
@@ -34,6 +35,11 @@ pub use layout::{
     section_end, size_entry, Layout, Section, CHECKSUM_AT, COUNT_AT, ENTRY, HEADER, MAX_SECTIONS,
     OFFSETS_AT, OWN_SIZE_AT, RESERVED_AFTER_AT, RESERVED_AT, SECTION_HEADER, SHORTEST, SIZES_AT,
     VERSION_AT,
+};
+pub use orders::{
+    image_orders, long_image_orders, long_roll_orders, orders, plan_orders, roll_orders,
+    short_buffers, sign1_orders, staged_orders, transfer_orders, Order, OrderCase, Replacement,
+    Rule, Sign1Input, TransferInput,
 };
 pub use positions::{located_images, located_plans, located_rolls, PlanCase};
 pub use rolls::{

@@ -2,9 +2,9 @@
 //! through the calls that hand it on.
 
 use eif::raw;
-use eif::{Arriving, DataLength, Place, Plan, Refusal, SectionType, Stream, StreamPosition};
+use eif::{DataLength, Place, Plan, SectionType, Stream, StreamPosition};
 use eif_cases::{located_images, located_plans, located_rolls, worked_image, Answer};
-use eif_check::{parts, refused, refused_reading};
+use eif_check::{check_refused_image, parts, refused};
 
 /// Every number in the answers, once.
 fn numbers(answers: impl Iterator<Item = Answer>) -> Vec<u8> {
@@ -14,54 +14,15 @@ fn numbers(answers: impl Iterator<Item = Answer>) -> Vec<u8> {
     numbers
 }
 
-/// What every call on a refused image answers, by name.
-fn every_answer(image: &[u8]) -> Vec<(&'static str, Result<(), Refusal>)> {
-    let mut arriving = Arriving::new();
-    arriving.feed(image);
-    let mut out = [0xaa; 16];
-    let mut answers = vec![
-        ("read", eif::read(image).map(|_| ())),
-        ("strict", eif::read_strict(image).map(|_| ())),
-        ("arriving", arriving.finish().map(|_| ())),
-        ("registers", eif::registers(image).map(|_| ())),
-        ("roll length", eif::roll_length(image).map(|_| ())),
-        ("roll", eif::write_roll(image, &mut out).map(|_| ())),
-    ];
-    for stream in Stream::ALL {
-        let length = eif::stream_length(image, stream);
-        answers.push(("stream length", length.map(|_| ())));
-        let past = StreamPosition(u64::MAX);
-        let copied = eif::copy_stream(image, stream, past, &mut out);
-        answers.push(("stream", copied.map(|_| ())));
-    }
-    assert_eq!(out, [0xaa; 16]);
-    answers
-}
-
+/// The position is the one thing beside number and index that is not zero (with the first ramdisk, 32).
 #[test]
 fn images() {
     for case in located_images() {
-        for (call, answer) in every_answer(&case.image) {
-            let answer = answer.map_err(parts);
-            assert_eq!(answer, Err(case.answer), "{}, {call}", case.name);
-        }
+        check_refused_image(case.name, &case.image, case.answer);
     }
     // 1 stands in the tests of the limits.
     let all: Vec<u8> = (2..=13).chain([20]).collect();
     assert_eq!(numbers(located_images().iter().map(|c| c.answer)), all);
-}
-
-/// The position is the one thing beside number and index that is not zero (with the first ramdisk, 32).
-#[test]
-fn all_else_is_zero() {
-    for case in located_images() {
-        let reading = refused_reading(case.answer);
-        assert_eq!(raw::read(&case.image), reading, "{}", case.name);
-        let registers = refused!(raw::RegistersAnswer, case.answer);
-        assert_eq!(raw::registers(&case.image), registers, "{}", case.name);
-        let length = refused!(raw::Answer, case.answer);
-        assert_eq!(raw::roll_length(&case.image), length, "{}", case.name);
-    }
 }
 
 #[test]
