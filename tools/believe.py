@@ -2,8 +2,9 @@
 """Lists the definitions that must be believed, and keeps the table of README.md.
 
 Run in the repository's root: tools/believe.py writes the table between the two marks in README.md. With --check nothing is written, and the
-exit status is 1 where the table differs, where a public function has a `requires` or lacks an `ensures`, or where one of these definitions
-stands in no specs folder. With --names every definition is printed, file by file, and then those that stand in no specs folder.
+exit status is 1 where the table differs, where a public function has a `requires` or lacks an `ensures`, where a public function that does more
+than print has no contract, or where one of these definitions stands in no specs folder. With --names every definition is printed, file by
+file, and then those that stand in no specs folder.
 
 Statements are the contracts of the public functions of the libraries, and the laws that docs/PROMISES.md names. Libraries are all crates but
 programs and what only the programs that run cases stand on. A definition must be believed where a statement names it, or a definition that
@@ -18,6 +19,8 @@ sys.dont_write_bytecode = True
 from map import CRATES, read_crates
 
 README, PROMISES = Path("README.md"), Path("docs/PROMISES.md")
+# crates with public functions that only print: these return nothing and have no contract
+PRINTERS = ("eif_print", "case_lines")
 BEGIN, END = "<!-- written by tools/believe.py -->", "<!-- to here -->"
 
 USE = re.compile(r"^(?:ghost )?use Rattle·(\w+)(?:·\w+)?\.(specs|proofs)\.([\w.-]+)\.\{([^}]*)\}", re.M)
@@ -121,6 +124,7 @@ def is_library(crates, name):
 class Tree:
     def __init__(self):
         crates = read_crates(Path(CRATES).read_text(encoding="utf-8"))
+        self.crates = list(crates)
         self.libraries = [name for name in crates if is_library(crates, name)]
         self.sources = {}
 
@@ -130,24 +134,31 @@ class Tree:
             self.sources[place] = Source(place) if there else None
         return self.sources[place]
 
-    def functions(self):
-        """The head of each public function, contract included, with what its file imports."""
-        for crate in self.libraries:
+    def functions(self, crates):
+        """The head of each public function of these crates, contract included, with what its file imports."""
+        for crate in crates:
             for path in sorted(Path("crates", crate, "src").rglob("*.rt")):
                 text = read(path)
                 yield from ((function, imports(text)) for function in FUNCTION.findall(text))
 
     def contracts(self):
         """What the contracts of public functions name."""
-        for function, scope in self.functions():
+        for function, scope in self.functions(self.libraries):
             yield from (scope[word] for word in words(function) if word in scope)
 
     def lacking(self):
         """Public functions that ask something of their caller, or say nothing of their answer or of a buffer that they are lent."""
-        for function, _ in self.functions():
+        for function, _ in self.functions(self.libraries):
             head = re.split("requires|ensures", function)[0]
             if "requires" in function or function.count("ensures") < ("->" in head) + head.count("&mut"):
                 yield " ".join(head.split())
+
+    def without_contract(self):
+        """Public functions of any crate that have no contract and do more than print."""
+        printers = {function for function, _ in self.functions(PRINTERS) if "->" not in function and "&mut" not in function}
+        for function, _ in self.functions(self.crates):
+            if "ensures" not in function and function not in printers:
+                yield " ".join(function.split())
 
     def laws(self):
         """The laws whose names stand in docs/PROMISES.md. One that is named alone has a hyphen in its name, and is of the file that its line
@@ -222,6 +233,8 @@ def main():
     if sys.argv[1:] == ["--check"]:
         for function in tree.lacking():
             sys.exit(f"a public function asks something of its caller, or its contract lacks an equation: {function}")
+        for function in tree.without_contract():
+            sys.exit(f"a public function has no contract: {function}")
         for one in tree.outside(found):
             sys.exit(f"a law's statement rests on a definition that stands in no specs folder: {'/'.join(('crates', *one))}")
         if now != text:

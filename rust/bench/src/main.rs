@@ -2,7 +2,7 @@
 //! common programs where the machine has them: tables in Markdown, and plots.
 //!
 //! All that stand in one row are called on the same inputs in one run, in turn, and the one that goes first
-//! changes from round to round. The word `json` on the command line measures JSON texts alone.
+//! changes from round to round. The word `checksum` or `json` on the command line measures that alone.
 
 mod arriving;
 mod checksum;
@@ -79,7 +79,12 @@ fn main() -> io::Result<()> {
     let folder = PathBuf::from(env::var_os("BENCH_PLOTS").unwrap_or_else(|| ".".into()));
     fs::create_dir_all(&folder)?;
     println!("Machine: {}.", machine());
-    if env::args().any(|word| word == "json") {
+    let asked_for = |part: &str| env::args().any(|word| word == part);
+    if asked_for("checksum") {
+        checksum_alone();
+        return Ok(());
+    }
+    if asked_for("json") {
         texts_beside_twin();
         texts_beside_programs();
         return Ok(());
@@ -97,12 +102,7 @@ fn main() -> io::Result<()> {
     println!();
     println!("Reading an image, beside the checksum alone of other libraries over as many bytes.");
     reading::by_length(&reading_lengths(), &folder)?;
-    println!();
-    println!(
-        "The checksum alone: what feeding a slice to an arriving image takes, less feeding it nothing."
-    );
-    let [short, long] = [[8, 64, 200, HEADER], [4 * KIB, 16 * KIB, 64 * KIB, MIB]];
-    checksum::by_length(&[&short[..], &long, &[16 * MIB]].concat());
+    checksum_alone();
     arriving_in_pieces();
     copying();
     hashing_beside_twin();
@@ -112,6 +112,16 @@ fn main() -> io::Result<()> {
     texts_beside_twin();
     texts_beside_programs();
     Ok(())
+}
+
+fn checksum_alone() {
+    println!();
+    println!(
+        "The checksum alone: what feeding a slice to an arriving image takes, past the headers that it keeps, less feeding \
+         it nothing."
+    );
+    let [short, long] = [[8, 64, 200, HEADER], [4 * KIB, 16 * KIB, 64 * KIB, MIB]];
+    checksum::by_length(&[&short[..], &long, &[16 * MIB]].concat());
 }
 
 fn texts_beside_twin() {

@@ -7,7 +7,7 @@ use eif::{Arriving, DataLength, Place, Plan, SectionType, MAX_IMAGE_LENGTH};
 use eif_cases::{
     flags_record, put, record, zero_image, zero_image_start, Answer, RECORD_HEAD, SHORTEST,
 };
-use eif_check::{compare_image, parts, Rng, Tally};
+use eif_check::{check_refused_image, compare_image, parts, Rng, Tally};
 use eif_twin as twin;
 
 const TOO_LONG: Answer = (1, 0, 0);
@@ -20,8 +20,13 @@ fn read() {
     let lengths: Vec<u64> = image.sections().iter().map(|s| s.length.0).collect();
     assert_eq!(lengths, [0, (MAX_IMAGE_LENGTH - SHORTEST) as u64]);
     assert!(twin::read(&longest).is_ok());
+}
+
+/// Every call that takes an image refuses one byte more.
+#[test]
+fn one_byte_more() {
     let longer = zero_image(MAX_IMAGE_LENGTH + 1);
-    assert_eq!(eif::read(&longer).map_err(parts).unwrap_err(), TOO_LONG);
+    check_refused_image("one byte more", &longer, TOO_LONG);
 }
 
 /// Feeds zeros until so many bytes were taken.
