@@ -21,19 +21,19 @@ pub record Row : Type 0 where
   pub answer : RollReading
 
 -- the records of the worked roll
-abbrev noFlags : List ℕ
+abbrev pub noFlags : List ℕ
 noFlags = flagsRecord 0
 
-abbrev kernelRecord : List ℕ
+abbrev pub kernelRecord : List ℕ
 kernelRecord = headOf 1 1 ++ (0x4b ∷ [])
 
 abbrev commandLineRecord : List ℕ
 commandLineRecord = headOf 1 2 ++ (0x61 ∷ [])
 
-abbrev ramdiskRecord : List ℕ
+abbrev pub ramdiskRecord : List ℕ
 ramdiskRecord = headOf 0 3
 
-abbrev endRecord : List ℕ
+abbrev pub endRecord : List ℕ
 endRecord = headOf 0 0
 
 -- 42 bytes that FORMAT.md prints, which follow the flags record
@@ -87,7 +87,7 @@ rollRows =
     ∷ []
 
 -- a flags record, kernel, command line and thirty empty ramdisks; and what is listed of these ramdisks
-abbrev fullRoll : List ℕ
+abbrev pub fullRoll : List ℕ
 fullRoll = noFlags ++ kernelRecord ++ commandLineRecord ++ joined (replicate 30 ramdiskRecord)
 
 abbrev ramdisksFrom : ℕ → ℕ → List RollRecord

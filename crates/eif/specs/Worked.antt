@@ -112,7 +112,7 @@ abbrev changedImage : ℕ → List ℕ → Verdict → RefusedImage
 changedImage at bytes verdict = refusedImage (over workedImage at bytes) verdict
 
 -- the checksum's last byte is another: only the field differs, and not what it is taken over
-abbrev otherChecksum : List ℕ
+abbrev pub otherChecksum : List ℕ
 otherChecksum = over workedImage 547 (0 ∷ [])
 
 -- 2 to 5; 6 and 20 at section 1, 7 at section 2; 8, 9 at section 1, 10 at section 0, 11 at section 2; 12, 20
@@ -133,24 +133,13 @@ judgedBefore13 =
     ∷ refusedImage (workedImage ++ 0 ∷ []) (refuseAt 20 0 586)
     ∷ []
 
--- two faults, of which the first is told: 2 and 3, 3 and 4, 4 and 5; 20 and 7, 8 and 9 at section 1; 11 at section 1 and 12
-abbrev judgedInOrder : List RefusedImage
-judgedInOrder =
-    refusedImage (take 547 (over workedImage 3 (0x67 ∷ []))) (refuseAt 2 0 0)
-    ∷ changedImage 3 (0x67 ∷ 0 ∷ 5 ∷ []) (refuseAt 3 0 0)
-    ∷ changedImage 5 (5 ∷ replicate 21 0 ++ 33 ∷ []) (refuseAt 4 0 4)
-    ∷ refusedImage (over (over workedImage 42 (2 ∷ 0x32 ∷ [])) 299 (255 ∷ [])) (refuseAt 20 1 36)
-    ∷ changedImage 562 (6 ∷ replicate 9 0 ++ 2 ∷ []) (refuseAt 8 1 561)
-    ∷ changedImage 562 (1 ∷ []) (refuseAt 11 1 561)
-    ∷ []
-
--- these and 13
+-- these and 13; the order of two faults at once: `eif_laws/specs/Orders`
 abbrev pub refusedImages : List RefusedImage
-refusedImages = judgedBefore13 ++ judgedInOrder ++ refusedImage otherChecksum (refuseAt 13 0 544) ∷ []
+refusedImages = judgedBefore13 ++ refusedImage otherChecksum (refuseAt 13 0 544) ∷ []
 
 pub refusals-hold : map (λ (r : RefusedImage). verdictOf (r .image)) refusedImages ≡ map (λ (r : RefusedImage). r .verdict) refusedImages
 unfolding over verdictIn early judged positionIn headerFault fieldFault firstRefusal sectionFault entryFault allowedIn orderFault seen missingFault tailFault missing checksumFault field beValue checksumOf
-refusals-hold = ap (λ (sum : ℕ). map (λ (r : RefusedImage). verdictOf (r .image)) (judgedBefore13 ++ judgedInOrder) ++ verdictIn (viewOf otherChecksum) sum ∷ []) worked-checksum
+refusals-hold = ap (λ (sum : ℕ). map (λ (r : RefusedImage). verdictOf (r .image)) judgedBefore13 ++ verdictIn (viewOf otherChecksum) sum ∷ []) worked-checksum
 
 abbrev pub workedSection : ℕ → ℕ → ℕ → Section
 workedSection kind position size = record { kind = kind; flags = 0; position = record { 0 = position }; length = record { 0 = size } }
