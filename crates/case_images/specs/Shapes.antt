@@ -3,7 +3,7 @@
 use Prim.Native.Nat.{ℕ, zero, suc, _+_, _*_, _-_, min}
 use mathlib.Core.List.{List}
 use lib.ListN.{length, take, drop, getD, replicate}
-use Rattle.eif.specs.Layout.{headerSize, sectionHeaderSize, checksumAt}
+use Rattle.eif.specs.Layout.{headerSize, sectionHeaderSize}
 use Rattle.eif_checksum.specs.Put.{withChecksum}
 use Rattle.case_images.specs.Build.{withHeader, withSection}
 use Rattle.case_images.specs.declared.Shape.{Shape}
@@ -53,4 +53,4 @@ withoutChecksum s shape bytes =
 
 -- these and the checksum of the image, which is the first bytes of the buffer
 abbrev pub withImage : List ℕ → Shape → List ℕ → List ℕ
-withImage s shape bytes = withChecksum (withoutChecksum s shape bytes) (min (endOf shape (length bytes)) (length s)) checksumAt
+withImage s shape bytes = withChecksum (withoutChecksum s shape bytes) (min (endOf shape (length bytes)) (length s))

@@ -3,7 +3,6 @@
 ghost use mathlib.Core.Path.{_≡_};
 ghost use Prim.Native.Nat.{_≤_, min};
 ghost use lib.ListN.{length, take};
-ghost use Rattle.eif.specs.Layout.{checksumAt};
 ghost use Rattle.eif.specs.Worked.{workedPlan};
 ghost use Rattle.eif_checksum.specs.Put.{withChecksum};
 ghost use Rattle.case_images.specs.Build.{withHeader, withEntry, withOwnHeader, withSection, placeWith};
@@ -57,10 +56,10 @@ pub fn put_section(image: &mut [u8], i: u8, at: u32, kind: u16, flags: u16, lent
 
 // The right checksum of the whole buffer, in its place.
 pub fn put_checksum(image: &mut [u8])
-    ensures { λ _. ⌜ now (image .exit) ≡ withChecksum (now (image .entry)) (length (now (image .entry))) checksumAt ⌝ }
+    ensures { λ _. ⌜ now (image .exit) ≡ withChecksum (now (image .entry)) (length (now (image .entry))) ⌝ }
 {
     let size = image.len();
-    eif_checksum::put(image, size, Header::CHECKSUM_AT);
+    eif_checksum::put(image, size);
 }
 
 // A place of a plan.
@@ -254,6 +253,6 @@ pub fn put_image(image: &mut [u8], shape: Shape, lent: &[u8]) -> usize
     let lengths = shape.lengths;
     let end = put_sections(image, shape.count, kinds, own_flags, lengths, lent);
     let size = octets::lesser(end, image.len());
-    eif_checksum::put(image, size, Header::CHECKSUM_AT);
+    eif_checksum::put(image, size);
     size
 }

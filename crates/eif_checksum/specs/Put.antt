@@ -5,8 +5,9 @@ use mathlib.Core.List.{List}
 use lib.ListN.{take}
 use Rattle.octets.specs.Bytes.{beBytes}
 use Rattle.octets.specs.Over.{over}
+use Rattle.eif.specs.Layout.{checksumAt}
 use Rattle.eif.specs.Reading.{checksumOf}
 
--- a buffer with the checksum of the image that its first bytes are, at a position
-unfoldable pub withChecksum : List ℕ → ℕ → ℕ → List ℕ
-withChecksum d size at = over d at (beBytes 4 (checksumOf (take size d)))
+-- a buffer whose first `size` bytes are an image, with the checksum of that image in its place
+unfoldable pub withChecksum : List ℕ → ℕ → List ℕ
+withChecksum d size = over d checksumAt (beBytes 4 (checksumOf (take size d)))

@@ -37,11 +37,11 @@ pub fn checksum(image: &[u8]) -> u32
     crc32_fold::finish(crc32_fold::update(before, back(image)))
 }
 
-// The checksum of the image that the first bytes are, put at a position; Header::CHECKSUM_AT is its place.
-pub fn put(image: &mut [u8], size: usize, at: usize)
-    ensures { λ _. ⌜ now (image .exit) ≡ withChecksum (now (image .entry)) size at ⌝ }
+// Puts the checksum of the image that the first `size` bytes are into its place.
+pub fn put(image: &mut [u8], size: usize)
+    ensures { λ _. ⌜ now (image .exit) ≡ withChecksum (now (image .entry)) size ⌝ }
 {
     let end = octets::lesser(size, image.len());
     let sum = checksum(&image[..end]);
-    octets::put_be32(image, at, sum);
+    octets::put_be32(image, Header::CHECKSUM_AT, sum);
 }

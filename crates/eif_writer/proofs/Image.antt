@@ -106,7 +106,7 @@ module _ (p : Plan) (given d a b : List ℕ) (sized : length given ≡ dataBefor
         (ap (take checksumAt) (append-assoc head gap body) ∙ take-at head (gap ++ body) checksumAt (length-header p))
         (drop-at (head ++ gap) body headerSize length-front)
 
-    pub with-checksum-plain : withChecksum b (plainSize p) checksumAt ≡ over d 0 (plainImage p given)
+    pub with-checksum-plain : withChecksum b (plainSize p) ≡ over d 0 (plainImage p given)
     unfolding withChecksum plainImage
     with-checksum-plain =
         let l = length-body in

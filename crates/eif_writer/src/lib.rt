@@ -154,7 +154,7 @@ pub fn write(plan: Plan, lent: &[u8], out: &mut [u8]) -> Written
     let places = plan.places;
     put_header(out, plan);
     put_sections(out, places, plan.count as usize, lent);
-    eif_checksum::put(out, total as usize, Header::CHECKSUM_AT);
+    eif_checksum::put(out, total as usize);
     Written {
         verdict,
         length: total,

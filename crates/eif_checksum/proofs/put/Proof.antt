@@ -9,6 +9,7 @@ use lib.ListN.{take, length-take}
 use Rattle.octets.specs.Bytes.{beBytes}
 use Rattle.octets.specs.Over.{over}
 use Rattle.octets.proofs.Lists.{take-min}
+use Rattle.eif.specs.Layout.{checksumAt}
 use Rattle.eif.specs.Reading.{checksumOf}
 use Rattle.eif_checksum.specs.Put.{withChecksum}
 use Rattle.eif_checksum.proofs.put.Statement.{statement}
@@ -21,7 +22,7 @@ returns c =
     let d = now (q .args .image) in
     let e = ap (λ (n : ℕ). take n d) (c .before .before .before .before .before .before .lesser .ensures) ∙ take-min (q .args .size) d in
     c .before .before .put-be32 .ensures
-    ∙ ap (λ (n : ℕ). over d (q .args .at) (beBytes 4 n)) (c .before .before .before .before .checksum .ensures ∙ ap checksumOf e)
+    ∙ ap (λ (n : ℕ). over d checksumAt (beBytes 4 n)) (c .before .before .before .before .checksum .ensures ∙ ap checksumOf e)
 
 pub put-spec : {M : Type 1} → statement M
 put-spec =

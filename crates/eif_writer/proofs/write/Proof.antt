@@ -18,7 +18,6 @@ use Rattle.eif_checksum.specs.Put.{withChecksum}
 use Rattle.eif_writer.proofs.Image.{with-checksum-plain}
 use Rattle.eif_writer.proofs.write.Statement.{statement}
 use Rattle.eif_writer.proofs.write.Tie as tie
-use Rattle.eif.specs.Layout.{checksumAt}
 
 module _ (c : tie.After-judge) where
   abbrev plan : Plan
@@ -76,7 +75,7 @@ returns-3 c =
     let room : plainSize (plan (j s)) ≤ length (out (j s)) = omega arith in
     let r = wrote-fine (verdict (j s)) (plainSize (plan (j s))) (image (j s)) (out (j s)) (ok s) room in (
       ap₂ (λ (v : Verdict) (m : ℕ). record { verdict = v; length = m }) (s .before .enum-told .given .1) n ∙ r .0,
-      z .put .ensures ∙ ap (λ (m : ℕ). withChecksum (y .put-sections .last .0) m checksumAt) n
+      z .put .ensures ∙ ap (λ (m : ℕ). withChecksum (y .put-sections .last .0) m) n
           ∙ with-checksum-plain (plan (j s)) (lent (j s)) (out (j s)) (x .put-header .last .0) (y .put-sections .last .0) (planned s .sized) room (x .put-header .ensures) (y .put-sections .ensures)
           ∙ r .1,
     )
