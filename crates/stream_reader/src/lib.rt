@@ -4,7 +4,6 @@ ghost use mathlib.Core.Path.{_≡_};
 ghost use Prim.Native.Nat.{_+_, _-_, _^_, _<_, _≤_, min};
 ghost use lib.ListN.{length, drop};
 ghost use Rattle.octets.specs.Over.{over};
-ghost use Rattle.eif.specs.Numbers.{placeCount};
 ghost use Rattle.eif.specs.Reading.{ramdiskIn, dataOf};
 ghost use Rattle.eif.specs.Stream.{laterRamdisk, keeps, sectionsAnswer, listedBytes, copyAnswer, copyOutput, copyListedAnswer, copyListedOutput, lengthAnswer};
 use eif::Copied;
@@ -54,15 +53,6 @@ fn is_kept(stream: Stream, kind: u16, before: usize) -> bool
     }
 }
 
-// The place in the list of a section that is kept: after those listed before it. It could look at the type and at the ramdisks before
-// and looks at neither, so that the list is in file order.
-fn place_in_list(kind: u16, before: usize, listed: usize) -> usize
-    requires { ⌜ before ≤ placeCount ⌝ }
-    ensures { λ r. ⌜ r ≡ listed ⌝ }
-{
-    listed
-}
-
 // The sections of a stream among those of a reading, whatever reading that is.
 pub fn sections(all: [Section; PLACES], stream: Stream) -> StreamSections
     ensures { λ r. ⌜ r ≡ sectionsAnswer stream all ⌝ }
@@ -74,8 +64,7 @@ pub fn sections(all: [Section; PLACES], stream: Stream) -> StreamSections
     while i < PLACES {
         let next = all[i];
         if is_kept(stream, next.kind, before) {
-            let place = place_in_list(next.kind, before, count);
-            list[place] = next;
+            list[count] = next;
             count += 1;
         }
         before += ramdisk_in(next.kind);

@@ -62,8 +62,8 @@ loop-again c =
     let m : length (keptSoFar stream all (l .i) ++ (x ∷ [])) ≡ length (keptSoFar stream all (l .i)) + 1 = length-append (keptSoFar stream all (l .i)) (x ∷ []) in
     let f = kept-few stream all (l .i) (omega arith) in (
       omega arith,
-      w .3 ∙ ap (λ (n : ℕ). n + 1) (l .inv .1) ∙ sym m ∙ ap length (sym e),
-      w .2 ∙ ap₂ (λ (t : List Section) (n : ℕ). set t n x) (l .inv .2) (w .1 .ensures) ∙ table-next (keptSoFar stream all (l .i)) x (l .count) (l .inv .1) (omega arith) ∙ ap (inTable blankSection) (sym e),
+      w .2 ∙ ap (λ (n : ℕ). n + 1) (l .inv .1) ∙ sym m ∙ ap length (sym e),
+      w .1 ∙ ap (λ (t : List Section). set t (l .count) x) (l .inv .2) ∙ table-next (keptSoFar stream all (l .i)) x (l .count) (l .inv .1) (omega arith) ∙ ap (inTable blankSection) (sym e),
       r,
       omega arith,
     ))
@@ -100,10 +100,9 @@ sections-spec =
     (λ c. omega arith)
     (λ c. omega arith)
     (λ c κs. search needs)
-    (λ c κs. search needs)
-    (λ c. omega (arith, room (c .before)))
-    (λ c. omega (arith, room (c .before)))
-    (λ c. omega (arith, room (c .before)))
+    (λ c. omega (arith, room c))
+    (λ c. omega (arith, room c))
+    (λ c. omega (arith, room c))
     (λ c κs. search needs)
     add-before
     (λ c. omega arith)
