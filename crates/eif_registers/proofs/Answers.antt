@@ -1,14 +1,15 @@
 -- The registers of an image by the step over sections with its streams, as its own reading has them; and the answers.
 -- Assumes nothing.
 use Prim.Native.Nat.{ℕ, _≤_}
-use mathlib.Core.Path.{_≡_, refl, ap, _∙_}
+use mathlib.Core.Path.{_≡_, refl, sym, ap, _∙_}
 use mathlib.Core.List.{List, [], _∷_, map}
 use native.Mathlib.Omega.{arith}
 use lib.ListN.{length, getD}
 use Rattle.octets.specs.Lists.{joinedBy}
 use Rattle.eif.specs.Numbers.{sizeLimit, placeCount}
-use Rattle.eif.specs.Layout.{countOf}
-use Rattle.eif.specs.Reading.{verdictOf, sectionsOf, sectionAt, blankSection, dataOf, readImage}
+use Rattle.eif.specs.Answers.{beside}
+use Rattle.eif.specs.Layout.{countOf, viewOf}
+use Rattle.eif.specs.Reading.{verdictOf, sectionsOf, sectionAt, blankSection, dataOf, readImage, readingOf}
 use Rattle.eif.specs.Stream.{streamSections, streamOf}
 use Rattle.eif.specs.declared.Reading.{Reading}
 use Rattle.eif.specs.declared.Refusal.{Refusal}
@@ -20,9 +21,9 @@ use Rattle.eif.specs.Order.{firstThatApplies, imageRules}
 use Rattle.eif_laws.proofs.FirstApplies.{read-first}
 use Rattle.eif_lemmas.proofs.Table.{length-filled}
 use Rattle.eif_lemmas.proofs.Accept.{passes}
-use Rattle.eif_lemmas.proofs.Reading.{reading-accepted}
+use Rattle.eif_lemmas.proofs.Reading.{reading-accepted, verdict-is}
 use Rattle.sha384_block.specs.Fips.{sha384}
-use Rattle.eif_registers.specs.Registers.{registerFrom, registerOf, measuredStreams, imageRegisters, noRegisters, registersFor, registersBeside, registersAnswer, stepRegister, stepRegisters}
+use Rattle.eif_registers.specs.Registers.{registerFrom, registerOf, measuredStreams, imageRegisters, noRegisters, asDigest, registersFor, registersBeside, registersAnswer, stepRegister, stepRegisters, readRegisters}
 use Rattle.eif_registers.specs.declared.Measurement.{Measurement}
 use Rattle.eif_registers.proofs.Hashed.{digest-joined}
 use Rattle.stream_reader.proofs.Answers.{stream-bound}
@@ -41,13 +42,38 @@ module _ (held : Section → List ℕ) (l : List Section) (t : List ℕ) (small 
   unfolding stepRegisters imageRegisters
   registers-are = λ u. map (λ stream. register-is stream u) measuredStreams
 
+-- the step over a reading that is refused, and over any other
+module _ (s : List ℕ) (x : Reading) where
+  pub read-refused : (r : Refusal) → x .verdict ≡ Refused r → noRegisters ≡ readRegisters s x
+  unfolding readRegisters
+  read-refused r e = simp e
+
+  pub read-accepted : x .verdict ≡ Accepted → stepRegisters (dataOf s) (x .sections) ≡ readRegisters s x
+  unfolding readRegisters
+  read-accepted e = simp e
+
 module _ (s : List ℕ) where
   -- the step over the image's own reading
-  pub step-is : verdictOf s ≡ Accepted → (r : Reading) → r ≡ readImage s → stepRegisters (dataOf s) (r .sections) ≡ imageRegisters s
+  pub step-is : verdictOf s ≡ Accepted → (r : Reading) → r ≡ readImage s → readRegisters s r ≡ imageRegisters s
   unfolding streamOf
   step-is ok r is =
-      ap (λ (x : Reading). stepRegisters (dataOf s) (x .sections)) (is ∙ reading-accepted s ok)
+      let e : r ≡ readingOf (viewOf s) Accepted = is ∙ reading-accepted s ok in
+      sym (read-accepted s r (ap (λ (x : Reading). x .verdict) e))
+      ∙ ap (λ (x : Reading). stepRegisters (dataOf s) (x .sections)) e
       ∙ registers-are (dataOf s) (sectionsOf s) s (passes s ok .head .small) (λ stream. refl)
+
+  agrees-by : (v : Verdict) → verdictOf s ≡ v → readRegisters s (readImage s) ≡ beside (verdictOf s) (imageRegisters s) noRegisters
+  agrees-by (Refused r) e =
+      let z : noRegisters ≡ beside (verdictOf s) (imageRegisters s) noRegisters = rw e refl in
+      sym (read-refused s (readImage s) r (verdict-is s (readImage s) refl ∙ e)) ∙ z
+  agrees-by Accepted e =
+      let z : imageRegisters s ≡ beside (verdictOf s) (imageRegisters s) noRegisters = rw e refl in
+      step-is e (readImage s) refl ∙ z
+
+  -- the step over an image's own reading gives the registers that the image's answer has, zeros where it is refused
+  pub step-agrees : map asDigest (readRegisters s (readImage s)) ≡ registersAnswer s .registers
+  unfolding registersAnswer
+  step-agrees = ap (map asDigest) (agrees-by (verdictOf s) refl)
 
   -- the order: the image's own rules
   pub registers-first : registersAnswer s .verdict ≡ firstThatApplies (imageRules s)

@@ -4,8 +4,9 @@ use Prim.Native.Nat.{ℕ}
 use mathlib.Core.List.{List, [], _∷_, _++_, map}
 use lib.ListN.{length, replicate}
 use Rattle.eif.specs.Answers.{beside}
-use Rattle.eif.specs.Reading.{verdictOf}
+use Rattle.eif.specs.Reading.{verdictOf, dataOf}
 use Rattle.eif.specs.Stream.{streamSections, streamOf}
+use Rattle.eif.specs.declared.Reading.{Reading}
 use Rattle.eif.specs.declared.Section.{Section}
 use Rattle.eif.specs.declared.Stream.{Stream}
 use Rattle.eif.specs.declared.Stream.the-variants.{Whole, Boot, App}
@@ -68,3 +69,7 @@ stepRegister held l stream = registerFrom (digestFrom (hashed held initialState 
 
 unfoldable pub stepRegisters : (Section → List ℕ) → List Section → List (List ℕ)
 stepRegisters held l = map (stepRegister held l) measuredStreams
+
+-- the registers of an image s that was read already, from its reading; all zero for a refused reading
+unfoldable pub readRegisters : List ℕ → Reading → List (List ℕ)
+readRegisters s r = beside (r .verdict) (stepRegisters (dataOf s) (r .sections)) noRegisters

@@ -9,14 +9,14 @@ use Rattle.eif.specs.Numbers.{kernel, commandLine, ramdisk}
 use lib.ListN.{replicate}
 use Rattle.eif.specs.Answers.{refuse}
 use Rattle.eif.specs.Rules.{fieldFault}
-use Rattle.eif.specs.Reading.{headerFault, judged, early, verdictIn, positionIn}
+use Rattle.eif.specs.Reading.{blankReading, headerFault, judged, early, verdictIn, positionIn}
 use Rattle.eif.specs.Table.{inTable, joinFrom}
 use Rattle.eif.specs.Layout.{packedBy}
 use Rattle.eif.specs.Plan.{dataBefore, fixedFields, tableBytes, headerBytes, sectionHeader, plainImage}
 use Rattle.eif.specs.Stream.{kept, keeps, streamOf}
 use Rattle.eif.specs.Worked.{workedPlace, planOver}
 use Rattle.sha384_block.specs.Fips.{ch, maj, bigSigma0, bigSigma1, smallSigma0, smallSigma1, roundConstants, padding, initialHash, nextWord, extend, wordsFrom, schedule, temp1, temp2, round, rounds, compressBy, hashBlocks, digestOf, sha384}
-use Rattle.eif_registers.specs.Registers.{registerFrom, registerOf, imageRegisters, noRegisters, registersAnswer}
+use Rattle.eif_registers.specs.Registers.{registerFrom, registerOf, imageRegisters, noRegisters, registersAnswer, readRegisters}
 
 -- 21b9ef.., as other programs give it
 pub empty-register : registerFrom (sha384 [])
@@ -41,3 +41,8 @@ registers-of-streams = refl
 pub refused-registers : registersAnswer [] ≡ record { verdict = refuse 2 0; registers = replicate 3 (record { 0 = replicate 48 0 }) }
 unfolding registersAnswer noRegisters verdictIn early judged headerFault fieldFault positionIn
 refused-registers = refl
+
+-- and so from a refused reading, whatever the bytes
+pub refused-step : readRegisters (0x4b ∷ []) (blankReading (refuse 13 0)) ≡ replicate 3 (replicate 48 0)
+unfolding readRegisters noRegisters
+refused-step = refl

@@ -11,9 +11,8 @@ ghost use lib.ListN.{take, getD};
 ghost use lib.Seq.{slice};
 ghost use Rattle.eif.specs.Numbers.{placeCount};
 ghost use Rattle.sha384.specs.State.{initialState, digestFrom};
-ghost use Rattle.eif.specs.Reading.{dataOf};
 ghost use Rattle.staged.specs.View.{heldBy};
-ghost use Rattle.eif_registers.specs.Registers.{registerFrom, noRegisters, registersFor, registersAnswer, stagedRegisters, hashed, stepRegisters};
+ghost use Rattle.eif_registers.specs.Registers.{registerFrom, noRegisters, registersFor, registersAnswer, stagedRegisters, hashed, stepRegisters, readRegisters};
 use eif::PLACES;
 use eif::Reading;
 use eif::Section;
@@ -165,10 +164,15 @@ fn step_over<'a>(
     [zeroth, first, second]
 }
 
-// The registers 0, 1 and 2 from an image already read.
+// The registers 0, 1 and 2 from an image already read; all zero for a refused reading.
 pub fn step(image: &[u8], reading: Reading) -> [[u8; DIGEST_SIZE]; 3]
-    ensures { λ r. ⌜ r ≡ stepRegisters (dataOf (now (image .entry))) (reading .sections) ⌝ }
+    ensures { λ r. ⌜ r ≡ readRegisters (now (image .entry)) reading ⌝ }
 {
+    let verdict = reading.verdict;
+    let Verdict::Accepted = verdict else {
+        let none = [0u8; DIGEST_SIZE];
+        return [none, none, none];
+    };
     let all = reading.sections;
     step_over(image, &image[..0], all)
 }
