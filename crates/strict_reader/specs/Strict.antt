@@ -5,6 +5,7 @@ use Prim.Native.Nat.{ℕ, _<_}
 use mathlib.Core.Path.{_≡_}
 use mathlib.Core.Bool.{Bool, true, false, not}
 use mathlib.Core.List.{List, [], _∷_, _++_}
+use mathlib.Core.Logic.{_⊎_}
 use lib.Dec.{eqb}
 use Rattle.eif.specs.Table.{joinFrom}
 use Rattle.json.specs.Verdict.{IsText}
@@ -15,7 +16,7 @@ use Rattle.eif.specs.Numbers.{metadata, metadataNotJson}
 use Rattle.octets.specs.Logic.{both, choose}
 use Rattle.eif.specs.Answers.{refuseAt, andThen}
 use Rattle.eif.specs.Layout.{viewOf, countOf, kindAt}
-use Rattle.eif.specs.Reading.{verdictOf, sectionAt, dataOf, readingOf}
+use Rattle.eif.specs.Reading.{verdictOf, sectionAt, dataOf, readingOf, blankReading, readImage}
 use Rattle.eif.specs.Order.{Rule, rule, imageRules}
 use Rattle.eif.specs.declared.Reading.{Reading}
 use Rattle.eif.specs.declared.Section.{Section}
@@ -59,6 +60,31 @@ strictVerdict s = andThen (verdictOf s) (metadataVerdict s (sectionAt s) (countO
 -- beside a refusal everything is zero
 unfoldable pub readStrict : List ℕ → Reading
 readStrict s = readingOf (viewOf s) (strictVerdict s)
+
+-- ---- the same, said of the grammar: no test and no machine
+
+-- section i is the first metadata section whose data is not one JSON text
+pub record FirstNotText (s : List ℕ) (i : ℕ) : Type 0 where
+  pub is-section : i < countOf s
+  pub is-metadata : kindAt s i ≡ metadata
+  pub no-text : IsText (dataOf s (sectionAt s i)) → ⊥
+  pub texts-before : (j : ℕ) → j < i → kindAt s j ≡ metadata → IsText (dataOf s (sectionAt s j))
+
+-- the ordinary reading: the image is refused, or its metadata is JSON
+pub record ReadAsOrdinary (s : List ℕ) (r : Reading) : Type 0 where
+  pub metadata-json : verdictOf s ≡ Accepted → MetadataIsJson s
+  pub reading : r ≡ readImage s
+
+-- 21 and zeros: the image is accepted, and its first metadata section that is not JSON is refused
+pub record ReadAs21 (s : List ℕ) (r : Reading) : Type 0 where
+  pub ordinary : verdictOf s ≡ Accepted
+  pub index : ℕ
+  pub first : FirstNotText s index
+  pub reading : r ≡ blankReading (refuseMetadata (sectionAt s index) index)
+
+-- r is the stricter reading of s
+abbrev pub StrictlyRead : List ℕ → Reading → Type 0
+StrictlyRead s r = ReadAsOrdinary s r ⊎ ReadAs21 s r
 
 -- ---- the order, as Order.antt of eif has it for the other calls: the image's own rules, then 21 section by section
 

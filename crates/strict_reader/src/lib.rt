@@ -4,7 +4,7 @@ ghost use mathlib.Core.Path.{_≡_};
 ghost use Prim.Native.Nat.{_≤_};
 ghost use Rattle.eif.specs.Reading.{sectionIn};
 ghost use Rattle.eif.specs.Numbers.{placeCount};
-ghost use Rattle.strict_reader.specs.Strict.{notJson, metadataVerdict, readStrict};
+ghost use Rattle.strict_reader.specs.Strict.{notJson, metadataVerdict, readStrict, StrictlyRead};
 use eif::PLACES;
 use eif::Reading;
 use eif::Refusal;
@@ -46,6 +46,7 @@ fn judge(image: &[u8], sections: [Section; PLACES], count: usize) -> Verdict
 // The stricter reading of an image.
 pub fn read_strict(image: &[u8]) -> Reading
     ensures { λ r. ⌜ r ≡ readStrict (now (image .entry)) ⌝ }
+    ensures { λ r. ⌜ StrictlyRead (now (image .entry)) r ⌝ }
 {
     let reading = eif_reader::read(image);
     let verdict = reading.verdict;
