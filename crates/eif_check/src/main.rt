@@ -1,11 +1,16 @@
 // Checks an image of any size that comes over standard input, by the reader that is handed pieces: the rows and refusal lines of
 // eif_show, with a buffer of 32 KiB and a state of less than one.
+ghost use Rattle.eif_check.specs.Pieces.{FirstPastLimit};
 use arriving::Arriving;
 
 const PIECE: usize = 32768;
 
-// So many pieces that an image which fills all of them is too long, whatever follows.
-const PIECES: usize = eif::SIZE_LIMIT / PIECE + 1;
+// How many pieces are read at most: an image that fills all of them is too long, whatever follows.
+fn most_pieces() -> usize
+    ensures { λ r. ⌜ FirstPastLimit r ⌝ }
+{
+    eif::SIZE_LIMIT / PIECE + 1
+}
 
 struct Taken {
     state: Arriving,
@@ -27,7 +32,7 @@ fn take_piece(state: Arriving) -> Taken {
 // The state at the end of the input, or when the image is too long.
 fn arrived() -> Arriving {
     let mut state = arriving::begin();
-    let mut left: usize = PIECES;
+    let mut left = most_pieces();
     while 0 < left {
         let taken = take_piece(state);
         let next = taken.state;
