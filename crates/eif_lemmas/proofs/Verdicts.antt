@@ -10,7 +10,7 @@ use native.Mathlib.Nat.{eq-or-lt-of-le}
 use borrow.Author.Tests.{eq-eqb, ne-eqb, eqb-true}
 use lib.Dec.{eqb}
 use Rattle.octets.specs.Logic.{choose}
-use Rattle.eif.specs.Answers.{refuse, refuseAt, verdictAt, andThen, wholeVerdict}
+use Rattle.eif.specs.Answers.{refuse, refuseAt, verdictAt, andThen}
 use Rattle.eif.specs.Rules.{firstFault, firstRefusal}
 use Rattle.eif.specs.declared.Refusal.{Refusal}
 use Rattle.eif.specs.declared.Verdict.{Verdict}
@@ -55,9 +55,6 @@ zero-accepted n i p e = simp (eq-eqb n 0 e)
 
 pub accepted-zero : (n i p : ℕ) → verdictAt n i p ≡ Accepted → n ≡ 0
 accepted-zero n i p e = eqb-true _ _ (choose-accepted Accepted _ (eqb n 0) e .0)
-
-pub all-accepted : (m n : ℕ) (v : Verdict) → m ≡ 0 → v ≡ Accepted → n ≡ 0 → andThen (wholeVerdict m) (andThen v (wholeVerdict n)) ≡ Accepted
-all-accepted m n v a b c = rw (a, b, c) refl
 
 -- ---- the first refusal, one place further
 
