@@ -45,8 +45,8 @@ pub record OrderedBytes : Type 0 where
   pub verdict : Verdict
   pub next : ℕ
 
-abbrev ordered : List ℕ → Verdict → ℕ → OrderedBytes
-ordered bytes verdict next = record { bytes = bytes; verdict = verdict; next = next }
+abbrev twoFaults : List ℕ → Verdict → ℕ → OrderedBytes
+twoFaults bytes verdict next = record { bytes = bytes; verdict = verdict; next = next }
 
 -- the numbers of both rules
 abbrev numbersOf : OrderedBytes → List ℕ
@@ -57,41 +57,41 @@ numbersOf r = numberOf (r .verdict) ∷ r .next ∷ []
 abbrev pub orderedImages : List OrderedBytes
 orderedImages =
     -- 2 and 3
-    ordered (take 547 (over workedImage 3 (0x67 ∷ []))) (refuseAt 2 0 0) 3
+    twoFaults (take 547 (over workedImage 3 (0x67 ∷ []))) (refuseAt 2 0 0) 3
     -- 3 and 4
-    ∷ ordered (over workedImage 3 (0x67 ∷ 0 ∷ 5 ∷ [])) (refuseAt 3 0 0) 4
+    ∷ twoFaults (over workedImage 3 (0x67 ∷ 0 ∷ 5 ∷ [])) (refuseAt 3 0 0) 4
     -- 4 and 5
-    ∷ ordered (over workedImage 5 (5 ∷ replicate 21 0 ++ 1 ∷ [])) (refuseAt 4 0 4) 5
+    ∷ twoFaults (over workedImage 5 (5 ∷ replicate 21 0 ++ 1 ∷ [])) (refuseAt 4 0 4) 5
     -- 5, and 6 at section 0
-    ∷ ordered (over workedImage 27 (1 ∷ replicate 6 0 ++ 2 ∷ 0x23 ∷ [])) (refuseAt 5 0 26) 6
+    ∷ twoFaults (over workedImage 27 (1 ∷ replicate 6 0 ++ 2 ∷ 0x23 ∷ [])) (refuseAt 5 0 26) 6
     -- 6 and 20 at section 1
-    ∷ ordered (over workedImage 42 (2 ∷ 0x30 ∷ [])) (refuseAt 6 1 36) 20
+    ∷ twoFaults (over workedImage 42 (2 ∷ 0x30 ∷ [])) (refuseAt 6 1 36) 20
     -- 20 and 7 at section 1
-    ∷ ordered (over (over workedImage 42 (2 ∷ 0x32 ∷ [])) 299 (0xff ∷ [])) (refuseAt 20 1 36) 7
+    ∷ twoFaults (over (over workedImage 42 (2 ∷ 0x32 ∷ [])) 299 (0xff ∷ [])) (refuseAt 20 1 36) 7
     -- 7 and 8 at section 2
-    ∷ ordered (over workedImage 307 (1 ∷ [])) (refuseAt 7 2 44) 8
+    ∷ twoFaults (over workedImage 307 (1 ∷ [])) (refuseAt 7 2 44) 8
     -- 8 and 9 at section 1
-    ∷ ordered (over workedImage 562 (6 ∷ replicate 9 0 ++ 2 ∷ [])) (refuseAt 8 1 561) 9
+    ∷ twoFaults (over workedImage 562 (6 ∷ replicate 9 0 ++ 2 ∷ [])) (refuseAt 8 1 561) 9
     -- 8 and 10 at section 0
-    ∷ ordered (over workedImage 549 (3 ∷ replicate 9 0 ++ 2 ∷ [])) (refuseAt 8 0 548) 10
+    ∷ twoFaults (over workedImage 549 (3 ∷ replicate 9 0 ++ 2 ∷ [])) (refuseAt 8 0 548) 10
     -- 8 and 11 at section 2
-    ∷ ordered (over workedImage 575 (1 ∷ replicate 9 0 ++ 1 ∷ [])) (refuseAt 8 2 574) 11
+    ∷ twoFaults (over workedImage 575 (1 ∷ replicate 9 0 ++ 1 ∷ [])) (refuseAt 8 2 574) 11
     -- 9 at section 1, and 6 at section 2
-    ∷ ordered (over (over workedImage 562 (6 ∷ [])) 50 (2 ∷ 0x3d ∷ [])) (refuseAt 9 1 561) 6
+    ∷ twoFaults (over (over workedImage 562 (6 ∷ [])) 50 (2 ∷ 0x3d ∷ [])) (refuseAt 9 1 561) 6
     -- 10 at section 0, and 6 at section 1
-    ∷ ordered (over (over workedImage 549 (3 ∷ [])) 42 (2 ∷ 0x30 ∷ [])) (refuseAt 10 0 548) 6
+    ∷ twoFaults (over (over workedImage 549 (3 ∷ [])) 42 (2 ∷ 0x30 ∷ [])) (refuseAt 10 0 548) 6
     -- 11 at section 1, and 6 at section 2
-    ∷ ordered (over (over workedImage 562 (1 ∷ [])) 50 (2 ∷ 0x3d ∷ [])) (refuseAt 11 1 561) 6
+    ∷ twoFaults (over (over workedImage 562 (1 ∷ [])) 50 (2 ∷ 0x3d ∷ [])) (refuseAt 11 1 561) 6
     -- 9 at the last section, and 12
-    ∷ ordered (over (over workedImage 562 (3 ∷ [])) 575 (6 ∷ [])) (refuseAt 9 2 574) 12
+    ∷ twoFaults (over (over workedImage 562 (3 ∷ [])) 575 (6 ∷ [])) (refuseAt 9 2 574) 12
     -- 10 at the last section, and 12
-    ∷ ordered (take 574 (over (over (over workedImage 549 (2 ∷ [])) 562 (3 ∷ [])) 27 (2 ∷ []))) (refuseAt 10 1 561) 12
+    ∷ twoFaults (take 574 (over (over (over workedImage 549 (2 ∷ [])) 562 (3 ∷ [])) 27 (2 ∷ []))) (refuseAt 10 1 561) 12
     -- 11 at the last section, and 12
-    ∷ ordered (over (over workedImage 562 (3 ∷ [])) 575 (1 ∷ [])) (refuseAt 11 2 574) 12
+    ∷ twoFaults (over (over workedImage 562 (3 ∷ [])) 575 (1 ∷ [])) (refuseAt 11 2 574) 12
     -- 12, and 20 after the last section
-    ∷ ordered (over workedImage 562 (3 ∷ []) ++ 0 ∷ []) (refuseAt 12 0 26) 20
+    ∷ twoFaults (over workedImage 562 (3 ∷ []) ++ 0 ∷ []) (refuseAt 12 0 26) 20
     -- 20 after the last section, and 13
-    ∷ ordered (workedImage ++ 0 ∷ []) (refuseAt 20 0 586) 13
+    ∷ twoFaults (workedImage ++ 0 ∷ []) (refuseAt 20 0 586) 13
     ∷ []
 
 pub images-in-order :
@@ -123,29 +123,29 @@ roll-after-image = (refl, ap (λ (v : Verdict). andThen v (roomVerdict 53 (lengt
 abbrev pub orderedRolls : List OrderedBytes
 orderedRolls =
     -- of the flags record 16 and 17
-    ordered [] (refuseAt 16 0 0) 17
+    twoFaults [] (refuseAt 16 0 0) 17
     -- 17 and 16, its data cut
-    ∷ ordered (headOf 3 256) (refuseAt 17 0 0) 16
+    ∷ twoFaults (headOf 3 256) (refuseAt 17 0 0) 16
     -- 16, its data cut, and 16 at record 1
-    ∷ ordered (take 11 workedRoll) (refuseAt 16 0 0) 16
+    ∷ twoFaults (take 11 workedRoll) (refuseAt 16 0 0) 16
     -- 16 and 17 at record 1
-    ∷ ordered (noFlags ++ replicate 9 0xff) (refuseAt 16 1 12) 17
+    ∷ twoFaults (noFlags ++ replicate 9 0xff) (refuseAt 16 1 12) 17
     -- 17 and 5 at record 33
-    ∷ ordered (fullRoll ++ headOf 0 4) (refuseAt 17 33 334) 5
+    ∷ twoFaults (fullRoll ++ headOf 0 4) (refuseAt 17 33 334) 5
     -- 17 at a record of type 0, and 18
-    ∷ ordered (noFlags ++ headOf 1 0 ++ (0 ∷ 0 ∷ [])) (refuseAt 17 1 12) 18
+    ∷ twoFaults (noFlags ++ headOf 1 0 ++ (0 ∷ 0 ∷ [])) (refuseAt 17 1 12) 18
     -- 5 and 16 at record 33
-    ∷ ordered (fullRoll ++ headOf 1 3) (refuseAt 5 0 334) 16
+    ∷ twoFaults (fullRoll ++ headOf 1 3) (refuseAt 5 0 334) 16
     -- 16 and 10 at record 1
-    ∷ ordered (noFlags ++ headOf 1 3) (refuseAt 16 1 12) 10
+    ∷ twoFaults (noFlags ++ headOf 1 3) (refuseAt 16 1 12) 10
     -- 16 and 11 at record 2
-    ∷ ordered (noFlags ++ kernelRecord ++ headOf 1 1) (refuseAt 16 2 23) 11
+    ∷ twoFaults (noFlags ++ kernelRecord ++ headOf 1 1) (refuseAt 16 2 23) 11
     -- 10 at record 1, and 16 at record 2
-    ∷ ordered (noFlags ++ ramdiskRecord) (refuseAt 10 1 12) 16
+    ∷ twoFaults (noFlags ++ ramdiskRecord) (refuseAt 10 1 12) 16
     -- 11 at record 2, and 16 at record 3
-    ∷ ordered (noFlags ++ kernelRecord ++ kernelRecord) (refuseAt 11 2 23) 16
+    ∷ twoFaults (noFlags ++ kernelRecord ++ kernelRecord) (refuseAt 11 2 23) 16
     -- 18 and 12
-    ∷ ordered (noFlags ++ endRecord ++ (0 ∷ [])) (refuseAt 18 0 22) 12
+    ∷ twoFaults (noFlags ++ endRecord ++ (0 ∷ [])) (refuseAt 18 0 22) 12
     ∷ []
 
 pub rolls-in-order : map (λ (r : OrderedBytes). readRoll (r .bytes) .verdict) orderedRolls ≡ map (λ (r : OrderedBytes). r .verdict) orderedRolls
