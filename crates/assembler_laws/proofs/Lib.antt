@@ -9,3 +9,4 @@ pub mod Repeats
 pub mod Missing
 pub mod Long
 pub mod Refused
+pub mod Witnesses

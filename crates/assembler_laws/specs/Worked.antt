@@ -95,6 +95,47 @@ pub steps-hold :
 unfolding headOf stepAnswer faultOf formed offGrid tooSmall shorterThanAtOpen allHeld sameBytes leField
 steps-hold = refl
 
+-- ---- two rules that apply at once, of which the first is told. No record has both the second 22 and 1, nor both 25 and 26: each asks for another
+-- kind of record
+
+-- states that no call leaves: not open, and yet with a length of 1; open, with buffers that were longer by one at the open
+abbrev notOpenForOne : State
+notOpenForOne = record { opened = 0; length = 1; room = 1; places = 1 }
+
+abbrev openInLongerImage : State
+openInLongerImage = record { opened = 1; length = 1; room = 2; places = 1 }
+
+abbrev openInMoreMarks : State
+openInMoreMarks = record { opened = 1; length = 1; room = 1; places = 2 }
+
+-- 22 for the form before 23, an open and a piece; 23 before the second 22, and before 1 and 24, 25 and 26; the second 22 before 24; 1 before 24; 24
+-- before 25 and before 26, for the image buffer and for the mark buffer; and 24 alone for a mark buffer that is shorter than at the open
+abbrev pub orderedSteps : List WorkedStep
+orderedSteps =
+    workedStep openForOne (headOf 9 1 ++ replicate 9 0) (0 ∷ []) (0 ∷ []) (refuse 22 0)
+    ∷ workedStep notOpen (headOf 7 2 ++ replicate 7 0) (0 ∷ []) (0 ∷ []) (refuse 22 0)
+    ∷ workedStep notOpenForOne (pieceRecord 1 (0x61 ∷ [])) (0 ∷ []) (0 ∷ []) (refuse 23 0)
+    ∷ workedStep openForOne (openRecord 1073741825) (0 ∷ []) (0 ∷ []) (refuse 23 0)
+    ∷ workedStep openForOne (openRecord 1) [] [] (refuse 23 0)
+    ∷ workedStep notOpenForOne closeRecord [] [] (refuse 23 0)
+    ∷ workedStep notOpenForOne (pieceRecord 0 (0x62 ∷ [])) (0x61 ∷ []) (1 ∷ []) (refuse 23 0)
+    ∷ workedStep notOpenForOne closeRecord (0x61 ∷ []) (0 ∷ []) (refuse 23 0)
+    ∷ workedStep openForOne (pieceRecord 1 (0x61 ∷ [])) [] [] (refuse 22 0)
+    ∷ workedStep notOpen (openRecord 1073741825) (0 ∷ []) (0 ∷ []) (refuse 1 0)
+    ∷ workedStep openInLongerImage (pieceRecord 0 (0x62 ∷ [])) (0x61 ∷ []) (1 ∷ []) (refuse 24 0)
+    ∷ workedStep openInMoreMarks (pieceRecord 0 (0x62 ∷ [])) (0x61 ∷ []) (1 ∷ []) (refuse 24 0)
+    ∷ workedStep openInLongerImage closeRecord (0x61 ∷ []) (0 ∷ []) (refuse 24 0)
+    ∷ workedStep openInMoreMarks closeRecord (0x61 ∷ []) (0 ∷ []) (refuse 24 0)
+    ∷ workedStep openInMoreMarks (pieceRecord 0 (0x61 ∷ [])) (0 ∷ []) (0 ∷ []) (refuse 24 0)
+    ∷ workedStep openInMoreMarks closeRecord (0x61 ∷ []) (1 ∷ []) (refuse 24 0)
+    ∷ []
+
+pub order-holds :
+    map (λ (w : WorkedStep). stepAnswer (w .state) (w .sent) (w .image) (w .marks) .verdict) orderedSteps
+    ≡ map (λ (w : WorkedStep). w .verdict) orderedSteps
+unfolding headOf stepAnswer faultOf formed offGrid tooSmall shorterThanAtOpen allHeld sameBytes leField
+order-holds = refl
+
 -- ---- all that an open, a piece and a close answer and leave, with an image buffer of two bytes and a mark buffer of three
 
 abbrev openAnswer : Stepped

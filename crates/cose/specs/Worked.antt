@@ -4,6 +4,7 @@ use mathlib.Core.Path.{_≡_, refl}
 use mathlib.Core.List.{[], _∷_, _++_, map}
 use lib.ListN.{length, replicate}
 use Rattle.eif.specs.Answers.{refuse}
+use Rattle.eif.specs.declared.Verdict.the-variants.{Accepted}
 use Rattle.cose.specs.Write.{sign1Verdict}
 use Rattle.cose.specs.Read.{readSign1, sign1Formed, refusedSign1, signatureStart, algorithmOf, valueStart, indexStart, numberEnd, numberWidth, bytesEnd, byteEnd}
 use Rattle.cose.specs.Cbor.{unsigned, negative, headBytes, stringBytes}
@@ -71,6 +72,10 @@ pub not-read : readSign1 []
 unfolding readSign1 sign1Formed refusedSign1 signatureStart algorithmOf valueStart indexStart numberEnd numberWidth bytesEnd byteEnd signatureSize
 not-read = refl
 
-pub not-written : sign1Verdict workedClaim (replicate 97 0x5a) 300 ∷ sign1Verdict workedClaim (replicate 96 0x5a) 0 ∷ [] ≡ refuse 28 0 ∷ refuse 14 0 ∷ []
+-- 28 comes before 14; and 14 on both sides of the 191 bytes
+pub not-written :
+    sign1Verdict workedClaim (replicate 97 0x5a) 300 ∷ sign1Verdict workedClaim (replicate 96 0x5a) 0 ∷ sign1Verdict workedClaim (replicate 97 0x5a) 0
+    ∷ sign1Verdict workedClaim (replicate 96 0x5a) 190 ∷ sign1Verdict workedClaim (replicate 96 0x5a) 191 ∷ []
+    ≡ refuse 28 0 ∷ refuse 14 0 ∷ refuse 28 0 ∷ refuse 14 0 ∷ Accepted ∷ []
 unfolding sign1Verdict signatureFits signatureSize sign1Bytes protectedBytes payloadBytes indexPair valuePair stringBytes headBytes
 not-written = refl

@@ -1,4 +1,4 @@
--- The texts of FORMAT.md, JSON texts, said of the grammar and of nothing that computes.
+-- The texts of FORMAT.md, JSON texts, and those on both sides of what the grammar allows, said of the grammar and of nothing that computes.
 -- Assumes nothing.
 use mathlib.Core.Path.{_≡_, ap, subst}
 use mathlib.Core.List.{List, [], _∷_, map, headD, tail}
@@ -7,7 +7,7 @@ use Rattle.json.specs.Verdict.{IsVerdict}
 use Rattle.json.specs.declared.JsonVerdict.{JsonVerdict}
 use Rattle.json.specs.declared.JsonVerdict.the-variants.{Text}
 use Rattle.json_machine.specs.Machine.{jsonVerdict}
-use Rattle.json_laws.specs.Worked.{WorkedText, workedTexts, verdicts-hold}
+use Rattle.json_laws.specs.Worked.{WorkedText, workedTexts, verdicts-hold, boundaryTexts, boundaries-hold}
 use Rattle.json_laws.proofs.Laws.{right-verdict}
 
 abbrev IsRight : WorkedText → Type 0
@@ -21,3 +21,6 @@ all-right (t ∷ ts) e = (subst (λ (v : JsonVerdict). IsVerdict (t .bytes) v) (
 -- each verdict is the right one
 pub verdicts-right : All (λ (t : WorkedText). IsVerdict (t .bytes) (t .verdict)) workedTexts
 verdicts-right = all-right workedTexts verdicts-hold
+
+pub boundaries-right : All (λ (t : WorkedText). IsVerdict (t .bytes) (t .verdict)) boundaryTexts
+boundaries-right = all-right boundaryTexts boundaries-hold
