@@ -57,7 +57,8 @@ pub places-shown : map (stagedPlace workedImage 2 2) (0 ∷ 1 ∷ 2 ∷ []) ≡ 
 unfolding stagedPlace stagedVerdict stagedPlan readView packedBy field beValue
 places-shown = rw worked-accepted refl
 
--- 27 for the number of the replaced section and for that of the shown one; an image as long as the longest, one byte more, and 27 before 1
+-- 27 for the number of the replaced section and for that of the shown one, which are one answer and so have no order; an image as long as the
+-- longest, one byte more, and 27 before 1
 pub views-refused :
     stagedVerdict workedImage 0 3 0 ∷ stagedVerdict workedImage 1 0 3
     ∷ stagedVerdict workedImage 1073741238 2 2 ∷ stagedVerdict workedImage 1073741239 2 2 ∷ stagedVerdict workedImage 1073741239 2 3 ∷ []
