@@ -9,3 +9,4 @@ pub mod RollOfImage
 pub mod Listing
 pub mod Demand3
 pub mod Streams
+pub mod Witnesses

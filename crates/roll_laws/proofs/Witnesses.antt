@@ -1,0 +1,63 @@
+-- Rolls and images that the relations of eif's Roll and of specs hold of, and such as they reject, by computation: of the worked image and its roll,
+-- whose kernel's one byte stands at 22. Assumes nothing.
+use mathlib.Core.Path.{_≡_, refl, ap}
+use mathlib.Core.List.{List, [], _∷_, headD}
+use Prim.Native.Nat.{ℕ}
+use native.Mathlib.Omega.{arith}
+use lib.Dec.{lit<, lit≤}
+use lib.ListN.{getD}
+use Rattle.octets.specs.Bytes.{AreBytes, field, beValue, leField}
+use Rattle.octets.specs.Over.{over}
+use Rattle.eif.specs.Table.{inTable}
+use Rattle.eif.specs.Layout.{packedBy}
+use Rattle.eif.specs.Rules.{seen, orderFault, missing}
+use Rattle.eif.specs.Roll.{Record, headOf, flagsRecord, measuredIn, SameBoot, Begins, flagsFault, recordAt, headFault, bodyFault, endFrom, rollFault, readRest, readRoll}
+use Rattle.eif.specs.Rows.{workedRoll}
+use Rattle.eif.specs.Worked.{workedImage, worked-accepted, worked-roll}
+use Rattle.eif.specs.declared.RollReading.{RollReading}
+use Rattle.eif_lemmas.proofs.Verdicts.{never}
+use Rattle.roll_laws.specs.Told.{ImageOf, ReadsList}
+use Rattle.roll_laws.proofs.Demand3.{accepted-exactly-when}
+
+-- ---- the reader's list
+
+list-holds : ReadsList workedRoll workedImage
+unfolding measuredIn field beValue headOf flagsRecord flagsFault readRest readRoll endFrom recordAt leField seen orderFault missing headFault bodyFault packedBy rollFault inTable
+list-holds = record { reading = refl; few = lit≤ tt; found = refl }
+
+-- rejected: other flags; and another byte in the kernel's place, which the list does not show
+list-rejects : (ReadsList (over workedRoll 10 (1 ∷ [])) workedImage → ⊥) × (ReadsList (over workedRoll 22 (0x4c ∷ [])) workedImage → ⊥)
+unfolding over measuredIn field beValue headOf flagsRecord flagsFault readRest readRoll endFrom recordAt leField seen orderFault missing headFault bodyFault packedBy rollFault inTable headD
+list-rejects =
+    (λ l. let h = ap (λ (r : RollReading). r .flags) (l .reading) in omega arith,
+    λ l. let h = ap (λ (rs : List Record). getD (headD rs (record { kind = 0; bytes = [] }) .bytes) 0 0) (l .found) in omega arith)
+
+-- ---- an image whose roll it is
+
+image-holds : ImageOf workedRoll
+image-holds = record { image = workedImage; bytes = ?; accepted = worked-accepted; roll = worked-roll }
+
+-- rejected: a roll cut short
+image-rejects : ImageOf [] → ⊥
+unfolding readRoll flagsFault
+image-rejects i = never _ (accepted-exactly-when [] tt .1 i)
+
+-- ---- the same flags and sections: another version does not matter; rejected: another byte in the kernel, another flag
+
+boot-holds : SameBoot workedImage (over workedImage 5 (3 ∷ []))
+unfolding over measuredIn field beValue
+boot-holds = record { flags = refl; sections = refl }
+
+boot-rejects : (SameBoot workedImage (over workedImage 7 (1 ∷ [])) → ⊥) × (SameBoot workedImage (over workedImage 560 (0x4c ∷ [])) → ⊥)
+unfolding over measuredIn field beValue headD
+boot-rejects =
+    (λ b. let h = b .flags in omega arith,
+    λ b. let h = ap (λ (rs : List Record). getD (headD rs (record { kind = 0; bytes = [] }) .bytes) 0 0) (b .sections) in omega arith)
+
+-- ---- beginnings; rejected: a longer one, another byte
+
+begins-holds : Begins (1 ∷ 2 ∷ []) (1 ∷ 2 ∷ 3 ∷ [])
+begins-holds = record { shorter = lit≤ tt; same = refl }
+
+begins-rejects : (Begins (1 ∷ 2 ∷ 3 ∷ []) (1 ∷ 2 ∷ []) → ⊥) × (Begins (1 ∷ 3 ∷ []) (1 ∷ 2 ∷ 3 ∷ []) → ⊥)
+begins-rejects = (λ b. let h = b .shorter in omega arith, λ b. let h = ap (λ (l : List ℕ). getD l 1 0) (b .same) in omega arith)
