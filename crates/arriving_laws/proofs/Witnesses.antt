@@ -13,10 +13,10 @@ abbrev turnOf : ℕ → ℕ → Turn
 turnOf size allowance = record { size = size; allowance = allowance }
 
 -- three turns: two bytes of which one is allowed, one byte with more allowed, and more bytes than are left
-abbrev three : List Turn
-three = turnOf 2 1 ∷ turnOf 1 5 ∷ turnOf 9 9 ∷ []
+abbrev threeTurns : List Turn
+threeTurns = turnOf 2 1 ∷ turnOf 1 5 ∷ turnOf 9 9 ∷ []
 
-turns-able : CanTake three
+turns-able : CanTake threeTurns
 unfolding All
 turns-able = ((lit< tt, lit< tt), ((lit< tt, lit< tt), ((lit< tt, lit< tt), tt)))
 
@@ -27,7 +27,7 @@ turns-reject = (λ c. let h = c .1 .0 .0 in omega arith, λ c. let h = c .1 .1 .
 
 -- the file has ended after the three; with the others a byte is left
 file-left :
-    turns (unsent (7 ∷ 8 ∷ 9 ∷ [])) three .left ∷ turns (unsent (7 ∷ 8 ∷ 9 ∷ [])) (turnOf 2 1 ∷ turnOf 0 5 ∷ turnOf 1 9 ∷ []) .left
+    turns (unsent (7 ∷ 8 ∷ 9 ∷ [])) threeTurns .left ∷ turns (unsent (7 ∷ 8 ∷ 9 ∷ [])) (turnOf 2 1 ∷ turnOf 0 5 ∷ turnOf 1 9 ∷ []) .left
     ∷ turns (unsent (7 ∷ 8 ∷ 9 ∷ [])) (turnOf 2 1 ∷ turnOf 1 5 ∷ turnOf 9 0 ∷ []) .left ∷ []
     ≡ [] ∷ (9 ∷ []) ∷ (9 ∷ []) ∷ []
 unfolding turns fed grown stateOf keptOf

@@ -9,3 +9,4 @@ pub mod WriteBack
 pub mod Plainness
 pub mod SamePlan
 pub mod RoundTrip
+pub mod Witnesses

@@ -1,12 +1,12 @@
 -- Rolls and images that the relations of eif's Roll and of specs hold of, and such as they reject, by computation: of the worked image and its roll,
 -- whose kernel's one byte stands at 22. Assumes nothing.
-use mathlib.Core.Path.{_≡_, refl, ap}
+use mathlib.Core.Path.{refl, ap}
 use mathlib.Core.List.{List, [], _∷_, headD}
 use Prim.Native.Nat.{ℕ}
 use native.Mathlib.Omega.{arith}
-use lib.Dec.{lit<, lit≤}
+use lib.Dec.{lit≤}
 use lib.ListN.{getD}
-use Rattle.octets.specs.Bytes.{AreBytes, field, beValue, leField}
+use Rattle.octets.specs.Bytes.{field, beValue, leField}
 use Rattle.octets.specs.Over.{over}
 use Rattle.eif.specs.Table.{inTable}
 use Rattle.eif.specs.Layout.{packedBy}
@@ -16,6 +16,7 @@ use Rattle.eif.specs.Rows.{workedRoll}
 use Rattle.eif.specs.Worked.{workedImage, worked-accepted, worked-roll}
 use Rattle.eif.specs.declared.RollReading.{RollReading}
 use Rattle.eif_lemmas.proofs.Verdicts.{never}
+use Rattle.plain_laws.proofs.Witnesses.{worked-are-bytes}
 use Rattle.roll_laws.specs.Told.{ImageOf, ReadsList}
 use Rattle.roll_laws.proofs.Demand3.{accepted-exactly-when}
 
@@ -35,7 +36,7 @@ list-rejects =
 -- ---- an image whose roll it is
 
 image-holds : ImageOf workedRoll
-image-holds = record { image = workedImage; bytes = ?; accepted = worked-accepted; roll = worked-roll }
+image-holds = record { image = workedImage; bytes = worked-are-bytes; accepted = worked-accepted; roll = worked-roll }
 
 -- rejected: a roll cut short
 image-rejects : ImageOf [] → ⊥
