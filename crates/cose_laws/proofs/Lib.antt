@@ -3,3 +3,4 @@ pub mod Places
 pub mod RoundTrip
 pub mod Accepted
 pub mod FirstApplies
+pub mod Witnesses

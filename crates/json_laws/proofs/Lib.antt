@@ -3,3 +3,4 @@ pub mod Onward
 pub mod Walk
 pub mod Laws
 pub mod Worked
+pub mod Witnesses
