@@ -1,9 +1,9 @@
 -- Claims, signatures and bytes that the relations of cose's specs hold of, and such as they reject, each by the field that it breaks.
 -- Assumes nothing.
 use Prim.Native.Nat.{ℕ, zero, suc}
-use mathlib.Core.Path.{_≡_, refl}
+use mathlib.Core.Path.{refl}
 use mathlib.Core.Bool.{false≢true}
-use mathlib.Core.List.{List, [], _∷_, _++_}
+use mathlib.Core.List.{List, [], _∷_}
 use native.Mathlib.Omega.{arith}
 use lib.Dec.{lit<}
 use lib.ListN.{replicate}
@@ -29,9 +29,12 @@ typed-holds = record { index-fits = lit< tt; value-long = refl; value-bytes = sa
 typed-rejects :
     (Typed (claimWith 18446744073709551616 (replicate 48 255)) [] → ⊥) × (Typed (claimWith 0 (replicate 47 255)) [] → ⊥)
     × (Typed (claimWith 0 (256 ∷ replicate 47 255)) [] → ⊥) × (Typed (claimWith 0 (replicate 48 255)) (256 ∷ []) → ⊥)
-typed-rejects =
-    (λ t. let h = t .index-fits in omega arith, λ t. let h = t .value-long in omega arith, λ t. let h = t .value-bytes .0 in omega arith,
-    λ t. let h = t .signature-bytes .0 in omega arith)
+typed-rejects = (
+  λ t. let h = t .index-fits in omega arith,
+  λ t. let h = t .value-long in omega arith,
+  λ t. let h = t .value-bytes .0 in omega arith,
+  λ t. let h = t .signature-bytes .0 in omega arith,
+)
 
 writable-holds : Writable (claimWith 18446744073709551615 (replicate 48 255)) (replicate 96 255)
 unfolding signatureFits signatureSize

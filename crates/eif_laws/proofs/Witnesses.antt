@@ -53,9 +53,10 @@ differ-rejects d = go (d .0) (d .1)
 
 in-section-holds : InSection workedImage 573 × InSection workedImage 561
 unfolding field beValue
-in-section-holds =
-    (record { place = 1; used = lit< tt; not-before = lit≤ tt; not-after = lit< tt },
-    record { place = 1; used = lit< tt; not-before = lit≤ tt; not-after = lit< tt })
+in-section-holds = (
+  record { place = 1; used = lit< tt; not-before = lit≤ tt; not-after = lit< tt },
+  record { place = 1; used = lit< tt; not-before = lit≤ tt; not-after = lit< tt },
+)
 
 in-section-rejects : (InSection workedImage 5 → ⊥) × (InSection workedImage 586 → ⊥)
 unfolding field beValue
@@ -66,6 +67,7 @@ in-section-rejects = (λ x. before (x .place) (x .used) (x .not-before), λ x. a
     before (suc zero) u n = omega arith
     before (suc (suc zero)) u n = omega arith
     before (suc (suc (suc i))) u n = omega arith
+
     after : (i : ℕ) → i < 3 → 586 < endAt workedImage i → ⊥
     after zero u n = omega arith
     after (suc zero) u n = omega arith
@@ -79,10 +81,11 @@ allowed-holds = (inl (lit≤ tt, lit≤ tt), inr (inl (refl, lit≤ tt)), inr (i
 
 -- rejected: a signature in version 2, metadata in version 3, and the type 6
 allowed-rejects : (AllowedType 2 4 → ⊥) × (AllowedType 3 5 → ⊥) × (AllowedType 4 6 → ⊥)
-allowed-rejects =
-    (⊎-elim (λ a. let h = a .1 in omega arith) (⊎-elim (λ a. let h = a .1 in omega arith) (λ a. let h = a .1 in omega arith)),
-    ⊎-elim (λ a. let h = a .1 in omega arith) (⊎-elim (λ a. let h = a .0 in omega arith) (λ a. let h = a .1 in omega arith)),
-    ⊎-elim (λ a. let h = a .1 in omega arith) (⊎-elim (λ a. let h = a .0 in omega arith) (λ a. let h = a .0 in omega arith)))
+allowed-rejects = (
+  ⊎-elim (λ a. let h = a .1 in omega arith) (⊎-elim (λ a. let h = a .1 in omega arith) (λ a. let h = a .1 in omega arith)),
+  ⊎-elim (λ a. let h = a .1 in omega arith) (⊎-elim (λ a. let h = a .0 in omega arith) (λ a. let h = a .1 in omega arith)),
+  ⊎-elim (λ a. let h = a .1 in omega arith) (⊎-elim (λ a. let h = a .0 in omega arith) (λ a. let h = a .0 in omega arith)),
+)
 
 present-holds : Present workedImage 3 3
 unfolding field beValue

@@ -1,19 +1,12 @@
 -- Bytes that the relations of json's Verdict hold of, and such as they reject, from what the machine computes. Assumes nothing.
-use Prim.Native.Nat.{ℕ}
-use mathlib.Core.Path.{_≡_, refl, sym, _∙_}
+use mathlib.Core.Path.{refl}
 use mathlib.Core.List.{[], _∷_}
 use native.Mathlib.Omega.{arith}
 use lib.Dec.{lit<}
 use Rattle.json.specs.Verdict.{IsText, CanBegin, FaultsFirstAt}
-use Rattle.json.specs.declared.JsonVerdict.{JsonVerdict}
-use Rattle.json.specs.declared.JsonVerdict.the-variants.{Text, Fault}
 use Rattle.json_machine.specs.Table.{classes, rows}
 use Rattle.json_machine.specs.Machine.{jsonVerdict, walkFrom, endsOf, kindOf, actOf, entryOf, afterOf}
 use Rattle.json_laws.proofs.Laws.{accepted-exactly-when, place-exactly-when}
-
-abbrev placeOr : JsonVerdict → ℕ
-placeOr Text = 0
-placeOr (Fault p) = p
 
 -- "1", "1e5" and their beginnings
 text-holds : IsText (0x31 ∷ []) × IsText (0x31 ∷ 0x65 ∷ 0x35 ∷ [])

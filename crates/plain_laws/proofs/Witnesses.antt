@@ -72,10 +72,14 @@ same-plan-rejects :
     × (SamePlan sparePlan (planWith 2 0 1 0 3 workedPlaces) → ⊥) × (SamePlan sparePlan (planWith 2 0 0 1 3 workedPlaces) → ⊥)
     × (SamePlan sparePlan (planWith 2 0 0 0 4 workedPlaces) → ⊥)
     × (SamePlan sparePlan (planWith 2 0 0 0 3 (workedPlace 1 1 ∷ workedPlace 2 1 ∷ workedPlace 3 1 ∷ [])) → ⊥)
-same-plan-rejects =
-    (λ p. let h = p .version in omega arith, λ p. let h = p .flags in omega arith, λ p. let h = p .«default_mem» in omega arith,
-    λ p. let h = p .«default_cpus» in omega arith, λ p. let h = p .count in omega arith,
-    λ p. let h = ap (λ (x : Place). x .length .0) (p .used 2 (lit< tt)) in omega arith)
+same-plan-rejects = (
+  λ p. let h = p .version in omega arith,
+  λ p. let h = p .flags in omega arith,
+  λ p. let h = p .«default_mem» in omega arith,
+  λ p. let h = p .«default_cpus» in omega arith,
+  λ p. let h = p .count in omega arith,
+  λ p. let h = ap (λ (x : Place). x .length .0) (p .used 2 (lit< tt)) in omega arith,
+)
 
 -- ---- numbers that fit
 
@@ -93,9 +97,12 @@ fits-rejects :
     (Fits (planWith 2 65536 0 0 3 workedPlaces) → ⊥) × (Fits (planWith 2 0 18446744073709551616 0 3 workedPlaces) → ⊥)
     × (Fits (planWith 2 0 0 18446744073709551616 3 workedPlaces) → ⊥)
     × (Fits (planWith 2 0 0 0 1 (record { kind = 1; flags = 65536; length = record { 0 = 1 } } ∷ [])) → ⊥)
-fits-rejects =
-    (λ f. let h = f .flags in omega arith, λ f. let h = f .«default_mem» in omega arith, λ f. let h = f .«default_cpus» in omega arith,
-    λ f. let h = f .section-flags 0 (lit< tt) in omega arith)
+fits-rejects = (
+  λ f. let h = f .flags in omega arith,
+  λ f. let h = f .«default_mem» in omega arith,
+  λ f. let h = f .«default_cpus» in omega arith,
+  λ f. let h = f .section-flags 0 (lit< tt) in omega arith,
+)
 
 -- ---- the plan of the worked image is not refused: what is written is read back, and the other way round
 
@@ -143,9 +150,12 @@ unused-rejects :
     (UnusedZero (over workedImage 25 (1 ∷ [])) → ⊥) × (UnusedZero (over workedImage 543 (1 ∷ [])) → ⊥)
     × (UnusedZero (over workedImage 59 (1 ∷ [])) → ⊥) × (UnusedZero (over workedImage 315 (1 ∷ [])) → ⊥)
 unfolding over field beValue
-unused-rejects =
-    (λ u. let h = u .reserved-zero in omega arith, λ u. let h = u .reserved-after-zero in omega arith,
-    λ u. let h = u .unused-offset 3 (lit≤ tt) (lit< tt) in omega arith, λ u. let h = u .unused-size 3 (lit≤ tt) (lit< tt) in omega arith)
+unused-rejects = (
+  λ u. let h = u .reserved-zero in omega arith,
+  λ u. let h = u .reserved-after-zero in omega arith,
+  λ u. let h = u .unused-offset 3 (lit≤ tt) (lit< tt) in omega arith,
+  λ u. let h = u .unused-size 3 (lit≤ tt) (lit< tt) in omega arith,
+)
 
 same-writing-holds : SameWriting workedPlan sparePlan
 same-writing-holds = one-plain-image workedPlan sparePlan same-plan-holds

@@ -29,9 +29,10 @@ list-holds = record { reading = refl; few = lit≤ tt; found = refl }
 -- rejected: other flags; and another byte in the kernel's place, which the list does not show
 list-rejects : (ReadsList (over workedRoll 10 (1 ∷ [])) workedImage → ⊥) × (ReadsList (over workedRoll 22 (0x4c ∷ [])) workedImage → ⊥)
 unfolding over measuredIn field beValue headOf flagsRecord flagsFault readRest readRoll endFrom recordAt leField seen orderFault missing headFault bodyFault packedBy rollFault inTable headD
-list-rejects =
-    (λ l. let h = ap (λ (r : RollReading). r .flags) (l .reading) in omega arith,
-    λ l. let h = ap (λ (rs : List Record). getD (headD rs (record { kind = 0; bytes = [] }) .bytes) 0 0) (l .found) in omega arith)
+list-rejects = (
+  λ l. let h = ap (λ (r : RollReading). r .flags) (l .reading) in omega arith,
+  λ l. let h = ap (λ (rs : List Record). getD (headD rs (record { kind = 0; bytes = [] }) .bytes) 0 0) (l .found) in omega arith,
+)
 
 -- ---- an image whose roll it is
 
@@ -51,9 +52,10 @@ boot-holds = record { flags = refl; sections = refl }
 
 boot-rejects : (SameBoot workedImage (over workedImage 7 (1 ∷ [])) → ⊥) × (SameBoot workedImage (over workedImage 560 (0x4c ∷ [])) → ⊥)
 unfolding over measuredIn field beValue headD
-boot-rejects =
-    (λ b. let h = b .flags in omega arith,
-    λ b. let h = ap (λ (rs : List Record). getD (headD rs (record { kind = 0; bytes = [] }) .bytes) 0 0) (b .sections) in omega arith)
+boot-rejects = (
+  λ b. let h = b .flags in omega arith,
+  λ b. let h = ap (λ (rs : List Record). getD (headD rs (record { kind = 0; bytes = [] }) .bytes) 0 0) (b .sections) in omega arith,
+)
 
 -- ---- beginnings; rejected: a longer one, another byte
 

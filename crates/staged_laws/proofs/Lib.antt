@@ -2,3 +2,4 @@ pub mod Order
 pub mod Limit
 pub mod Staged
 pub mod Registers
+pub mod Witnesses

@@ -1,6 +1,6 @@
 -- Images that `MetadataIsJson` and `Refused21` hold of, and such as they reject: of version 4, with metadata that is an opening bracket or a digit.
 -- Assumes nothing.
-use mathlib.Core.Path.{_≡_, sym, _∙_}
+use mathlib.Core.Path.{sym, _∙_}
 use mathlib.Core.Logic.{⊎-elim}
 use Rattle.eif_lemmas.proofs.Verdicts.{never}
 use Rattle.strict_reader.specs.Strict.{MetadataIsJson}
