@@ -41,7 +41,8 @@ unfolding signatureFits signatureSize
 writable-holds = record { fits = refl; typed = typed-holds }
 
 -- rejected: a signature a byte short; a value a byte short
-writable-rejects : (Writable (claimWith 0 (replicate 48 255)) (replicate 95 255) → ⊥) × (Writable (claimWith 0 (replicate 47 255)) (replicate 96 255) → ⊥)
+writable-rejects :
+    (Writable (claimWith 0 (replicate 48 255)) (replicate 95 255) → ⊥) × (Writable (claimWith 0 (replicate 47 255)) (replicate 96 255) → ⊥)
 unfolding signatureFits signatureSize
 writable-rejects = (λ w. false≢true (w .fits), λ w. let h = w .typed .value-long in omega arith)
 

@@ -50,7 +50,14 @@ workedPlaces = workedPlace 1 1 ∷ workedPlace 2 1 ∷ workedPlace 3 0 ∷ []
 
 abbrev planWith : ℕ → ℕ → ℕ → ℕ → ℕ → List Place → Plan
 planWith version flags memory cpus count places =
-    record { version = version; flags = flags; «default_mem» = memory; «default_cpus» = cpus; count = count; places = places ++ replicate 28 blankPlace }
+    record {
+      version = version;
+      flags = flags;
+      «default_mem» = memory;
+      «default_cpus» = cpus;
+      count = count;
+      places = places ++ replicate 28 blankPlace;
+    }
 
 abbrev sparePlan : Plan
 sparePlan = planWith 2 0 0 0 3 (workedPlaces ++ workedPlace 9 9 ∷ [])

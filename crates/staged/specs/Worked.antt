@@ -76,7 +76,8 @@ unfolding shownStart stagedVerdict stagedPlan readView packedBy field beValue ve
 starts-shown = rw worked-accepted refl
 
 pub parts-shown :
-    shownPart [] (0x63 ∷ []) 0 0 ∷ shownPart workedImage (0x63 ∷ []) 2 3 ∷ shownPart workedImage (0x63 ∷ []) 2 0 ∷ shownPart workedImage (0x63 ∷ []) 2 2 ∷ []
+    shownPart [] (0x63 ∷ []) 0 0
+    ∷ map (shownPart workedImage (0x63 ∷ []) 2) (3 ∷ 0 ∷ 2 ∷ [])
     ≡ [] ∷ [] ∷ (0x4b ∷ []) ∷ (0x63 ∷ []) ∷ []
 unfolding shownPart stagedPart stagedVerdict stagedPlan readView packedBy field beValue verdictIn early judged headerFault fieldFault positionIn
 parts-shown = rw worked-accepted refl
@@ -92,7 +93,9 @@ pub staged-joined : stagedJoined workedImage (0x63 ∷ []) 2 ≡ 0x4b ∷ 0x61 �
 unfolding stagedJoined stagedPart readView field beValue joinFrom
 staged-joined =
     ap
-    (λ (v : Verdict). let x = readingOf (viewOf workedImage) v in joinFrom (λ j. choose (eqb j 2) (0x63 ∷ []) (dataOf workedImage (sectionIn (x .sections) j))) (x .count) 0)
+    (λ (v : Verdict).
+    let x = readingOf (viewOf workedImage) v in
+    joinFrom (λ j. choose (eqb j 2) (0x63 ∷ []) (dataOf workedImage (sectionIn (x .sections) j))) (x .count) 0)
     worked-accepted
 
 pub staged-roll-length : length (rollBytes (afresh workedImage (0x63 ∷ []) 2)) ≡ 55
