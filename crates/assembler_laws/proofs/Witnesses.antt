@@ -1,6 +1,5 @@
 -- Records and runs that the relations of specs hold of, and such as they reject, each by the field that it breaks: of a transfer of two pieces in
 -- both orders and with a repeat, and of an image of one byte. So no law of this crate is about nothing. Numbers are written out.
--- Assumes nothing.
 use Prim.Native.Nat.{ℕ, zero, suc, _<_, _≤_}
 use mathlib.Core.Path.{_≡_, refl, sym, ap, subst}
 use mathlib.Core.Bool.{true, false≢true, true≢false}

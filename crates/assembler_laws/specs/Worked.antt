@@ -95,7 +95,7 @@ pub steps-hold :
 unfolding headOf stepAnswer faultOf formed offGrid tooSmall shorterThanAtOpen allHeld sameBytes leField
 steps-hold = refl
 
--- ---- two rules that apply at once, of which the first is told. No record has both the second 22 and 1, nor both 25 and 26: each asks for another
+-- ---- two rules that apply at once, of which the first is answered. No record has both the second 22 and 1, nor both 25 and 26: each is of another
 -- kind of record
 
 -- states that no call leaves: not open, and yet with a length of 1; open, with buffers that were longer by one at the open

@@ -1,5 +1,4 @@
 -- Claims, signatures and bytes that the relations of cose's specs hold of, and such as they reject, each by the field that it breaks.
--- Assumes nothing.
 use Prim.Native.Nat.{ℕ, zero, suc}
 use mathlib.Core.Path.{refl}
 use mathlib.Core.Bool.{false≢true}

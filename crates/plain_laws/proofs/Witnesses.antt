@@ -1,5 +1,5 @@
 -- Plans and images that the relations of specs and of eif's Plan hold of, and such as they reject, each by the field that it breaks: of the worked
--- plan and its image. Assumes nothing.
+-- plan and its image.
 use Prim.Native.Nat.{ℕ, zero, suc, _<_}
 use mathlib.Core.Path.{_≡_, refl, sym, ap, subst, _∙_}
 use mathlib.Core.Bool.{Bool, true}

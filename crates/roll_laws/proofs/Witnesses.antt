@@ -1,5 +1,5 @@
 -- Rolls and images that the relations of eif's Roll and of specs hold of, and such as they reject, by computation: of the worked image and its roll,
--- whose kernel's one byte stands at 22. Assumes nothing.
+-- whose kernel's one byte stands at 22.
 use mathlib.Core.Path.{refl, ap}
 use mathlib.Core.List.{List, [], _∷_, headD}
 use Prim.Native.Nat.{ℕ}

@@ -1,5 +1,5 @@
 -- An image that is written afresh as `WrittenAfresh` says, and a base of which none is: the worked image with one byte 63 for its ramdisk, and no
--- bytes. Assumes nothing.
+-- bytes.
 use mathlib.Core.Path.{_≡_, refl}
 use mathlib.Core.List.{[], _∷_}
 use lib.Dec.{lit<}
