@@ -98,7 +98,7 @@ steps-hold = refl
 -- ---- two rules that apply at once, of which the first is answered. No record has both the second 22 and 1, nor both 25 and 26: each is of another
 -- kind of record
 
--- states that no call leaves: not open, and yet with a length of 1; open, with buffers that were longer by one at the open
+-- a state that no call leaves: not open, and yet with a length of 1; then two that an open leaves, with a buffer that is longer by one
 abbrev notOpenForOne : State
 notOpenForOne = record { opened = 0; length = 1; room = 1; places = 1 }
 
