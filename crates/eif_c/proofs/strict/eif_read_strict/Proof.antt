@@ -12,4 +12,4 @@ eif-read-strict-spec =
     (tie.spec
     (λ c κs. search needs)
     (λ c κs. search needs)
-    (λ c. c .flat-reading .ensures ∙ ap flatReading (c .before .read-strict .ensures)))
+    (λ c. c .flat-reading .ensures ∙ ap flatReading (c .before .read-strict .ensures .0)))
