@@ -32,7 +32,7 @@ module _ (s : List ℕ) where
   begins h = ap (take headerSize) (padded-first headerSize s h) ∙ take-take headerSize headerSize s (omega arith)
 
   -- the own header of section i
-  owns : (i : ℕ) → Lies (viewOf s) i
+  pub owns : (i : ℕ) → Lies (viewOf s) i
       → take sectionHeaderSize (drop (sectionHeaderSize * i) (headersOf header s)) ≡ take sectionHeaderSize (drop (offsetAt s i) s)
   unfolding headersOf keptFrom
   owns i l =

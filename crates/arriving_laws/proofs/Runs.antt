@@ -27,11 +27,11 @@ use Rattle.octets.proofs.Logic.{choose-holds}
 -- ---- one call
 
 -- before the end is told
-fed-state : (s piece : List ℕ) (allowance : ℕ) → fed (stateOf s) piece allowance ≡ fedWith (stateOf (s ++ take allowance piece)) (min allowance (length piece))
+pub fed-state : (s piece : List ℕ) (allowance : ℕ) → fed (stateOf s) piece allowance ≡ fedWith (stateOf (s ++ take allowance piece)) (min allowance (length piece))
 fed-state s piece allowance =
     fed-open (stateOf s) piece allowance (open-of s) ∙ ap (λ (a : Arriving). fedWith a (min allowance (length piece))) (state-grows s (take allowance piece))
 
-told-ended : (a : Arriving) → toldEnd a .ended ≡ 1
+pub told-ended : (a : Arriving) → toldEnd a .ended ≡ 1
 unfolding toldEnd
 told-ended a = refl
 

@@ -4,9 +4,11 @@ ghost use mathlib.Core.Path.{_≡_};
 ghost use mathlib.Core.List.{[]};
 ghost use Rattle.arriving.specs.State.{stateOf};
 ghost use Rattle.arriving.specs.Calls.{fed, finished};
+ghost use Rattle.arriving_sections.specs.Span.{spanOf};
 ghost use Rattle.eif_c.specs.Arrival.{flatFinished};
 use arriving::Arriving;
 use arriving::Fed;
+use arriving_sections::Span;
 
 // The state once the end is told, and the reading of the bytes taken.
 #[repr(C)]
@@ -41,4 +43,12 @@ pub extern "C" fn eif_arriving_finish(state: Arriving) -> EifArrivingFinished
         state: told,
         reading: eif_flat::flat_reading(reading),
     }
+}
+
+// How many of the next `length` bytes belong together, and to the data of which section.
+#[no_mangle]
+pub extern "C" fn eif_arriving_next(state: Arriving, length: u64) -> Span
+    ensures { λ r. ⌜ r ≡ spanOf state length ⌝ }
+{
+    arriving_sections::next(state, length)
 }

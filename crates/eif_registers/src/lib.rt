@@ -124,7 +124,7 @@ fn hash_both<'a>(
 // ---- the registers
 
 // The register that a stream's state stands for.
-fn register(state: State) -> [u8; DIGEST_SIZE]
+pub fn register(state: State) -> [u8; DIGEST_SIZE]
     ensures { λ r. ⌜ r ≡ registerFrom (digestFrom state) ⌝ }
 {
     let digest = sha384::finish(state);

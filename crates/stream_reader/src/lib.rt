@@ -21,7 +21,7 @@ use eif::Verdict;
 // ---- the sections of a stream
 
 // 1 for the type of a ramdisk.
-fn ramdisk_in(kind: u16) -> usize
+pub fn ramdisk_in(kind: u16) -> usize
     ensures { λ r. ⌜ r ≡ ramdiskIn kind ⌝ }
     ensures { λ r. ⌜ r ≤ 1 ⌝ }
 {
@@ -29,7 +29,7 @@ fn ramdisk_in(kind: u16) -> usize
 }
 
 // Whether a section is a ramdisk that is not the first.
-fn is_later(kind: u16, before: usize) -> bool
+pub fn is_later(kind: u16, before: usize) -> bool
     ensures { λ r. ⌜ r ≡ laterRamdisk kind before ⌝ }
 {
     if kind == SectionType::RAMDISK {
