@@ -104,7 +104,7 @@ c-test: $(archive)
 	tests/header.sh $(CC)
 	tests/archive.sh $(EIF_LIB_DIR)/libeif_c.a include/eif.h
 	mkdir -p target/c-test
-	for name in $(C_TESTS) stack station; do \
+	for name in $(C_TESTS) stack station receive; do \
 	    $(CC) -std=c99 $(C_WARNINGS) -Iinclude tests/c/$$name.c $(EIF_LIB_DIR)/libeif_c.a -o target/c-test/$$name-c && \
 	    target/c-test/$$name-c || exit 1; \
 	done

@@ -106,6 +106,9 @@ extern "C" {
 /* What first_ramdisk is where there is no ramdisk, and beside a refusal. */
 #define EIF_NO_RAMDISK 32
 
+/* The place of an eif_span whose bytes are no section's data. */
+#define EIF_NO_SECTION 32
+
 /* The most stack that a call takes, in KiB (1,024 bytes), and the most that it takes where no slice that it is
  * handed is longer than EIF_SHORT_LENGTH bytes: measured, not proved, and without what the loader may take to
  * find memcpy and memset at a first call. */
@@ -325,6 +328,13 @@ typedef struct eif_arriving_finished {
     eif_reading reading; /* what eif_read answers on the bytes taken */
 } eif_arriving_finished;
 
+/* The first of the next bytes of an arriving image: those that belong together. */
+typedef struct eif_span {
+    uint64_t place;  /* the section whose data they are, or EIF_NO_SECTION */
+    uint64_t length; /* how many they are */
+    uint64_t begun;  /* how many sections have begun before them: their own headers have arrived whole */
+} eif_span;
+
 /* The kinds of a transfer's records. */
 enum eif_transfer_record {
     EIF_OPEN_RECORD = 1,
@@ -487,6 +497,21 @@ EIF_MUST_USE eif_arriving eif_arriving_begin(void);
 EIF_MUST_USE eif_arriving_fed eif_arriving_feed(eif_arriving state, const uint8_t *piece,
                                                 size_t piece_length, uint64_t allowance);
 EIF_MUST_USE eif_arriving_finished eif_arriving_finish(eif_arriving state);
+
+/* Tells which section the next bytes of an arriving image belong to (FORMAT.md, Check while it arrives), so
+ * that a caller can store or hash a section's data as it arrives:
+ *
+ *     eif_span span = eif_arriving_next(state, piece_length);
+ *     ... the first span.length bytes of the piece are data of section span.place, or of no section where it is
+ *         EIF_NO_SECTION; use them ...
+ *     state = eif_arriving_feed(state, piece, piece_length, span.length).state;
+ *     ... continue with the rest of the piece ...
+ *
+ * span.length is at most length, and at least 1 if length is. The type of section i is the big-endian number in
+ * state.section_headers[12 * i] and [12 * i + 1]. If the file is accepted at its end, the bytes of place i, joined,
+ * are the data of section i, however the file was cut. Until then nothing is judged, so what was stored must not be
+ * used before eif_arriving_finish accepts the file. The call takes any state and any length. */
+EIF_MUST_USE eif_span eif_arriving_next(eif_arriving state, uint64_t length);
 
 /* The length of a plan's image. Refusals, in this order: 4, 5, 9 to 11 for each section, 12, 1. */
 EIF_MUST_USE eif_answer eif_plan_length(eif_plan plan);

@@ -25,6 +25,8 @@ typedef char layout_of_arriving_fed[sizeof(eif_arriving_fed) == 960 ? 1 : -1];
 typedef char layout_of_arriving_count[offsetof(eif_arriving_fed, count) == 952 ? 1 : -1];
 typedef char layout_of_arriving_finished[sizeof(eif_arriving_finished) == 952 + 824 ? 1 : -1];
 typedef char layout_of_arriving_reading[offsetof(eif_arriving_finished, reading) == 952 ? 1 : -1];
+typedef char layout_of_span[sizeof(eif_span) == 24 ? 1 : -1];
+typedef char layout_of_span_begun[offsetof(eif_span, begun) == 16 ? 1 : -1];
 typedef char layout_of_answer[sizeof(eif_answer) == 32 ? 1 : -1];
 typedef char layout_of_answer_position[offsetof(eif_answer, position) == 16 ? 1 : -1];
 typedef char layout_of_stream_sections[sizeof(eif_stream_sections) == 8 + 32 * 24 ? 1 : -1];
@@ -148,8 +150,10 @@ static void try_registers(const uint8_t *image, size_t length) {
 static void try_arriving(const uint8_t *image, size_t length) {
     static eif_arriving_fed one, other;
     static eif_arriving_finished end, other_end;
+    static eif_span span, other_span;
     eif_arriving state = eif_arriving_begin();
     CHECK_TWICE(one, other, eif_arriving_feed(state, image, length, UINT64_MAX), "equal arriving states by memcmp");
+    CHECK_TWICE(span, other_span, eif_arriving_next(one.state, length), "equal spans by memcmp");
     CHECK_TWICE(end, other_end, eif_arriving_finish(one.state), "equal ends by memcmp");
 }
 

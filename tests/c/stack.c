@@ -29,6 +29,7 @@ static eif_json_answer json;
 static eif_arriving arriving;
 static eif_arriving_fed arriving_fed;
 static eif_arriving_finished arrived;
+static eif_span span;
 static eif_stream_sections sections;
 static eif_registers_answer registers;
 static eif_sha384 begun;
@@ -54,6 +55,7 @@ static void call_arriving_begin(void) { arriving = eif_arriving_begin(); }
 static void call_arriving_feed(void) {
     arriving_fed = eif_arriving_feed(arriving, image, image_length, UINT64_MAX);
 }
+static void call_arriving_next(void) { span = eif_arriving_next(arriving_fed.state, image_length); }
 static void call_arriving_finish(void) { arrived = eif_arriving_finish(arriving_fed.state); }
 static void call_plan_length(void) { answer = eif_plan_length(plan); }
 static void call_write(void) { answer = eif_write(plan, data, data_length, out, sizeof out); }
@@ -144,6 +146,7 @@ static const struct {
     {"eif_json_check", call_json_check},
     {"eif_arriving_begin", call_arriving_begin},
     {"eif_arriving_feed", call_arriving_feed},
+    {"eif_arriving_next", call_arriving_next},
     {"eif_arriving_finish", call_arriving_finish},
     {"eif_plan_length", call_plan_length},
     {"eif_write", call_write},
@@ -190,6 +193,7 @@ static void try_calls(size_t section, size_t kib) {
                     fed.number != 0 || sign1_reading.number != 0 ||
                     staged_part.number != 0 || staged_registers.number != 0 || stepped.number != 0;
     }
+    check(span.place == EIF_NO_SECTION && span.begun == SECTIONS, "the span after the last section");
     check(json.is_text == 1 && marks[0] == 1 && marks[1] == 0, "the text and the marks");
 }
 

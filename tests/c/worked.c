@@ -241,6 +241,46 @@ static void try_arriving_end(const uint8_t *image) {
     check(memcmp(&again, &end, sizeof end) == 0, "end told again");
 }
 
+static int is_span(eif_span span, uint64_t place, uint64_t length, uint64_t begun) {
+    return span.place == place && span.length == length && span.begun == begun;
+}
+
+/* The spans that FORMAT.md lists, of the next thousand bytes. */
+static void try_next(const uint8_t *image) {
+    static const struct {
+        uint64_t taken, place, length, begun;
+    } rows[] = {
+        {0, EIF_NO_SECTION, 548, 0},  {547, EIF_NO_SECTION, 1, 0},  {548, EIF_NO_SECTION, 12, 0},
+        {560, 0, 1, 1},               {561, EIF_NO_SECTION, 12, 1}, {573, 1, 1, 2},
+        {574, EIF_NO_SECTION, 12, 2}, {586, EIF_NO_SECTION, 1000, 3}};
+    eif_arriving begun = eif_arriving_begin();
+    for (unsigned i = 0; i < sizeof rows / sizeof rows[0]; i++) {
+        eif_arriving state = eif_arriving_feed(begun, image, (size_t)rows[i].taken, UINT64_MAX).state;
+        eif_span span = eif_arriving_next(state, 1000);
+        check(is_span(span, rows[i].place, rows[i].length, rows[i].begun), "span of the next bytes");
+        check(is_span(eif_arriving_next(state, 0), rows[i].place, 0, rows[i].begun), "span of no bytes");
+    }
+}
+
+/* Tables that no accepted image has: a size near 2^64, an offset too small by one, a count above 32. */
+static void try_hostile_next(const uint8_t *image) {
+    eif_arriving state = eif_arriving_feed(eif_arriving_begin(), image, IMAGE_LENGTH, UINT64_MAX).state;
+    eif_arriving hostile = state;
+    hostile.taken = 560;
+    memset(hostile.header + 284, 0xff, 8);
+    check(is_span(eif_arriving_next(hostile, 100), EIF_NO_SECTION, 100, 0), "a size near 2^64");
+    hostile = state;
+    hostile.taken = 573;
+    hostile.header[43]--;
+    check(is_span(eif_arriving_next(hostile, 100), EIF_NO_SECTION, 100, 1), "an offset too small");
+    hostile = state;
+    hostile.taken = 573;
+    memset(hostile.header + 26, 0xff, 2);
+    check(is_span(eif_arriving_next(hostile, 100), 1, 1, 2), "a count above 32");
+    hostile.taken = UINT64_MAX;
+    check(is_span(eif_arriving_next(hostile, UINT64_MAX), EIF_NO_SECTION, UINT64_MAX, 3), "past any image");
+}
+
 static void try_streams(const uint8_t *image) {
     uint8_t out[4];
     memset(out, STAYS, sizeof out);
@@ -421,6 +461,8 @@ int main(void) {
     try_strict(image);
     try_arriving(image);
     try_arriving_end(image);
+    try_next(image);
+    try_hostile_next(image);
     try_streams(image);
     try_sections(image);
     try_file_order();

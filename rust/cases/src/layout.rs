@@ -52,7 +52,7 @@ pub fn crc32(parts: &[&[u8]]) -> u32 {
 }
 
 /// The remainder of CRC-32 after one byte more.
-pub fn crc32_after(remainder: u32, byte: u8) -> u32 {
+fn crc32_after(remainder: u32, byte: u8) -> u32 {
     (0..8).fold(remainder ^ u32::from(byte), |crc, _| {
         (crc >> 1) ^ (0xEDB8_8320 & (crc & 1).wrapping_neg())
     })

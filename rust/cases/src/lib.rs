@@ -31,10 +31,9 @@ pub use images::{
     ImageCase, ACCEPTED, WORKED_LENGTH, WORKED_OFFSETS,
 };
 pub use layout::{
-    checksum_of, crc32, crc32_after, crc32_then_zeros, offset_entry, put, put_checksum, put_number,
-    section_end, size_entry, Layout, Section, CHECKSUM_AT, COUNT_AT, ENTRY, HEADER, MAX_SECTIONS,
-    OFFSETS_AT, OWN_SIZE_AT, RESERVED_AFTER_AT, RESERVED_AT, SECTION_HEADER, SHORTEST, SIZES_AT,
-    VERSION_AT,
+    checksum_of, crc32, crc32_then_zeros, offset_entry, put, put_checksum, put_number, section_end,
+    size_entry, Layout, Section, CHECKSUM_AT, COUNT_AT, ENTRY, HEADER, MAX_SECTIONS, OFFSETS_AT,
+    OWN_SIZE_AT, RESERVED_AFTER_AT, RESERVED_AT, SECTION_HEADER, SHORTEST, SIZES_AT, VERSION_AT,
 };
 pub use orders::{
     image_orders, long_image_orders, long_roll_orders, orders, plan_orders, roll_orders,

@@ -5,7 +5,8 @@ use crate::compare::{parts, same, twin_reading, Input};
 use crate::{any_image, Call, Rng, Tally};
 use eif::raw::{self, Arriving};
 use eif_cases::{
-    crc32_after, offset_entry, put, CHECKSUM_AT, ENTRY, HEADER, MAX_SECTIONS, SECTION_HEADER,
+    offset_entry, put, size_entry, CHECKSUM_AT, COUNT_AT, ENTRY, HEADER, MAX_SECTIONS,
+    SECTION_HEADER,
 };
 use eif_twin as twin;
 
@@ -43,28 +44,35 @@ pub fn state_of(bytes: &[u8]) -> Arriving {
     }
 }
 
-/// What a piece makes of any state, byte by byte.
-fn grown(mut state: Arriving, piece: &[u8]) -> Arriving {
-    for &byte in piece {
-        let at = state.taken;
-        if at == u64::MAX {
-            break;
-        }
-        if at < HEADER as u64 {
-            state.header[at as usize] = byte;
-        }
-        if !(CHECKSUM_AT as u64..HEADER as u64).contains(&at) {
-            state.checksum = crc32_after(state.checksum, byte);
-        }
-        for (index, from) in kept_from(&state.header).into_iter().enumerate() {
-            if at >= from && at - from < SECTION_HEADER as u64 {
-                let place = SECTION_HEADER * index + (at - from) as usize;
-                state.section_headers[place] = byte;
-            }
-        }
-        state.taken += 1;
+/// The twin's form of a state.
+pub(crate) fn twin_arriving(state: Arriving) -> twin::Arriving {
+    twin::Arriving {
+        taken: state.taken,
+        header: state.header,
+        section_headers: state.section_headers,
+        remainder: state.checksum,
+        ended: state.ended,
     }
-    state
+}
+
+/// Asks any state which section the next bytes belong to, by the C interface, the Rust interface and the twin.
+pub(crate) fn compare_next(rng: &mut Rng, input: &Input, state: &Arriving) {
+    let few = rng.below(40) as u64;
+    let hostile = rng.hostile(state.taken);
+    for length in [0, 1, few, 1200, hostile, u64::MAX] {
+        let span = raw::arriving_next(*state, length);
+        let expected = twin_arriving(*state).span(length);
+        let parts = twin::Span {
+            place: span.place,
+            length: span.length,
+            begun: span.begun,
+        };
+        same(input, "span", parts, expected);
+        let progress = span.length <= length && (span.length > 0) == (length > 0);
+        assert!(progress, "no progress by {span:?} of {length}, for {input}");
+        let rust = eif::Arriving::from(*state).next(length);
+        same(input, "span in Rust", rust, span.into());
+    }
 }
 
 /// The lengths of pieces that are most likely to be cut wrongly.
@@ -121,10 +129,65 @@ pub fn compare_arriving(rng: &mut Rng, ordinal: u64, image: &[u8], tally: &mut T
         at += count as usize;
         if rng.once_in(4) {
             compare_beginning(input, &image[..at], &state);
+            compare_next(rng, input, &state);
         }
     }
     compare_beginning(input, image, &state);
+    compare_next(rng, input, &state);
     let number = compare_end(rng, input, state, rust);
+    tally.add(Call::Arrive, number);
+}
+
+/// Feeds an image part by part in Rust. Of an accepted image the parts of a section, joined, are its data; of any
+/// image the parts, joined, are its bytes.
+pub fn compare_parts(rng: &mut Rng, ordinal: u64, image: &[u8], tally: &mut Tally) {
+    let input = &Input {
+        kind: "image in parts",
+        ordinal,
+        bytes: image,
+        other: None,
+    };
+    tally.add_input();
+    let mut arriving = eif::Arriving::new();
+    let (mut at, small) = (0, rng.once_in(4));
+    let mut given = vec![Vec::new(); MAX_SECTIONS];
+    let mut all = Vec::new();
+    while at < image.len() {
+        let (length, _) = any_cut(rng, small, image.len() - at);
+        // A caller may stop at any part, and continue with the rest of the piece.
+        let most = rng.pick(&[1, 2, usize::MAX]);
+        for (section, bytes) in arriving.parts(&image[at..at + length]).take(most) {
+            all.extend_from_slice(bytes);
+            if let Some(index) = section {
+                given[index].extend_from_slice(bytes);
+            }
+        }
+        at = arriving.taken() as usize;
+    }
+    same(input, "parts joined", &all[..], image);
+    let state: Arriving = arriving.clone().into();
+    same(input, "state", state, state_of(image));
+    if let Ok(read) = twin::read(image) {
+        let data = read.sections.iter();
+        let data = data.map(|s| image[s.position..s.position + s.length].to_vec());
+        let mut data: Vec<Vec<u8>> = data.collect();
+        data.resize(MAX_SECTIONS, Vec::new());
+        same(input, "data of the sections", &given, &data);
+        for (index, section) in read.sections.iter().enumerate() {
+            let kind = arriving.section_type(index).map(|kind| kind.0);
+            same(input, "type", kind, Some(section.kind));
+        }
+        let past = arriving.section_type(read.sections.len());
+        same(input, "no type", past, None);
+    }
+    let number = arriving.finish().map_or_else(|r| r.number(), |_| 0);
+    same(input, "number", number, raw::read(image).number);
+    same(
+        input,
+        "parts after the end",
+        arriving.parts(b"more").count(),
+        0,
+    );
     tally.add(Call::Arrive, number);
 }
 
@@ -176,11 +239,40 @@ fn compare_ended(rng: &mut Rng, input: &Input, finished: raw::ArrivingFinished) 
     same(input, "end again", again, finished);
 }
 
+/// Makes a table hostile: a count at or above its limit, an offset that overlaps another section or is out of order, a size
+/// near a power of two or 2 to the 64.
+fn damage_table(rng: &mut Rng, header: &mut [u8; HEADER]) {
+    let place = rng.below(MAX_SECTIONS);
+    match rng.below(4) {
+        0 => {
+            let count: u16 = rng.pick(&[0, 1, 31, 32, 33, 64, 0x0100, 0xffff]);
+            put(header, COUNT_AT, &count.to_be_bytes());
+        }
+        1 => {
+            let from = rng.below(MAX_SECTIONS);
+            let other = header[offset_entry(from)..][..ENTRY].to_vec();
+            put(header, offset_entry(place), &other);
+        }
+        2 => {
+            let offset = rng.hostile(HEADER as u64);
+            put(header, offset_entry(place), &offset.to_be_bytes());
+        }
+        _ => {
+            let near = rng.pick(&[0, HEADER as u64, 1 << 30, u64::MAX]);
+            let size = rng.hostile(near);
+            put(header, size_entry(place), &size.to_be_bytes());
+        }
+    }
+}
+
 /// Any state, reached or not.
-fn any_state(rng: &mut Rng) -> Arriving {
+pub(crate) fn any_state(rng: &mut Rng) -> Arriving {
     let image = any_image(rng);
     let taken = rng.below(image.len() + 1);
     let mut state = state_of(&image[..taken]);
+    while rng.once_in(3) {
+        damage_table(rng, &mut state.header);
+    }
     if rng.once_in(2) {
         let near = rng.pick(&[0, CHECKSUM_AT, HEADER, image.len()]) as u64;
         let full = u64::MAX - rng.below(700) as u64;
@@ -219,8 +311,17 @@ pub fn compare_arriving_state(rng: &mut Rng, ordinal: u64, tally: &mut Tally) {
         _ => 0,
     };
     same(input, "count", fed.count, count);
-    let expected = grown(state, &piece[..count as usize]);
-    same(input, "state", fed.state, expected);
+    let mut expected = twin_arriving(state);
+    same(
+        input,
+        "count",
+        count as usize,
+        expected.count(length, allowance),
+    );
+    expected.take(&piece[..count as usize]);
+    same(input, "state", twin_arriving(fed.state), expected);
+    compare_next(rng, input, &state);
+    compare_next(rng, input, &fed.state);
     let finished = raw::arriving_finish(fed.state);
     let told = Arriving {
         ended: 1,

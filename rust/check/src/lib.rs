@@ -24,7 +24,7 @@ mod strict;
 mod tally;
 mod texts;
 
-pub use arriving::{compare_arriving, compare_arriving_state, state_of, LENGTHS};
+pub use arriving::{compare_arriving, compare_arriving_state, compare_parts, state_of, LENGTHS};
 pub use assembler::{compare_transfer, compare_transfer_call, TransferBuffers};
 pub use compare::{
     compare_image, compare_message, compare_plan, compare_reading, compare_roll, parts,

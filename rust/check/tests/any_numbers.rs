@@ -274,6 +274,14 @@ fn states() {
             ended: number % 3,
         };
         let mut arriving = Arriving::from(state);
+        for length in numbers() {
+            let span = arriving.next(length);
+            assert!(span.length <= length && (span.length > 0) == (length > 0));
+            assert!(span.section.map_or(true, |index| index < span.begun) && span.begun <= 32);
+            let kind = arriving.section_type(length as usize);
+            assert_eq!(kind.is_some(), (length as usize) < span.begun);
+        }
+        assert!(arriving.parts(&[0xff; 40]).count() <= 40);
         assert!(arriving.feed_at_most(&[0xff; 40], number) <= 40);
         assert!(arriving.feed(&[0xff; 600]) <= 600);
         assert!(arriving.finish().is_err());

@@ -1,8 +1,8 @@
 //! Images that arrive in pieces: the examples of docs/FORMAT.md, every cut, and what the calls promise.
 
 use eif::raw::{self, Arriving as State};
-use eif::{Arriving, Reading, Refusal};
-use eif_cases::{image_cases, worked_image, ACCEPTED};
+use eif::{Arriving, Reading, Refusal, Span};
+use eif_cases::{image_cases, worked_image, Layout, Section, ACCEPTED};
 use eif_check::{parts, state_of, LENGTHS};
 use std::io::{self, Write};
 
@@ -99,6 +99,61 @@ fn nothing_is_taken_after_the_end() -> io::Result<()> {
     let error = arriving.write_all(b"x").unwrap_err();
     assert_eq!(error.kind(), io::ErrorKind::WriteZero);
     arriving.flush()
+}
+
+/// The spans of the worked example that FORMAT.md lists, of the next thousand bytes.
+#[test]
+fn spans_of_the_worked_example() {
+    let image = worked_image();
+    for (taken, section, length, begun) in [
+        (0, None, 548, 0),
+        (547, None, 1, 0),
+        (548, None, 12, 0),
+        (560, Some(0), 1, 1),
+        (561, None, 12, 1),
+        (573, Some(1), 1, 2),
+        (574, None, 12, 2),
+        (586, None, 1000, 3),
+    ] {
+        let mut arriving = Arriving::new();
+        arriving.feed(&image[..taken]);
+        let expected = Span {
+            section,
+            length,
+            begun,
+        };
+        assert_eq!(arriving.next(1000), expected, "{taken}");
+    }
+}
+
+/// Wherever the file is cut, the parts of a section are its data, and a caller may stop inside a piece.
+#[test]
+fn parts_at_every_cut() {
+    let sections = [(1, "kernel"), (3, "disk"), (2, ""), (3, "x")];
+    let sections = sections.map(|(kind, data)| Section::new(kind, data.as_bytes()));
+    let image = Layout::new(2, sections.to_vec()).image();
+    for cut in 0..=image.len() {
+        for most in [1, usize::MAX] {
+            let mut arriving = Arriving::new();
+            let mut given = vec![Vec::new(); sections.len()];
+            let (start, rest) = image.split_at(cut);
+            for mut piece in [start, rest] {
+                while !piece.is_empty() {
+                    let before = arriving.taken();
+                    for (section, bytes) in arriving.parts(piece).take(most) {
+                        if let Some(index) = section {
+                            given[index].extend_from_slice(bytes);
+                        }
+                    }
+                    piece = &piece[(arriving.taken() - before) as usize..];
+                }
+            }
+            let data: Vec<Vec<u8>> = sections.iter().map(|s| s.data.clone()).collect();
+            assert_eq!(given, data, "{cut}");
+            assert_eq!(arriving.finish(), read(&image));
+            assert_eq!(arriving.parts(&image).count(), 0);
+        }
+    }
 }
 
 /// The counter stops at its end: bytes are still taken, and the answer is 1.

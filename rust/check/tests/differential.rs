@@ -18,7 +18,7 @@ fn say(line: &str) {
 type Compare = fn(&mut Rng, u64, &mut Tally);
 
 /// Of each kind of input: how many there are, their seed, and what makes and compares one.
-fn kinds(seed: u64) -> [(u64, u64, Compare); 11] {
+fn kinds(seed: u64) -> [(u64, u64, Compare); 12] {
     [
         (100_000, seed, |rng, ordinal, tally| {
             let image = any_image(rng);
@@ -43,6 +43,10 @@ fn kinds(seed: u64) -> [(u64, u64, Compare); 11] {
             compare_arriving(rng, ordinal, &image, tally);
         }),
         (40_000, !seed.rotate_left(48), compare_arriving_state),
+        (40_000, !seed.rotate_left(16), |rng, ordinal, tally| {
+            let image = any_image(rng);
+            compare_parts(rng, ordinal, &image, tally);
+        }),
         (100_000, seed.rotate_left(8), |rng, ordinal, tally| {
             compare_sign1(ordinal, &any_sign1(rng), tally);
         }),

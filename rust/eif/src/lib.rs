@@ -9,6 +9,7 @@
 //! | [`read`] | accepts or refuses an image and lists its sections |
 //! | [`read_strict`], [`json::check`] | the same, and then its metadata must be JSON; whether bytes are one JSON text |
 //! | [`Arriving`] | the same of an image that arrives in pieces, with no memory for its bytes |
+//! | [`Arriving::next`], [`Arriving::parts`] | which section the bytes that arrive belong to |
 //! | [`write()`], [`plan_length`], [`write_to_vec`] | the plain image of a [`Plan`] |
 //! | [`copy_stream`], [`stream_length`], [`stream_to_vec`] | the three measured streams |
 //! | [`Image::stream_sections`], [`Image::stream_reader`], [`Image::copy_stream`] | the same of an image that was read, without reading it again |
@@ -120,7 +121,7 @@ pub mod staged;
 mod state;
 mod stream;
 
-pub use arriving::Arriving;
+pub use arriving::{Arriving, Parts, Span};
 pub use assembler::Assembler;
 pub use image::{read, read_strict, Image, Reading};
 pub use numbers::{

@@ -249,6 +249,21 @@ pub struct ArrivingFinished {
     pub reading: Reading,
 }
 
+/// What [`arriving_next`] answers: bytes at the start of the next ones that belong together.
+#[repr(C)]
+#[derive(Clone, Copy, Debug, PartialEq, Eq)]
+pub struct Span {
+    /// The section whose data they are, or [`NO_SECTION`].
+    pub place: u64,
+    /// How many they are.
+    pub length: u64,
+    /// How many sections have begun before them: their own headers have come whole.
+    pub begun: u64,
+}
+
+/// What [`Span::place`] is where the bytes are no section's data.
+pub const NO_SECTION: u64 = 32;
+
 // The layout that eif.h gives to a C compiler. Each size is the sum of the fields' sizes, so an answer
 // has no padding.
 #[allow(clippy::arithmetic_side_effects)] // the compiler computes these sums
@@ -281,6 +296,7 @@ const _: () = {
     assert!(offset_of!(ArrivingFed, count) == 952);
     assert!(size_of::<ArrivingFinished>() == size_of::<Arriving>() + size_of::<Reading>());
     assert!(offset_of!(ArrivingFinished, reading) == 952 && align_of::<Arriving>() == 8);
+    assert!(size_of::<Span>() == 3 * 8 && offset_of!(Span, begun) == 16);
     assert!(size_of::<Place>() == 16);
     assert!(size_of::<Plan>() == 544 && offset_of!(Plan, places) == 32);
 };
@@ -298,7 +314,7 @@ impl From<RollRecord> for crate::RollRecord {
 mod c {
     use super::{
         Answer, Arriving, ArrivingFed, ArrivingFinished, Digest, JsonAnswer, Plan, Reading,
-        RegistersAnswer, RollReading, Sha384, Sha384Fed, StreamPosition, StreamSections,
+        RegistersAnswer, RollReading, Sha384, Sha384Fed, Span, StreamPosition, StreamSections,
     };
 
     extern "C" {
@@ -313,6 +329,7 @@ mod c {
             allowance: u64,
         ) -> ArrivingFed;
         pub fn eif_arriving_finish(state: Arriving) -> ArrivingFinished;
+        pub fn eif_arriving_next(state: Arriving, length: u64) -> Span;
         pub fn eif_plan_length(plan: Plan) -> Answer;
         pub fn eif_write(
             plan: Plan,
@@ -418,6 +435,12 @@ pub fn arriving_feed(state: Arriving, piece: &[u8], allowance: u64) -> ArrivingF
 pub fn arriving_finish(state: Arriving) -> ArrivingFinished {
     // SAFETY: there is no pointer.
     unsafe { c::eif_arriving_finish(state) }
+}
+
+/// `eif_arriving_next`.
+pub fn arriving_next(state: Arriving, length: u64) -> Span {
+    // SAFETY: there is no pointer.
+    unsafe { c::eif_arriving_next(state, length) }
 }
 
 /// `eif_plan_length`.
@@ -652,6 +675,8 @@ mod tests {
         assert_eq!(bytes_of(&fed[0]), bytes_of(&fed[1]));
         let fed = [image, &copy].map(|image| arriving_feed(arriving_begin(), image, 600));
         assert_eq!(bytes_of(&fed[0]), bytes_of(&fed[1]));
+        let spans = fed.map(|fed| arriving_next(fed.state, 600));
+        assert_eq!(bytes_of(&spans[0]), bytes_of(&spans[1]));
         let finished = fed.map(|fed| arriving_finish(fed.state));
         assert_eq!(bytes_of(&finished[0]), bytes_of(&finished[1]));
         assert_eq!(bytes_of(&finished[0].reading), bytes_of(&read(image)));

@@ -32,6 +32,16 @@ impl Crc32 {
         Crc32(!0)
     }
 
+    /// The checksum whose value before the final inversion is this.
+    pub(crate) fn of_remainder(remainder: u32) -> Self {
+        Crc32(remainder)
+    }
+
+    /// Its value before the final inversion.
+    pub(crate) fn remainder(self) -> u32 {
+        self.0
+    }
+
     /// The checksum with `bytes` added.
     #[must_use]
     pub fn update(self, bytes: &[u8]) -> Self {

@@ -14,6 +14,7 @@
 #![forbid(unsafe_code)]
 #![deny(missing_docs)]
 
+mod arriving;
 mod assembler;
 mod crc32;
 mod image;
@@ -28,6 +29,7 @@ mod staged;
 mod stream;
 mod strict;
 
+pub use arriving::{Arriving, Span};
 pub use assembler::Transfer;
 pub use crc32::Crc32;
 pub use image::{read, Reading, Section};
