@@ -1,6 +1,7 @@
 pub mod Measure
 pub mod Listed
 pub mod Arrival
+pub mod Measuring
 pub mod Strict
 pub mod Signature
 pub mod Assembly

@@ -64,6 +64,10 @@ updated st s =
     (record { verdict = refuse messageTooLong 0; state = st })
     (record { verdict = Accepted; state = absorbed st s })
 
+-- the state after a piece; the state as it was if the piece would pass the limit
+abbrev pub moreHashed : State → List ℕ → State
+moreHashed st s = updated st s .state
+
 -- the state after pieces, one after the other
 unfoldable pub afterAll : State → List (List ℕ) → State
 afterAll st [] = st

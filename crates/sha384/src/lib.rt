@@ -7,7 +7,7 @@ ghost use mathlib.Core.Path.{_≡_};
 ghost use Prim.Native.Nat.{_+_, _<_, _≤_};
 ghost use lib.ListN.{length, take};
 ghost use Rattle.sha384_block.specs.Fips.{blockSize, leastPadding, mostPadding, roundConstants, digestOf, padding, zerosFor};
-ghost use Rattle.sha384.specs.State.{noBytes, takeBytes, initialState, updated, digestFrom};
+ghost use Rattle.sha384.specs.State.{noBytes, takeBytes, initialState, updated, moreHashed, digestFrom};
 use eif::Refusal;
 use eif::Verdict;
 use sha384_block::BLOCK_SIZE;
@@ -158,6 +158,15 @@ pub fn update(state: State, piece: &[u8]) -> Updated
             total: total_after,
         },
     }
+}
+
+// The state after a piece; the state as it was if the piece would pass the limit.
+pub fn after(state: State, piece: &[u8]) -> State
+    ensures { λ r. ⌜ r ≡ moreHashed state (now (piece .entry)) ⌝ }
+{
+    let answer = update(state, piece);
+    let next = answer.state;
+    next
 }
 
 // ---- the digest

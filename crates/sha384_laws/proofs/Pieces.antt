@@ -14,7 +14,7 @@ use Rattle.eif.specs.Numbers.{messageTooLong}
 use Rattle.eif.specs.Answers.{refuse, numberOf}
 use Rattle.eif.specs.declared.Verdict.the-variants.{Accepted}
 use Rattle.sha384_block.specs.Fips.{sha384}
-use Rattle.sha384.specs.State.{initialState, absorbed, digestFrom, stateAfter, updated, totalLimit, afterAll}
+use Rattle.sha384.specs.State.{initialState, absorbed, digestFrom, stateAfter, updated, moreHashed, totalLimit, afterAll}
 use Rattle.sha384.specs.declared.State.{State}
 use Rattle.sha384.specs.declared.Updated.{Updated}
 use Rattle.sha384_laws.specs.Pieces.{bytesTaken}
@@ -42,6 +42,12 @@ module _ (st : State) (s : List ℕ) where
   -- and then the state is as it was
   pub refused-same : totalLimit < st .total + length s → updated st s .state ≡ st
   refused-same h = ap (λ (u : Updated). u .state) (past-limit h)
+
+-- a piece within the limit takes the state of some bytes to the state of those bytes and the piece
+pub after-more : (x p : List ℕ) → length (x ++ p) ≤ totalLimit → moreHashed (stateAfter x) p ≡ stateAfter (x ++ p)
+after-more x p h =
+    ap (λ (u : Updated). u .state) (within-limit (stateAfter x) p (omega (arith, total-stateOf x, length-append x p)))
+    ∙ ap (λ (st : State). absorbed st p) (sym (fresh-fed x)) ∙ fed-append initialState x p ∙ fresh-fed (x ++ p)
 
 -- ---- all pieces
 
