@@ -2,6 +2,7 @@ pub mod Measure
 pub mod Listed
 pub mod Arrival
 pub mod Measuring
+pub mod Fingerprint
 pub mod Strict
 pub mod Signature
 pub mod Assembly

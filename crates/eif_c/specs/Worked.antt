@@ -7,6 +7,7 @@ use Rattle.eif.specs.Answers.{refuseAt}
 use Rattle.json.specs.declared.JsonVerdict.the-variants.{Text, Fault}
 use Rattle.eif_flat.specs.Worked.{oneSection, oneFlat}
 use Rattle.eif_c.specs.Measure.{flatFed, flatRegisters}
+use Rattle.eif_c.specs.Fingerprint.{flatFingerprint}
 use Rattle.eif_c.specs.Listed.{flatListed, listOf}
 use Rattle.eif_c.specs.Signature.{flatSign1}
 use Rattle.eif_c.specs.Assembly.{flatStepped}
@@ -22,6 +23,11 @@ pub registers-flat :
     flatRegisters (record { verdict = refuseAt 7 2 44; registers = record { 0 = 1 ∷ [] } ∷ record { 0 = 3 ∷ [] } ∷ [] })
     ≡ record { number = 7; reserved = replicate 7 0; index = 2; position = 44; registers = record { 0 = 1 ∷ [] } ∷ record { 0 = 3 ∷ [] } ∷ [] }
 registers-flat = refl
+
+pub fingerprint-flat :
+    flatFingerprint (record { verdict = refuseAt 7 2 44; digest = 1 ∷ [] })
+    ≡ record { number = 7; reserved = replicate 7 0; index = 2; position = 44; digest = record { 0 = 1 ∷ [] } }
+fingerprint-flat = refl
 
 pub sign1-flat :
     flatSign1

@@ -2,10 +2,11 @@
 // include/eif.h declares these functions to C.
 //
 // The digest and the registers are in measure.rt, the reader of an image that arrives in pieces in arrival.rt, the registers of such an image in
-// measuring.rt, the stricter reading in strict.rt, the COSE_Sign1 of a signature section in signature.rt, the assembler in assembly.rt, streams
-// of an image already read in sections.rt, an image with one section replaced in staging.rt.
+// measuring.rt, fingerprints in fingerprint.rt, the stricter reading in strict.rt, the COSE_Sign1 of a signature section in signature.rt, the
+// assembler in assembly.rt, streams of an image already read in sections.rt, an image with one section replaced in staging.rt.
 mod arrival;
 mod assembly;
+mod fingerprint;
 mod measure;
 mod measuring;
 mod sections;

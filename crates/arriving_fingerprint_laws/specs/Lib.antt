@@ -1,0 +1,3 @@
+pub mod Roll
+pub mod Runs
+pub mod Worked

@@ -1,0 +1,46 @@
+-- The fingerprint of an image: SHA-384 of its boot roll (FORMAT.md, The boot roll); and its computation record by record.
+use Prim.Native.Nat.{ℕ}
+use mathlib.Core.List.{List, [], _∷_}
+use lib.ListN.{replicate}
+use Rattle.octets.specs.Logic.{choose}
+use Rattle.eif.specs.Answers.{beside}
+use Rattle.eif.specs.Reading.{verdictOf, dataOf}
+use Rattle.eif.specs.Rules.{bootType}
+use Rattle.eif.specs.Roll.{headOf, flagsRecord, endType, rollBytes}
+use Rattle.eif.specs.declared.Reading.{Reading}
+use Rattle.eif.specs.declared.Section.{Section}
+use Rattle.sha384_block.specs.Fips.{digestSize, sha384}
+use Rattle.sha384.specs.State.{initialState, moreHashed, digestFrom}
+use Rattle.sha384.specs.declared.State.{State}
+use Rattle.eif_fingerprint.specs.declared.Fingerprinted.{Fingerprinted}
+
+-- the fingerprint of an image
+unfoldable pub fingerprintOf : List ℕ → List ℕ
+fingerprintOf s = sha384 (rollBytes s)
+
+-- the fingerprint in the answer to a refused image
+unfoldable pub noFingerprint : List ℕ
+noFingerprint = replicate digestSize 0
+
+-- an image's verdict, and its fingerprint, or zero if it is refused
+unfoldable pub fingerprintAnswer : List ℕ → Fingerprinted
+fingerprintAnswer s = record { verdict = verdictOf s; digest = beside (verdictOf s) (fingerprintOf s) noFingerprint }
+
+-- ---- record by record, for any sections and any data of theirs
+
+-- the hash state after the record of a section
+unfoldable pub recordHashed : (Section → List ℕ) → State → Section → State
+recordHashed held roll x = choose (bootType (x .kind)) (moreHashed (moreHashed roll (headOf (x .length .0) (x .kind))) (held x)) roll
+
+-- the hash state after the records of sections
+unfoldable pub recordsHashed : (Section → List ℕ) → State → List Section → State
+recordsHashed held roll [] = roll
+recordsHashed held roll (x ∷ xs) = recordsHashed held (recordHashed held roll x) xs
+
+-- the digest of flags record, records and end record
+unfoldable pub rollDigest : ℕ → (Section → List ℕ) → List Section → List ℕ
+rollDigest flags held l = digestFrom (moreHashed (recordsHashed held (moreHashed initialState (flagsRecord flags)) l) (headOf 0 endType))
+
+-- the fingerprint of an image s by its reading; zero for a refused reading
+unfoldable pub readFingerprint : List ℕ → Reading → List ℕ
+readFingerprint s r = beside (r .verdict) (rollDigest (r .flags) (dataOf s) (r .sections)) noFingerprint
