@@ -407,6 +407,28 @@ typedef struct eif_sha384_fed {
     eif_sha384 state;  /* after the piece; beside a refusal as it was */
 } eif_sha384_fed;
 
+/* An image that arrives in pieces and is measured: a value that can be kept and copied. Any value is a state; a
+ * fresh one comes from eif_measuring_begin. It has 1,552 bytes. */
+typedef struct eif_measuring {
+    eif_arriving arriving; /* what is kept of the bytes taken */
+    eif_sha384 whole;      /* the digests of the three streams so far */
+    eif_sha384 boot;
+    eif_sha384 app;
+} eif_measuring;
+
+/* The answer to a piece of an image that is measured while it arrives. */
+typedef struct eif_measuring_fed {
+    eif_measuring state; /* after the call */
+    uint64_t count;      /* how many bytes of the piece were taken */
+} eif_measuring_fed;
+
+/* The answer to the end of an image that is measured while it arrives. */
+typedef struct eif_measuring_finished {
+    eif_measuring state;                 /* as it was, its end announced */
+    eif_reading reading;                 /* what eif_read answers on the bytes taken */
+    eif_digest registers[EIF_REGISTERS]; /* what eif_registers answers on them; all 0 beside a refusal */
+} eif_measuring_finished;
+
 /* A record of an accepted roll. */
 typedef struct eif_roll_record {
     uint16_t type;
@@ -566,6 +588,22 @@ EIF_MUST_USE eif_answer eif_copy_sections(const uint8_t *image, size_t image_len
 /* The registers 0, 1 and 2 of an image (FORMAT.md, Registers): of the streams whole, boot and app,
  * SHA-384 of 48 zero bytes followed by the SHA-384 of the stream. Refusals: the image's own. */
 EIF_MUST_USE eif_registers_answer eif_registers(const uint8_t *image, size_t image_length);
+
+/* Computes the registers of an image that arrives in pieces of any size, with no room for its bytes (FORMAT.md,
+ * Registers):
+ *
+ *     eif_measuring state = eif_measuring_begin();
+ *     eif_measuring_fed fed = eif_measuring_feed(state, piece, piece_length, allowance);
+ *     ... continue with fed.state and with what was not taken of the piece, then with the next piece ...
+ *     eif_measuring_finished end = eif_measuring_finish(fed.state);
+ *
+ * Each byte is hashed when it arrives. Bytes are taken and counted as by eif_arriving_feed, so fed.state.arriving is
+ * what eif_arriving_feed makes of the same pieces, and eif_arriving_next can be asked with it. However the file was
+ * cut, the answer is that of eif_read and of eif_registers on the bytes taken. Finishing again gives the same. */
+EIF_MUST_USE eif_measuring eif_measuring_begin(void);
+EIF_MUST_USE eif_measuring_fed eif_measuring_feed(eif_measuring state, const uint8_t *piece,
+                                                  size_t piece_length, uint64_t allowance);
+EIF_MUST_USE eif_measuring_finished eif_measuring_finish(eif_measuring state);
 
 /* SHA-384 (FIPS 180-4) of bytes that come in pieces of any size:
  *

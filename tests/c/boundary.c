@@ -39,6 +39,14 @@ typedef char layout_of_sha384_fed_state[offsetof(eif_sha384_fed, state) == 24 ? 
 typedef char layout_of_digest[sizeof(eif_digest) == 48 ? 1 : -1];
 typedef char layout_of_registers[sizeof(eif_registers_answer) == 168 ? 1 : -1];
 typedef char layout_of_registers_values[offsetof(eif_registers_answer, registers) == 24 ? 1 : -1];
+typedef char layout_of_measuring[sizeof(eif_measuring) == 952 + 3 * 200 ? 1 : -1];
+typedef char layout_of_measuring_whole[offsetof(eif_measuring, whole) == 952 ? 1 : -1];
+typedef char layout_of_measuring_app[offsetof(eif_measuring, app) == 1352 ? 1 : -1];
+typedef char layout_of_measuring_fed[sizeof(eif_measuring_fed) == 1560 ? 1 : -1];
+typedef char layout_of_measuring_count[offsetof(eif_measuring_fed, count) == 1552 ? 1 : -1];
+typedef char layout_of_measuring_finished[sizeof(eif_measuring_finished) == 1552 + 824 + 144 ? 1 : -1];
+typedef char layout_of_measuring_reading[offsetof(eif_measuring_finished, reading) == 1552 ? 1 : -1];
+typedef char layout_of_measuring_registers[offsetof(eif_measuring_finished, registers) == 2376 ? 1 : -1];
 typedef char layout_of_roll_record[sizeof(eif_roll_record) == 24 ? 1 : -1];
 typedef char layout_of_roll_reading[sizeof(eif_roll_reading) == 32 + 32 * 24 ? 1 : -1];
 typedef char layout_of_roll_flags[offsetof(eif_roll_reading, flags) == 2 ? 1 : -1];
@@ -77,6 +85,7 @@ static void try_null(const uint8_t *image) {
     check(eif_registers(NULL, 0).number == EIF_IMAGE_TOO_SHORT, "registers of null");
     check(eif_sha384_update(eif_sha384_begin(), NULL, 0).number == EIF_ACCEPTED, "a piece of null");
     check(eif_arriving_feed(eif_arriving_begin(), NULL, 0, UINT64_MAX).count == 0, "null arrives");
+    check(eif_measuring_feed(eif_measuring_begin(), NULL, 0, UINT64_MAX).count == 0, "null is measured");
     check(eif_write(empty, NULL, 0, NULL, 0).number == EIF_OUTPUT_TOO_SHORT, "write to null");
 
     check(eif_copy_whole(image, IMAGE_LENGTH, at(0), NULL, 0).number == EIF_ACCEPTED, "whole to null");
@@ -157,6 +166,14 @@ static void try_arriving(const uint8_t *image, size_t length) {
     CHECK_TWICE(end, other_end, eif_arriving_finish(one.state), "equal ends by memcmp");
 }
 
+static void try_measuring(const uint8_t *image, size_t length) {
+    static eif_measuring_fed one, other;
+    static eif_measuring_finished end, other_end;
+    eif_measuring state = eif_measuring_begin();
+    CHECK_TWICE(one, other, eif_measuring_feed(state, image, length, UINT64_MAX), "equal measuring states by memcmp");
+    CHECK_TWICE(end, other_end, eif_measuring_finish(one.state), "equal measured ends by memcmp");
+}
+
 /* A piece that is taken or, with a larger total, one that is refused. */
 static void try_sha384(uint64_t total) {
     static const uint8_t piece[3] = {1, 2, 3};
@@ -207,6 +224,8 @@ int main(void) {
     try_registers(image, CUT_LENGTH);
     try_arriving(image, IMAGE_LENGTH);
     try_arriving(image, CUT_LENGTH);
+    try_measuring(image, IMAGE_LENGTH);
+    try_measuring(image, CUT_LENGTH);
     try_sha384(0);
     try_sha384(EIF_MAX_MESSAGE_LENGTH);
     try_words();

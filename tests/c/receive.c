@@ -1,7 +1,7 @@
 /*
- * A receiver with 64 KiB: takes a file that arrives in pieces of 4 KiB and stores the data of its ramdisks as it
- * arrives, on a stack of that size, which also holds the state and the piece. Below the stack lies a page that
- * cannot be touched.
+ * A receiver with 64 KiB: takes a file that arrives in pieces of 4 KiB, stores the data of its ramdisks as it arrives,
+ * and measures it, on a stack of that size, which also holds the state and the piece. Below the stack lies a page
+ * that cannot be touched.
  * Prints how much was used and ends with status 0, or says what differs and ends with status 1.
  */
 #include "stack.h"
@@ -22,6 +22,7 @@ static size_t stored;
 /* What the receiver found. */
 static uint8_t number;
 static uint16_t count;
+static eif_digest registers[EIF_REGISTERS];
 
 /* The radio: the next bytes of the file, as many as there is room for. */
 static size_t receive(uint8_t *piece, size_t room) {
@@ -46,20 +47,21 @@ static void store(const eif_arriving *state, eif_span span, const uint8_t *bytes
 
 static void receiver(void) {
     uint8_t piece[PIECE];
-    eif_arriving state = eif_arriving_begin();
-    eif_arriving_finished end;
+    eif_measuring state = eif_measuring_begin();
+    eif_measuring_finished end;
     size_t length;
     while ((length = receive(piece, sizeof piece)) != 0) {
         for (size_t at = 0; at < length;) {
-            eif_span span = eif_arriving_next(state, length - at);
-            store(&state, span, piece + at);
-            state = eif_arriving_feed(state, piece + at, (size_t)span.length, UINT64_MAX).state;
+            eif_span span = eif_arriving_next(state.arriving, length - at);
+            store(&state.arriving, span, piece + at);
+            state = eif_measuring_feed(state, piece + at, (size_t)span.length, UINT64_MAX).state;
             at += (size_t)span.length;
         }
     }
-    end = eif_arriving_finish(state);
+    end = eif_measuring_finish(state);
     number = end.reading.number;
     count = end.reading.count;
+    memcpy(registers, end.registers, sizeof registers);
 }
 
 /* An image with the largest number of sections, and more bytes than the receiver has. No two sections have the same data. */
@@ -85,6 +87,7 @@ static size_t used(void) {
 
 int main(void) {
     size_t bytes, ramdisks = 2 * SECTION_LENGTH;
+    eif_registers_answer whole;
     if (!prepare()) {
         printf("receive: no image to try\n");
         return 1;
@@ -93,6 +96,8 @@ int main(void) {
     check(bytes != 0, "a stack to try");
     check(number == EIF_ACCEPTED && count == EIF_MAX_SECTIONS && sent == image_length, "the image is accepted");
     check(stored == sizeof data - ramdisks && memcmp(storage, data + ramdisks, stored) == 0, "the ramdisks are stored");
+    whole = eif_registers(image, image_length);
+    check(memcmp(registers, whole.registers, sizeof registers) == 0, "the registers are those of the whole image");
     if (failures == 0) {
         printf("receive: a file of %zu bytes by %d: %zu of %d bytes used, stack, state and piece\n",
                image_length, PIECE, bytes, MEMORY);

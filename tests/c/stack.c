@@ -12,6 +12,8 @@ enum { SHORT_SECTION = 98, LONG_SECTION = 4000, LONGER_SECTION = 9000, LONGEST_S
 /* From LONGER bytes on the checksum takes its large window, from PARTED on two parts. What is shorter is held to LONG_STACK_KIB. */
 enum { LONGER = 1 << 18, PARTED = 1 << 24, LONG_STACK_KIB = 16 };
 enum { DATA_LENGTH = SECTIONS * LONGEST_SECTION, ROOM = 2 * DATA_LENGTH };
+/* Where the data of the first section, the kernel, starts. */
+enum { KERNEL_DATA = EIF_HEADER_LENGTH + EIF_SECTION_HEADER_LENGTH };
 
 static uint8_t stack[STACK_LENGTH];
 
@@ -32,6 +34,9 @@ static eif_arriving_finished arrived;
 static eif_span span;
 static eif_stream_sections sections;
 static eif_registers_answer registers;
+static eif_measuring measuring;
+static eif_measuring_fed measuring_fed, short_fed;
+static eif_measuring_finished measured;
 static eif_sha384 begun;
 static eif_sha384_fed fed;
 static eif_digest digest;
@@ -78,6 +83,15 @@ static void call_copy_sections(void) {
     answer = eif_copy_sections(image, image_length, sections, start, out, sizeof out);
 }
 static void call_registers(void) { registers = eif_registers(image, image_length); }
+static void call_measuring_begin(void) { measuring = eif_measuring_begin(); }
+static void call_measuring_feed(void) {
+    measuring_fed = eif_measuring_feed(measuring, image, image_length, UINT64_MAX);
+}
+/* EIF_SHORT_LENGTH bytes of the kernel's data, where the image has as many. */
+static void call_measuring_short(void) {
+    short_fed = eif_measuring_feed(short_fed.state, image + KERNEL_DATA, EIF_SHORT_LENGTH, UINT64_MAX);
+}
+static void call_measuring_finish(void) { measured = eif_measuring_finish(measuring_fed.state); }
 static void call_sha384_begin(void) { begun = eif_sha384_begin(); }
 static void call_sha384_update(void) { fed = eif_sha384_update(begun, image, image_length); }
 static void call_sha384_finish(void) { digest = eif_sha384_finish(fed.state); }
@@ -161,6 +175,9 @@ static const struct {
     {"eif_whole_sections", call_whole_sections},
     {"eif_copy_sections", call_copy_sections},
     {"eif_registers", call_registers},
+    {"eif_measuring_begin", call_measuring_begin},
+    {"eif_measuring_feed", call_measuring_feed},
+    {"eif_measuring_finish", call_measuring_finish},
     {"eif_sha384_begin", call_sha384_begin},
     {"eif_sha384_update", call_sha384_update},
     {"eif_sha384_finish", call_sha384_finish},
@@ -188,13 +205,27 @@ static void try_calls(size_t section, size_t kib) {
         size_t bytes = stack_used(stack, sizeof stack, calls[i].function) - least;
         int fits = bytes <= kib * 1024;
         printf("stack: %-22s %6zu bytes%s\n", calls[i].name, bytes, fits ? "" : ": too many");
-        failures += !fits || reading.number != 0 || arrived.reading.number != 0 ||
+        failures += !fits || reading.number != 0 || arrived.reading.number != 0 || measured.reading.number != 0 ||
                     roll_reading.number != 0 || answer.number != 0 || registers.number != 0 ||
                     fed.number != 0 || sign1_reading.number != 0 ||
                     staged_part.number != 0 || staged_registers.number != 0 || stepped.number != 0;
     }
+    check(memcmp(measured.registers, registers.registers, sizeof registers.registers) == 0, "the registers");
     check(span.place == EIF_NO_SECTION && span.begun == SECTIONS, "the span after the last section");
     check(json.is_text == 1 && marks[0] == 1 && marks[1] == 0, "the text and the marks");
+}
+
+/* Short pieces inside the data of a longer section. */
+static void try_short(const char *name, void (*function)(void)) {
+    size_t bytes = stack_used(stack, sizeof stack, function) - stack_used(stack, sizeof stack, nothing);
+    printf("stack: %-22s %6zu bytes, a short piece\n", name, bytes);
+    check(bytes <= EIF_SHORT_STACK_KIB * 1024, name);
+}
+
+static void try_short_pieces(void) {
+    short_fed = eif_measuring_feed(eif_measuring_begin(), image, KERNEL_DATA, UINT64_MAX);
+    try_short("eif_measuring_feed", call_measuring_short);
+    check(short_fed.count == EIF_SHORT_LENGTH, "a short piece is taken");
 }
 
 int main(void) {
@@ -204,6 +235,7 @@ int main(void) {
     check(image_length < LONGER, "the length of the second image");
     try_calls(LONGER_SECTION, EIF_STACK_KIB);
     check(image_length >= EIF_HEADER_LENGTH + LONGER && image_length < PARTED, "the length of the third image");
+    try_short_pieces();
     try_calls(LONGEST_SECTION, EIF_STACK_KIB);
     check(image_length >= EIF_HEADER_LENGTH + PARTED, "the length of the fourth image");
     return failures != 0;

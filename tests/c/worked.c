@@ -424,6 +424,34 @@ static void try_registers(const uint8_t *image) {
     }
 }
 
+/* The image measured in pieces of every length: its registers, its reading, and nothing after the end. */
+static void try_measuring(const uint8_t *image) {
+    eif_registers_answer whole = eif_registers(image, IMAGE_LENGTH);
+    eif_reading reading = eif_read(image, IMAGE_LENGTH);
+    for (size_t length = 1; length <= IMAGE_LENGTH; length++) {
+        uint64_t allowance = 1 + length / 2;
+        eif_measuring state = eif_measuring_begin();
+        for (size_t at = 0; at < IMAGE_LENGTH;) {
+            size_t piece = IMAGE_LENGTH - at < length ? IMAGE_LENGTH - at : length;
+            eif_measuring_fed fed = eif_measuring_feed(state, image + at, piece, allowance);
+            check(fed.count == (piece < allowance ? piece : allowance), "bytes taken of a measured piece");
+            at += (size_t)fed.count;
+            state = fed.state;
+        }
+        eif_measuring_finished end = eif_measuring_finish(state);
+        check(same_reading(&end.reading, &reading), "reading of what was measured");
+        check(memcmp(end.registers, whole.registers, sizeof whole.registers) == 0, "registers of what arrived");
+        eif_measuring_fed after = eif_measuring_feed(end.state, image, IMAGE_LENGTH, UINT64_MAX);
+        check(after.count == 0 && memcmp(&after.state, &end.state, sizeof end.state) == 0, "measured after the end");
+        eif_measuring_finished again = eif_measuring_finish(after.state);
+        check(memcmp(&again, &end, sizeof end) == 0, "measured end again");
+    }
+    eif_measuring state = eif_measuring_begin();
+    eif_measuring_finished cut = eif_measuring_finish(eif_measuring_feed(state, image, CUT_LENGTH, UINT64_MAX).state);
+    check(refused(cut.reading, EIF_IMAGE_TOO_SHORT, 0, 0), "547 bytes measured");
+    check(zero(cut.registers[0].bytes, sizeof cut.registers), "registers of 547 bytes");
+}
+
 /* SHA-384 of "abc", the standard's first example, in two pieces. */
 static void try_sha384(void) {
     static const uint8_t expected[EIF_DIGEST_LENGTH] = {
@@ -467,6 +495,7 @@ int main(void) {
     try_sections(image);
     try_file_order();
     try_registers(image);
+    try_measuring(image);
     try_sha384();
     try_roll(image);
     try_flags();

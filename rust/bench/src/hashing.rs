@@ -13,7 +13,7 @@ use std::path::Path;
 use std::process::Command;
 
 /// A number that stands for a digest.
-fn first_word(digest: &[u8]) -> usize {
+pub fn first_word(digest: &[u8]) -> usize {
     usize::from_be_bytes(digest[..8].try_into().unwrap())
 }
 

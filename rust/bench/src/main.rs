@@ -154,8 +154,8 @@ fn texts_beside_programs() {
 fn arriving_in_pieces() {
     println!();
     println!(
-        "An image that arrives in pieces, beside whole readers on the same bytes. Each piece is handed over \
-         where it lies; none is copied."
+        "An image that arrives in pieces, read and measured, beside the same calls on the whole image. Each piece is handed \
+         over where it lies; none is copied."
     );
     arriving::head();
     for length in lengths() {

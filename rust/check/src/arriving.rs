@@ -89,7 +89,7 @@ pub const LENGTHS: [usize; 9] = [
 ];
 
 /// The length of a next piece, where so many bytes are left, and an allowance for it.
-fn any_cut(rng: &mut Rng, small: bool, rest: usize) -> (usize, u64) {
+pub(crate) fn any_cut(rng: &mut Rng, small: bool, rest: usize) -> (usize, u64) {
     let length = match rng.below(3) {
         0 => rng.below(rest + 1),
         _ if small => rng.pick(&LENGTHS[..5]),

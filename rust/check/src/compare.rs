@@ -184,7 +184,7 @@ fn twin_registers(answer: TwinRegisters) -> RegistersAnswer {
     }
 }
 
-fn twin_state(state: raw::Sha384) -> twin::Sha384 {
+pub(crate) fn twin_state(state: raw::Sha384) -> twin::Sha384 {
     let raw::Sha384 {
         words,
         block,

@@ -10,6 +10,7 @@ mod arriving;
 mod assembler;
 mod compare;
 mod images;
+mod measuring;
 mod messages;
 mod output;
 mod plans;
@@ -31,6 +32,7 @@ pub use compare::{
     refused_reading, Parts,
 };
 pub use images::{accepted_layout, any_image, any_image_of};
+pub use measuring::{compare_measured, compare_measured_state, RegistersArriving, WhileArriving};
 pub use messages::{any_message, Message};
 pub use output::Output;
 pub use plans::{accepted_plan, any_plan, PlanInput};

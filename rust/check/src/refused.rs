@@ -1,7 +1,8 @@
 //! Every call on an image that is refused.
 
 use crate::{parts, refused, refused_reading};
-use eif::{raw, staged, Arriving, Refusal, Stream, StreamPosition};
+use eif::raw::measuring::{measuring_begin, measuring_feed, measuring_finish};
+use eif::{raw, staged, Arriving, ArrivingRegisters, Digest, Refusal, Stream, StreamPosition};
 use eif_cases::Answer;
 
 /// What every call answers, by name. What each is handed beside the image is at fault too: a position past the end of the
@@ -9,12 +10,15 @@ use eif_cases::Answer;
 fn every_answer(image: &[u8], out: &mut [u8]) -> Vec<(&'static str, Result<(), Refusal>)> {
     let mut arriving = Arriving::new();
     arriving.feed(image);
+    let mut measuring = ArrivingRegisters::new();
+    measuring.feed(image);
     let past = usize::MAX;
     let mut answers = vec![
         ("read", eif::read(image).map(|_| ())),
         ("strict", eif::read_strict(image).map(|_| ())),
         ("arriving", arriving.finish().map(|_| ())),
         ("registers", eif::registers(image).map(|_| ())),
+        ("arriving registers", measuring.finish().map(|_| ())),
         ("roll length", eif::roll_length(image).map(|_| ())),
         ("roll", eif::write_roll(image, out).map(|_| ())),
         ("roll to Vec", eif::roll_to_vec(image).map(|_| ())),
@@ -59,6 +63,10 @@ fn check_raw(name: &str, image: &[u8], answer: Answer, out: &mut [u8]) {
     let arrived = raw::arriving_feed(raw::arriving_begin(), image, u64::MAX);
     let arrived = raw::arriving_finish(arrived.state);
     assert_eq!(arrived.reading, reading, "{name}");
+    let measured = measuring_feed(measuring_begin(), image, u64::MAX);
+    let measured = measuring_finish(measured.state);
+    assert_eq!(measured.reading, reading, "{name}");
+    assert_eq!(measured.registers, [Digest::default(); 3], "{name}");
     let (most, length) = (u64::MAX, refused!(raw::Answer, answer));
     let lengths = [
         raw::roll_length(image),

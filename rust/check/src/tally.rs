@@ -4,7 +4,7 @@ use std::fmt;
 use std::ops::AddAssign;
 
 /// How many kinds of call there are.
-const CALLS: usize = 20;
+const CALLS: usize = 21;
 
 /// Answer numbers are below this.
 const NUMBERS: usize = 30;
@@ -36,6 +36,8 @@ pub enum Call {
     RollRead,
     /// The registers of an image.
     Registers,
+    /// The registers of an image that arrives in pieces.
+    RegistersArriving,
     /// A piece for a digest in progress.
     Update,
     /// Reading a COSE_Sign1.
@@ -69,6 +71,7 @@ impl Call {
         Call::RollWrite,
         Call::RollRead,
         Call::Registers,
+        Call::RegistersArriving,
         Call::Update,
         Call::Sign1Read,
         Call::Sign1Write,
@@ -83,9 +86,12 @@ impl Call {
     pub fn numbers(self) -> Vec<u8> {
         let image = (0..=13).chain([20]);
         let mut numbers: Vec<u8> = match self {
-            Call::Read | Call::Arrive | Call::Length | Call::RollLength | Call::Registers => {
-                image.collect()
-            }
+            Call::Read
+            | Call::Arrive
+            | Call::Length
+            | Call::RollLength
+            | Call::Registers
+            | Call::RegistersArriving => image.collect(),
             Call::ReadStrict => image.chain([21]).collect(),
             Call::PlanLength => vec![0, 1, 4, 5, 9, 10, 11, 12],
             Call::Write => vec![0, 1, 4, 5, 9, 10, 11, 12, 14, 15],
@@ -160,12 +166,12 @@ impl fmt::Display for Tally {
     fn fmt(&self, f: &mut fmt::Formatter<'_>) -> fmt::Result {
         write!(f, "{:>6}", "number")?;
         for call in Call::ALL {
-            write!(f, " {:>16}", format!("{call:?}"))?;
+            write!(f, " {:>18}", format!("{call:?}"))?;
         }
         for number in (0..NUMBERS as u8).filter(|&number| self.of_number(number) > 0) {
             write!(f, "\n{number:>6}")?;
             for counts in &self.counts {
-                write!(f, " {:>16}", counts[usize::from(number)])?;
+                write!(f, " {:>18}", counts[usize::from(number)])?;
             }
         }
         Ok(())

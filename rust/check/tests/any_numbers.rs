@@ -1,11 +1,12 @@
 //! Any bytes and any numbers: no public call of the crate `eif` panics. `make rust-lint` refuses what could panic in its
 //! code; here each call gets the numbers that an index, a slice or a sum would fail at.
 
-use eif::raw::{self, assembler::State, staged::staged_part};
+use eif::raw::{self, assembler::State, measuring::Measuring, staged::staged_part};
 use eif::sign1::{self, Algorithm, Claim};
 use eif::{
-    assembler, json, staged, Architecture, Arriving, Assembler, DataLength, Digest, FilePosition,
-    Place, Plan, Reason, Registers, SectionType, Sha384, Stream, StreamPosition,
+    assembler, json, staged, Architecture, Arriving, ArrivingRegisters, Assembler, DataLength,
+    Digest, FilePosition, Place, Plan, Reason, Registers, SectionType, Sha384, Stream,
+    StreamPosition,
 };
 use eif_cases::{worked_image, Layout, Section};
 use eif_check::parts;
@@ -285,11 +286,23 @@ fn states() {
         assert!(arriving.feed_at_most(&[0xff; 40], number) <= 40);
         assert!(arriving.feed(&[0xff; 600]) <= 600);
         assert!(arriving.finish().is_err());
+        let arriving = state;
         let state = raw::Sha384 {
             words: [number; 8],
             block: [number as u8; 128],
             total: number,
         };
+        let mut measuring = ArrivingRegisters::from(Measuring {
+            arriving,
+            whole: state,
+            boot: state,
+            app: state,
+        });
+        assert_eq!(measuring.taken(), number);
+        assert_eq!(raw::Arriving::from(measuring.arriving()), arriving);
+        assert!(measuring.feed_at_most(&[0xff; 40], number) <= 40);
+        assert!(measuring.feed(&[0xff; 600]) <= 600);
+        assert!(measuring.finish().is_err());
         let mut hash = Sha384::from(state);
         let fits = number <= eif::MAX_MESSAGE_LENGTH - 300;
         assert_eq!(hash.update(&[0xff; 300]).is_ok(), fits);

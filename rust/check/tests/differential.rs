@@ -18,7 +18,7 @@ fn say(line: &str) {
 type Compare = fn(&mut Rng, u64, &mut Tally);
 
 /// Of each kind of input: how many there are, their seed, and what makes and compares one.
-fn kinds(seed: u64) -> [(u64, u64, Compare); 12] {
+fn kinds(seed: u64) -> [(u64, u64, Compare); 14] {
     [
         (100_000, seed, |rng, ordinal, tally| {
             let image = any_image(rng);
@@ -47,6 +47,15 @@ fn kinds(seed: u64) -> [(u64, u64, Compare); 12] {
             let image = any_image(rng);
             compare_parts(rng, ordinal, &image, tally);
         }),
+        (20_000, seed.rotate_left(56), |rng, ordinal, tally| {
+            let image = any_image(rng);
+            compare_measured::<RegistersArriving>(rng, ordinal, &image, tally);
+        }),
+        (
+            20_000,
+            !seed.rotate_left(56),
+            compare_measured_state::<RegistersArriving>,
+        ),
         (100_000, seed.rotate_left(8), |rng, ordinal, tally| {
             compare_sign1(ordinal, &any_sign1(rng), tally);
         }),

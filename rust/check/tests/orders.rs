@@ -17,6 +17,7 @@ fn calls(order: &str) -> &'static [Call] {
             Call::Length,
             Call::RollLength,
             Call::Registers,
+            Call::RegistersArriving,
         ],
         "stricter reading" => &[Call::ReadStrict],
         "copying from a stream" => &[Call::Copy],

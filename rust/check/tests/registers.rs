@@ -1,9 +1,10 @@
 //! The registers of images: the examples, `sha384sum`, and the rule itself.
 
-use eif::{raw, Registers, Sha384, Stream, DIGEST_LENGTH};
+use eif::{raw, ArrivingRegisters, Registers, Sha384, Stream, DIGEST_LENGTH};
 use eif_cases::{image_cases, image_of_length, register_cases};
 use eif_check::{accepted_layout, Rng};
 use std::fs;
+use std::io::{ErrorKind, Write};
 use std::path::{Path, PathBuf};
 use std::process::Command;
 
@@ -89,6 +90,41 @@ fn registers_are_digests_of_digests_of_streams() {
             extended.update(&measured.finish().0).unwrap();
             assert_eq!(registers.of(stream), extended.finish());
         }
+    }
+}
+
+/// However the image is cut, and written as to a file.
+#[test]
+fn registers_of_examples_while_they_arrive() {
+    for (image, expected) in register_cases() {
+        for length in [1, 7, 12, 547, 548, 4096] {
+            let mut arriving = ArrivingRegisters::new();
+            for piece in image.chunks(length) {
+                arriving.write_all(piece).unwrap();
+            }
+            arriving.flush().unwrap();
+            let (reading, registers) = arriving.finish().unwrap();
+            assert_eq!(reading, *eif::read(&image).unwrap());
+            assert_eq!(registers.0.map(|register| register.to_string()), expected);
+            let error = arriving.write_all(b"x").unwrap_err();
+            assert_eq!(error.kind(), ErrorKind::WriteZero);
+            assert_eq!(arriving.finish(), Ok((reading, registers)));
+        }
+    }
+}
+
+/// Of a long image, whose ramdisks are longer than a piece.
+#[test]
+fn registers_of_a_long_image_while_it_arrives() {
+    let image = image_of_length(1 << 20);
+    let expected = eif::registers(&image).unwrap();
+    for length in [1 << 16, 1 << 12, 1_000, 1 << 20] {
+        let mut arriving = ArrivingRegisters::new();
+        for piece in image.chunks(length) {
+            assert_eq!(arriving.feed(piece), piece.len());
+        }
+        assert_eq!(arriving.taken(), image.len() as u64);
+        assert_eq!(arriving.finish().unwrap().1, expected);
     }
 }
 

@@ -14,6 +14,7 @@
 //! | [`copy_stream`], [`stream_length`], [`stream_to_vec`] | the three measured streams |
 //! | [`Image::stream_sections`], [`Image::stream_reader`], [`Image::copy_stream`] | the same of an image that was read, without reading it again |
 //! | [`registers()`] | registers 0, 1 and 2, as the platform measures the image |
+//! | [`ArrivingRegisters`] | the same of an image that arrives in pieces, with no memory for its bytes |
 //! | [`Sha384`] | SHA-384, fed in pieces |
 //! | [`write_roll`], [`roll_length`], [`roll_to_vec`], [`read_roll`] | the boot roll |
 //! | [`Assembler`], [`assembler::records`] | an image from pieces that come in any order, some of them twice; its records |
@@ -108,6 +109,7 @@ mod arriving;
 pub mod assembler;
 mod image;
 pub mod json;
+mod measuring;
 mod numbers;
 mod place;
 mod plan;
@@ -124,6 +126,7 @@ mod stream;
 pub use arriving::{Arriving, Parts, Span};
 pub use assembler::Assembler;
 pub use image::{read, read_strict, Image, Reading};
+pub use measuring::ArrivingRegisters;
 pub use numbers::{
     Architecture, DataLength, FilePosition, RollPosition, SectionType, StreamPosition, UnknownName,
 };
