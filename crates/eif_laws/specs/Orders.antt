@@ -3,7 +3,8 @@
 -- program in which two neighbours are exchanged alike differ from a row.
 --
 -- Neighbours that never apply to one input, or never first:
--- - 1 and 2 of an image: it would be longer than the longest image and shorter than a header;
+-- - 1 and 2 of an image: it would be longer than the longest image and shorter than a header. That 1 comes before every other rule of an image is
+--   law `eif_lemmas/Reading.read-too-long`, since an image to which 1 applies is too long to compute;
 -- - 9 and 10 at one section: a ramdisk is allowed in every version;
 -- - 9 and 11 at one section: an earlier section has the type that is not allowed, and its 9 comes first;
 -- - 10 and 11 at one section or record: 10 is about a ramdisk, 11 about any other type.
@@ -156,7 +157,7 @@ pub rolls-by-two : map (λ (r : OrderedBytes). firstTwo (rollRules (r .bytes))) 
 unfolding headOf flagsRecord flagsRules headRules bodyRules endRules rollRulesFrom orderRules recordAt leField seen packedBy
 rolls-by-two = refl
 
--- 12 and 1 of the records before an end record. A roll to which both apply has more data than the longest image; its head alone is computed here.
+-- 12 and 1 of the records before an end record. A roll to which both apply has almost 1 GiB; a head alone is computed here.
 pub long-roll-in-order : (rollFault (headOf 1073741824 3) 1 ≡ 12) × (firstTwo (endRules (headOf 1073741824 3) 1) ≡ 12 ∷ 1 ∷ [])
 unfolding headOf endRules recordAt leField seen packedBy rollFault
 long-roll-in-order = (refl, refl)
@@ -177,6 +178,10 @@ orderedPlans =
     orderedPlan (planOver 5 (workedPlace 1 0 ∷ [])) (refuseAt 4 0 0) 5
     -- 5, and 9 at section 0
     ∷ orderedPlan (planOver 2 (workedPlace 6 0 ∷ [])) (refuseAt 5 0 0) 9
+    -- 5, and 10 at section 0; 5 and 11 need 33 sections, of which a plan holds 32
+    ∷ orderedPlan (planOver 2 (workedPlace 3 0 ∷ [])) (refuseAt 5 0 0) 10
+    -- 9 at section 0, and 9 at section 1
+    ∷ orderedPlan (planOver 2 (workedPlace 6 0 ∷ workedPlace 6 0 ∷ [])) (refuseAt 9 0 0) 9
     -- 9 at section 0, and 10 at section 1
     ∷ orderedPlan (planOver 2 (workedPlace 6 0 ∷ workedPlace 3 0 ∷ [])) (refuseAt 9 0 0) 10
     -- 10 at section 0, and 9 at section 1
