@@ -150,7 +150,7 @@ fn send_cut(state: State, s: Sending, image: &mut [u8], marks: &mut [u8]) -> Sta
 
 // ---- the cases, a row a call
 
-const ROWS: usize = 31;
+const ROWS: usize = 35;
 
 const SENDINGS: [Sending; ROWS] = [
     Sending(3, 0, 0, 0, 0, 0),
@@ -159,6 +159,7 @@ const SENDINGS: [Sending; ROWS] = [
     Sending(1, 8205, 0, 0, 0, 0),
     Sending(1, 8195, 0, 0, 0, 0),
     Sending(1, 8195, 0, 0, 0, 0),
+    Sending(1, 1073741825, 0, 0, 0, 0),
     Sending(2, 8192, 3, 0, 0, 0),
     Sending(2, 0, 4096, 0, 0, 0),
     Sending(2, 8192, 3, 0, 0, 0),
@@ -180,9 +181,12 @@ const SENDINGS: [Sending; ROWS] = [
     Sending(2, 8192, 3, 0, 0, 0),
     Sending(3, 0, 0, 0, 0, 0),
     Sending(1, 3, 0, 0, 0, 0),
+    Sending(2, 1, 3, 0, 1, 0),
     Sending(2, 0, 3, 0, 1, 0),
     Sending(2, 0, 3, 0, 0, 2),
     Sending(3, 0, 0, 0, 0, 2),
+    Sending(2, 0, 3, 0, 0, 0),
+    Sending(2, 0, 3, 1, 1, 0),
     Sending(1, 8193, 0, 0, 0, 3),
 ];
 
@@ -207,8 +211,8 @@ fn transfer(label: &[u8], first: usize, end: usize) {
 }
 
 fn main() {
-    transfer(b"shuffled, with repeats and refusals\n", 0, 21);
-    transfer(b"in another order\n", 21, 26);
-    transfer(b"buffers shorter than at open\n", 26, 30);
-    transfer(b"marks too short\n", 30, ROWS);
+    transfer(b"shuffled, with repeats and refusals\n", 0, 22);
+    transfer(b"in another order\n", 22, 27);
+    transfer(b"buffers shorter than at open\n", 27, 34);
+    transfer(b"marks too short\n", 34, ROWS);
 }

@@ -325,6 +325,8 @@ fn two_at_once() {
         Change(578, 8, 1),
     );
     full_twice(b"8 and 9 at 2", Change(578, 8, 1), Change(574, 2, 6));
+    small_twice(b"8 and 10 at 0", Change(552, 8, 2), Change(548, 2, 3));
+    small_twice(b"8 and 11 at 2", Change(578, 8, 1), Change(574, 2, 1));
     full(b"10 at 2, 11 at 4", 548, 2, 4);
     full_twice(b"11 at 1, 9 at 2", Change(561, 2, 1), Change(574, 2, 6));
     full(b"9 at 5, and 12", 614, 2, 9);

@@ -219,6 +219,13 @@ fn inner() {
     );
     three(b"ramdisk second, before the kernel", 2, 3, 1, b"\0\0ar", 54);
     types(b"command line twice", 1, 2, 2);
+    read(
+        b"a byte after the end record, and no kernel",
+        [FlagsRecord::TYPE, 0, 0, 0, 0],
+        [FlagsRecord::LENGTH, 0, 0, 0, 0],
+        b"\0\0",
+        23,
+    );
 }
 
 // Neighbours of the flags record.
