@@ -1,7 +1,7 @@
 /* SPDX-License-Identifier: Apache-2.0 */
 /*
  * Enclave image files (EIF): reading them, whole or as they arrive, and writing them; measured streams,
- * registers and boot rolls; assembling an image from pieces in any order; staging one with a section
+ * registers, boot rolls and fingerprints; assembling an image from pieces in any order; staging one with a section
  * replaced; what signatures claim; JSON texts, as metadata should be.
  *
  * The C interface to a static library, libeif_c.a, whose every function is proved to meet the rules
@@ -429,6 +429,26 @@ typedef struct eif_measuring_finished {
     eif_digest registers[EIF_REGISTERS]; /* what eif_registers answers on them; all 0 beside a refusal */
 } eif_measuring_finished;
 
+/* An image that arrives in pieces and is fingerprinted: a value that can be kept and copied. Any value is a state; a
+ * fresh one comes from eif_fingerprinting_begin. It has 1,152 bytes. */
+typedef struct eif_fingerprinting {
+    eif_arriving arriving; /* what is kept of the bytes taken */
+    eif_sha384 roll;       /* the digest of the boot roll so far */
+} eif_fingerprinting;
+
+/* The answer to a piece of an image that is fingerprinted while it arrives. */
+typedef struct eif_fingerprinting_fed {
+    eif_fingerprinting state; /* after the call */
+    uint64_t count;           /* how many bytes of the piece were taken */
+} eif_fingerprinting_fed;
+
+/* The answer to the end of an image that is fingerprinted while it arrives. */
+typedef struct eif_fingerprinting_finished {
+    eif_fingerprinting state; /* as it was, its end announced */
+    eif_reading reading;      /* what eif_read answers on the bytes taken */
+    eif_digest digest;        /* the fingerprint; all 0 beside a refusal */
+} eif_fingerprinting_finished;
+
 /* A record of an accepted roll. */
 typedef struct eif_roll_record {
     uint16_t type;
@@ -632,6 +652,21 @@ EIF_MUST_USE eif_answer eif_roll_write(const uint8_t *image, size_t image_length
  * cut), 17, 5, 16 (data cut), 10, 11; then 18, 12, 1. A roll that was written before rolls had flags is
  * refused by 17 at 0. */
 EIF_MUST_USE eif_roll_reading eif_roll_read(const uint8_t *roll, size_t roll_length);
+
+/* Computes the fingerprint of an image that arrives in pieces of any size, with no room for its bytes: the SHA-384 of
+ * its boot roll (FORMAT.md, The boot roll).
+ *
+ *     eif_fingerprinting state = eif_fingerprinting_begin();
+ *     eif_fingerprinting_fed fed = eif_fingerprinting_feed(state, piece, piece_length, allowance);
+ *     ... continue with fed.state and with what was not taken of the piece, then with the next piece ...
+ *     eif_fingerprinting_finished end = eif_fingerprinting_finish(fed.state);
+ *
+ * Bytes are taken and counted as by eif_arriving_feed. However the file was cut, the reading is that of eif_read on the
+ * bytes taken, and the digest is that of the roll that eif_roll_write writes of them. Finishing again gives the same. */
+EIF_MUST_USE eif_fingerprinting eif_fingerprinting_begin(void);
+EIF_MUST_USE eif_fingerprinting_fed eif_fingerprinting_feed(eif_fingerprinting state, const uint8_t *piece,
+                                                            size_t piece_length, uint64_t allowance);
+EIF_MUST_USE eif_fingerprinting_finished eif_fingerprinting_finish(eif_fingerprinting state);
 
 /* Reads one COSE_Sign1 and nothing after it (FORMAT.md, Signatures), as the signature section of an image
  * holds it. The signature is not verified: whoever writes an image can claim what they like.

@@ -47,6 +47,13 @@ typedef char layout_of_measuring_count[offsetof(eif_measuring_fed, count) == 155
 typedef char layout_of_measuring_finished[sizeof(eif_measuring_finished) == 1552 + 824 + 144 ? 1 : -1];
 typedef char layout_of_measuring_reading[offsetof(eif_measuring_finished, reading) == 1552 ? 1 : -1];
 typedef char layout_of_measuring_registers[offsetof(eif_measuring_finished, registers) == 2376 ? 1 : -1];
+typedef char layout_of_fingerprinting[sizeof(eif_fingerprinting) == 952 + 200 ? 1 : -1];
+typedef char layout_of_fingerprinting_roll[offsetof(eif_fingerprinting, roll) == 952 ? 1 : -1];
+typedef char layout_of_fingerprinting_fed[sizeof(eif_fingerprinting_fed) == 1160 ? 1 : -1];
+typedef char layout_of_fingerprinting_count[offsetof(eif_fingerprinting_fed, count) == 1152 ? 1 : -1];
+typedef char layout_of_fingerprinting_finished[sizeof(eif_fingerprinting_finished) == 1152 + 824 + 48 ? 1 : -1];
+typedef char layout_of_fingerprinting_reading[offsetof(eif_fingerprinting_finished, reading) == 1152 ? 1 : -1];
+typedef char layout_of_fingerprinting_digest[offsetof(eif_fingerprinting_finished, digest) == 1976 ? 1 : -1];
 typedef char layout_of_roll_record[sizeof(eif_roll_record) == 24 ? 1 : -1];
 typedef char layout_of_roll_reading[sizeof(eif_roll_reading) == 32 + 32 * 24 ? 1 : -1];
 typedef char layout_of_roll_flags[offsetof(eif_roll_reading, flags) == 2 ? 1 : -1];
@@ -86,6 +93,8 @@ static void try_null(const uint8_t *image) {
     check(eif_sha384_update(eif_sha384_begin(), NULL, 0).number == EIF_ACCEPTED, "a piece of null");
     check(eif_arriving_feed(eif_arriving_begin(), NULL, 0, UINT64_MAX).count == 0, "null arrives");
     check(eif_measuring_feed(eif_measuring_begin(), NULL, 0, UINT64_MAX).count == 0, "null is measured");
+    check(eif_fingerprinting_feed(eif_fingerprinting_begin(), NULL, 0, UINT64_MAX).count == 0,
+          "null is fingerprinted");
     check(eif_write(empty, NULL, 0, NULL, 0).number == EIF_OUTPUT_TOO_SHORT, "write to null");
 
     check(eif_copy_whole(image, IMAGE_LENGTH, at(0), NULL, 0).number == EIF_ACCEPTED, "whole to null");
@@ -174,6 +183,15 @@ static void try_measuring(const uint8_t *image, size_t length) {
     CHECK_TWICE(end, other_end, eif_measuring_finish(one.state), "equal measured ends by memcmp");
 }
 
+static void try_fingerprinting(const uint8_t *image, size_t length) {
+    static eif_fingerprinting_fed one, other;
+    static eif_fingerprinting_finished end, other_end;
+    eif_fingerprinting state = eif_fingerprinting_begin();
+    CHECK_TWICE(one, other, eif_fingerprinting_feed(state, image, length, UINT64_MAX),
+                "equal fingerprinting states by memcmp");
+    CHECK_TWICE(end, other_end, eif_fingerprinting_finish(one.state), "equal fingerprinted ends by memcmp");
+}
+
 /* A piece that is taken or, with a larger total, one that is refused. */
 static void try_sha384(uint64_t total) {
     static const uint8_t piece[3] = {1, 2, 3};
@@ -226,6 +244,8 @@ int main(void) {
     try_arriving(image, CUT_LENGTH);
     try_measuring(image, IMAGE_LENGTH);
     try_measuring(image, CUT_LENGTH);
+    try_fingerprinting(image, IMAGE_LENGTH);
+    try_fingerprinting(image, CUT_LENGTH);
     try_sha384(0);
     try_sha384(EIF_MAX_MESSAGE_LENGTH);
     try_words();

@@ -53,6 +53,13 @@ static inline int is(eif_answer answer, unsigned number, uint64_t length) {
            answer.length == length && zero(answer.reserved, sizeof answer.reserved);
 }
 
+/* SHA-384 of bytes, or zeros where they are too many. */
+static inline eif_digest sha384_of(const uint8_t *bytes, size_t length) {
+    static const eif_digest none = {{0}};
+    eif_sha384_fed fed = eif_sha384_update(eif_sha384_begin(), bytes, length);
+    return fed.number == EIF_ACCEPTED ? eif_sha384_finish(fed.state) : none;
+}
+
 /* A plan of so many sections, before their types and lengths are put. */
 static inline eif_plan begin_plan(uint16_t version, uint16_t flags, uint16_t count) {
     eif_plan plan;

@@ -1,7 +1,7 @@
 /*
  * A receiver with 64 KiB: takes a file that arrives in pieces of 4 KiB, stores the data of its ramdisks as it arrives,
- * and measures it, on a stack of that size, which also holds the state and the piece. Below the stack lies a page
- * that cannot be touched.
+ * and computes its registers and its fingerprint, on a stack of that size, which also holds the states and the piece.
+ * Below the stack lies a page that cannot be touched.
  * Prints how much was used and ends with status 0, or says what differs and ends with status 1.
  */
 #include "stack.h"
@@ -12,7 +12,7 @@ enum { MEMORY = 65536, PAGE = 4096, PIECE = 4096 };
 enum { SECTION_LENGTH = 50000, DATA_LENGTH = EIF_MAX_SECTIONS * SECTION_LENGTH, IMAGE_ROOM = 2000000 };
 
 /* What is sent. The receiver has no room for it in its memory. */
-static uint8_t data[DATA_LENGTH], image[IMAGE_ROOM];
+static uint8_t data[DATA_LENGTH], image[IMAGE_ROOM], roll[IMAGE_ROOM];
 static size_t image_length, sent;
 
 /* The storage of the ramdisks, which is not in the receiver's memory. */
@@ -22,7 +22,7 @@ static size_t stored;
 /* What the receiver found. */
 static uint8_t number;
 static uint16_t count;
-static eif_digest registers[EIF_REGISTERS];
+static eif_digest registers[EIF_REGISTERS], fingerprint;
 
 /* The radio: the next bytes of the file, as many as there is room for. */
 static size_t receive(uint8_t *piece, size_t room) {
@@ -48,6 +48,7 @@ static void store(const eif_arriving *state, eif_span span, const uint8_t *bytes
 static void receiver(void) {
     uint8_t piece[PIECE];
     eif_measuring state = eif_measuring_begin();
+    eif_fingerprinting other = eif_fingerprinting_begin();
     eif_measuring_finished end;
     size_t length;
     while ((length = receive(piece, sizeof piece)) != 0) {
@@ -55,6 +56,7 @@ static void receiver(void) {
             eif_span span = eif_arriving_next(state.arriving, length - at);
             store(&state.arriving, span, piece + at);
             state = eif_measuring_feed(state, piece + at, (size_t)span.length, UINT64_MAX).state;
+            other = eif_fingerprinting_feed(other, piece + at, (size_t)span.length, UINT64_MAX).state;
             at += (size_t)span.length;
         }
     }
@@ -62,6 +64,7 @@ static void receiver(void) {
     number = end.reading.number;
     count = end.reading.count;
     memcpy(registers, end.registers, sizeof registers);
+    fingerprint = eif_fingerprinting_finish(other).digest;
 }
 
 /* An image with the largest number of sections, and more bytes than the receiver has. No two sections have the same data. */
@@ -88,6 +91,8 @@ static size_t used(void) {
 int main(void) {
     size_t bytes, ramdisks = 2 * SECTION_LENGTH;
     eif_registers_answer whole;
+    eif_answer written;
+    eif_digest digest;
     if (!prepare()) {
         printf("receive: no image to try\n");
         return 1;
@@ -98,8 +103,12 @@ int main(void) {
     check(stored == sizeof data - ramdisks && memcmp(storage, data + ramdisks, stored) == 0, "the ramdisks are stored");
     whole = eif_registers(image, image_length);
     check(memcmp(registers, whole.registers, sizeof registers) == 0, "the registers are those of the whole image");
+    written = eif_roll_write(image, image_length, roll, sizeof roll);
+    digest = sha384_of(roll, (size_t)written.length);
+    check(written.number == EIF_ACCEPTED && memcmp(&fingerprint, &digest, sizeof digest) == 0,
+          "the fingerprint is the SHA-384 of the roll");
     if (failures == 0) {
-        printf("receive: a file of %zu bytes by %d: %zu of %d bytes used, stack, state and piece\n",
+        printf("receive: a file of %zu bytes by %d: %zu of %d bytes used, stack, states and piece\n",
                image_length, PIECE, bytes, MEMORY);
     }
     return failures != 0;

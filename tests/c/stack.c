@@ -37,6 +37,9 @@ static eif_registers_answer registers;
 static eif_measuring measuring;
 static eif_measuring_fed measuring_fed, short_fed;
 static eif_measuring_finished measured;
+static eif_fingerprinting fingerprinting;
+static eif_fingerprinting_fed fingerprinting_fed, short_fingerprinting;
+static eif_fingerprinting_finished fingerprinted;
 static eif_sha384 begun;
 static eif_sha384_fed fed;
 static eif_digest digest;
@@ -92,6 +95,17 @@ static void call_measuring_short(void) {
     short_fed = eif_measuring_feed(short_fed.state, image + KERNEL_DATA, EIF_SHORT_LENGTH, UINT64_MAX);
 }
 static void call_measuring_finish(void) { measured = eif_measuring_finish(measuring_fed.state); }
+static void call_fingerprinting_begin(void) { fingerprinting = eif_fingerprinting_begin(); }
+static void call_fingerprinting_feed(void) {
+    fingerprinting_fed = eif_fingerprinting_feed(fingerprinting, image, image_length, UINT64_MAX);
+}
+static void call_fingerprinting_short(void) {
+    short_fingerprinting =
+        eif_fingerprinting_feed(short_fingerprinting.state, image + KERNEL_DATA, EIF_SHORT_LENGTH, UINT64_MAX);
+}
+static void call_fingerprinting_finish(void) {
+    fingerprinted = eif_fingerprinting_finish(fingerprinting_fed.state);
+}
 static void call_sha384_begin(void) { begun = eif_sha384_begin(); }
 static void call_sha384_update(void) { fed = eif_sha384_update(begun, image, image_length); }
 static void call_sha384_finish(void) { digest = eif_sha384_finish(fed.state); }
@@ -178,6 +192,9 @@ static const struct {
     {"eif_measuring_begin", call_measuring_begin},
     {"eif_measuring_feed", call_measuring_feed},
     {"eif_measuring_finish", call_measuring_finish},
+    {"eif_fingerprinting_begin", call_fingerprinting_begin},
+    {"eif_fingerprinting_feed", call_fingerprinting_feed},
+    {"eif_fingerprinting_finish", call_fingerprinting_finish},
     {"eif_sha384_begin", call_sha384_begin},
     {"eif_sha384_update", call_sha384_update},
     {"eif_sha384_finish", call_sha384_finish},
@@ -204,13 +221,14 @@ static void try_calls(size_t section, size_t kib) {
     for (size_t i = 0; i < sizeof calls / sizeof calls[0]; i++) {
         size_t bytes = stack_used(stack, sizeof stack, calls[i].function) - least;
         int fits = bytes <= kib * 1024;
-        printf("stack: %-22s %6zu bytes%s\n", calls[i].name, bytes, fits ? "" : ": too many");
+        printf("stack: %-26s %6zu bytes%s\n", calls[i].name, bytes, fits ? "" : ": too many");
         failures += !fits || reading.number != 0 || arrived.reading.number != 0 || measured.reading.number != 0 ||
                     roll_reading.number != 0 || answer.number != 0 || registers.number != 0 ||
                     fed.number != 0 || sign1_reading.number != 0 ||
                     staged_part.number != 0 || staged_registers.number != 0 || stepped.number != 0;
     }
     check(memcmp(measured.registers, registers.registers, sizeof registers.registers) == 0, "the registers");
+    check(fingerprinted.reading.number == 0, "the fingerprinted image");
     check(span.place == EIF_NO_SECTION && span.begun == SECTIONS, "the span after the last section");
     check(json.is_text == 1 && marks[0] == 1 && marks[1] == 0, "the text and the marks");
 }
@@ -218,14 +236,17 @@ static void try_calls(size_t section, size_t kib) {
 /* Short pieces inside the data of a longer section. */
 static void try_short(const char *name, void (*function)(void)) {
     size_t bytes = stack_used(stack, sizeof stack, function) - stack_used(stack, sizeof stack, nothing);
-    printf("stack: %-22s %6zu bytes, a short piece\n", name, bytes);
+    printf("stack: %-26s %6zu bytes, a short piece\n", name, bytes);
     check(bytes <= EIF_SHORT_STACK_KIB * 1024, name);
 }
 
 static void try_short_pieces(void) {
     short_fed = eif_measuring_feed(eif_measuring_begin(), image, KERNEL_DATA, UINT64_MAX);
     try_short("eif_measuring_feed", call_measuring_short);
-    check(short_fed.count == EIF_SHORT_LENGTH, "a short piece is taken");
+    short_fingerprinting = eif_fingerprinting_feed(eif_fingerprinting_begin(), image, KERNEL_DATA, UINT64_MAX);
+    try_short("eif_fingerprinting_feed", call_fingerprinting_short);
+    check(short_fed.count == EIF_SHORT_LENGTH && short_fingerprinting.count == EIF_SHORT_LENGTH,
+          "a short piece is taken");
 }
 
 int main(void) {

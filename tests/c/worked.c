@@ -452,6 +452,35 @@ static void try_measuring(const uint8_t *image) {
     check(zero(cut.registers[0].bytes, sizeof cut.registers), "registers of 547 bytes");
 }
 
+/* The image fingerprinted in pieces of every length: SHA-384 of its roll, and nothing after the end. */
+static void try_fingerprinting(const uint8_t *image) {
+    eif_digest digest = sha384_of(expected_roll, ROLL_LENGTH);
+    eif_reading reading = eif_read(image, IMAGE_LENGTH);
+    check(begins(digest, UINT64_C(0x83f9e4fb2210b884)), "digest of the roll");
+    for (size_t length = 1; length <= IMAGE_LENGTH; length++) {
+        uint64_t allowance = 1 + length / 2;
+        eif_fingerprinting state = eif_fingerprinting_begin();
+        for (size_t at = 0; at < IMAGE_LENGTH;) {
+            size_t piece = IMAGE_LENGTH - at < length ? IMAGE_LENGTH - at : length;
+            eif_fingerprinting_fed fed = eif_fingerprinting_feed(state, image + at, piece, allowance);
+            check(fed.count == (piece < allowance ? piece : allowance), "bytes taken of a fingerprinted piece");
+            at += (size_t)fed.count;
+            state = fed.state;
+        }
+        eif_fingerprinting_finished end = eif_fingerprinting_finish(state);
+        check(same_reading(&end.reading, &reading), "reading of what was fingerprinted");
+        check(memcmp(&end.digest, &digest, sizeof digest) == 0, "fingerprint of what arrived");
+        eif_fingerprinting_fed after = eif_fingerprinting_feed(end.state, image, IMAGE_LENGTH, UINT64_MAX);
+        check(after.count == 0 && memcmp(&after.state, &end.state, sizeof end.state) == 0, "fingerprinted after the end");
+        eif_fingerprinting_finished again = eif_fingerprinting_finish(after.state);
+        check(memcmp(&again, &end, sizeof end) == 0, "fingerprinted end again");
+    }
+    eif_fingerprinting_fed fed = eif_fingerprinting_feed(eif_fingerprinting_begin(), image, CUT_LENGTH, UINT64_MAX);
+    eif_fingerprinting_finished cut = eif_fingerprinting_finish(fed.state);
+    check(refused(cut.reading, EIF_IMAGE_TOO_SHORT, 0, 0), "547 bytes fingerprinted");
+    check(zero(cut.digest.bytes, sizeof cut.digest), "fingerprint of 547 bytes");
+}
+
 /* SHA-384 of "abc", the standard's first example, in two pieces. */
 static void try_sha384(void) {
     static const uint8_t expected[EIF_DIGEST_LENGTH] = {
@@ -496,6 +525,7 @@ int main(void) {
     try_file_order();
     try_registers(image);
     try_measuring(image);
+    try_fingerprinting(image);
     try_sha384();
     try_roll(image);
     try_flags();

@@ -9,6 +9,7 @@
 mod arriving;
 mod assembler;
 mod compare;
+mod fingerprint;
 mod images;
 mod measuring;
 mod messages;
@@ -31,6 +32,7 @@ pub use compare::{
     compare_image, compare_message, compare_plan, compare_reading, compare_roll, parts,
     refused_reading, Parts,
 };
+pub use fingerprint::FingerprintArriving;
 pub use images::{accepted_layout, any_image, any_image_of};
 pub use measuring::{compare_measured, compare_measured_state, RegistersArriving, WhileArriving};
 pub use messages::{any_message, Message};

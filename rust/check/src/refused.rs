@@ -1,8 +1,12 @@
 //! Every call on an image that is refused.
 
 use crate::{parts, refused, refused_reading};
+use eif::raw::fingerprint::{fingerprinting_begin, fingerprinting_feed, fingerprinting_finish};
 use eif::raw::measuring::{measuring_begin, measuring_feed, measuring_finish};
-use eif::{raw, staged, Arriving, ArrivingRegisters, Digest, Refusal, Stream, StreamPosition};
+use eif::{
+    raw, staged, Arriving, ArrivingFingerprint, ArrivingRegisters, Digest, Refusal, Stream,
+    StreamPosition,
+};
 use eif_cases::Answer;
 
 /// What every call answers, by name. What each is handed beside the image is at fault too: a position past the end of the
@@ -12,6 +16,8 @@ fn every_answer(image: &[u8], out: &mut [u8]) -> Vec<(&'static str, Result<(), R
     arriving.feed(image);
     let mut measuring = ArrivingRegisters::new();
     measuring.feed(image);
+    let mut fingerprinting = ArrivingFingerprint::new();
+    fingerprinting.feed(image);
     let past = usize::MAX;
     let mut answers = vec![
         ("read", eif::read(image).map(|_| ())),
@@ -19,6 +25,7 @@ fn every_answer(image: &[u8], out: &mut [u8]) -> Vec<(&'static str, Result<(), R
         ("arriving", arriving.finish().map(|_| ())),
         ("registers", eif::registers(image).map(|_| ())),
         ("arriving registers", measuring.finish().map(|_| ())),
+        ("arriving fingerprint", fingerprinting.finish().map(|_| ())),
         ("roll length", eif::roll_length(image).map(|_| ())),
         ("roll", eif::write_roll(image, out).map(|_| ())),
         ("roll to Vec", eif::roll_to_vec(image).map(|_| ())),
@@ -67,6 +74,10 @@ fn check_raw(name: &str, image: &[u8], answer: Answer, out: &mut [u8]) {
     let measured = measuring_finish(measured.state);
     assert_eq!(measured.reading, reading, "{name}");
     assert_eq!(measured.registers, [Digest::default(); 3], "{name}");
+    let fingerprinted = fingerprinting_feed(fingerprinting_begin(), image, u64::MAX);
+    let fingerprinted = fingerprinting_finish(fingerprinted.state);
+    assert_eq!(fingerprinted.reading, reading, "{name}");
+    assert_eq!(fingerprinted.digest, Digest::default(), "{name}");
     let (most, length) = (u64::MAX, refused!(raw::Answer, answer));
     let lengths = [
         raw::roll_length(image),

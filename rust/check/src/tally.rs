@@ -4,7 +4,7 @@ use std::fmt;
 use std::ops::AddAssign;
 
 /// How many kinds of call there are.
-const CALLS: usize = 21;
+const CALLS: usize = 22;
 
 /// Answer numbers are below this.
 const NUMBERS: usize = 30;
@@ -38,6 +38,8 @@ pub enum Call {
     Registers,
     /// The registers of an image that arrives in pieces.
     RegistersArriving,
+    /// The fingerprint of an image that arrives in pieces.
+    FingerprintArriving,
     /// A piece for a digest in progress.
     Update,
     /// Reading a COSE_Sign1.
@@ -72,6 +74,7 @@ impl Call {
         Call::RollRead,
         Call::Registers,
         Call::RegistersArriving,
+        Call::FingerprintArriving,
         Call::Update,
         Call::Sign1Read,
         Call::Sign1Write,
@@ -91,7 +94,8 @@ impl Call {
             | Call::Length
             | Call::RollLength
             | Call::Registers
-            | Call::RegistersArriving => image.collect(),
+            | Call::RegistersArriving
+            | Call::FingerprintArriving => image.collect(),
             Call::ReadStrict => image.chain([21]).collect(),
             Call::PlanLength => vec![0, 1, 4, 5, 9, 10, 11, 12],
             Call::Write => vec![0, 1, 4, 5, 9, 10, 11, 12, 14, 15],
@@ -166,12 +170,12 @@ impl fmt::Display for Tally {
     fn fmt(&self, f: &mut fmt::Formatter<'_>) -> fmt::Result {
         write!(f, "{:>6}", "number")?;
         for call in Call::ALL {
-            write!(f, " {:>18}", format!("{call:?}"))?;
+            write!(f, " {:>19}", format!("{call:?}"))?;
         }
         for number in (0..NUMBERS as u8).filter(|&number| self.of_number(number) > 0) {
             write!(f, "\n{number:>6}")?;
             for counts in &self.counts {
-                write!(f, " {:>18}", counts[usize::from(number)])?;
+                write!(f, " {:>19}", counts[usize::from(number)])?;
             }
         }
         Ok(())

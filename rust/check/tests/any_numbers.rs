@@ -1,12 +1,13 @@
 //! Any bytes and any numbers: no public call of the crate `eif` panics. `make rust-lint` refuses what could panic in its
 //! code; here each call gets the numbers that an index, a slice or a sum would fail at.
 
+use eif::raw::fingerprint::Fingerprinting;
 use eif::raw::{self, assembler::State, measuring::Measuring, staged::staged_part};
 use eif::sign1::{self, Algorithm, Claim};
 use eif::{
-    assembler, json, staged, Architecture, Arriving, ArrivingRegisters, Assembler, DataLength,
-    Digest, FilePosition, Place, Plan, Reason, Registers, SectionType, Sha384, Stream,
-    StreamPosition,
+    assembler, json, staged, Architecture, Arriving, ArrivingFingerprint, ArrivingRegisters,
+    Assembler, DataLength, Digest, FilePosition, Fingerprint, Place, Plan, Reason, Registers,
+    SectionType, Sha384, Stream, StreamPosition,
 };
 use eif_cases::{worked_image, Layout, Section};
 use eif_check::parts;
@@ -303,6 +304,14 @@ fn states() {
         assert!(measuring.feed_at_most(&[0xff; 40], number) <= 40);
         assert!(measuring.feed(&[0xff; 600]) <= 600);
         assert!(measuring.finish().is_err());
+        let mut fingerprinting = ArrivingFingerprint::from(Fingerprinting {
+            arriving,
+            roll: state,
+        });
+        assert_eq!(fingerprinting.taken(), number);
+        assert!(fingerprinting.feed_at_most(&[0xff; 40], number) <= 40);
+        assert!(fingerprinting.feed(&[0xff; 600]) <= 600);
+        assert!(fingerprinting.finish().is_err());
         let mut hash = Sha384::from(state);
         let fits = number <= eif::MAX_MESSAGE_LENGTH - 300;
         assert_eq!(hash.update(&[0xff; 300]).is_ok(), fits);
@@ -338,6 +347,29 @@ fn signatures_and_texts() {
             assert!(eif::read_roll(&text).is_err());
             assert!(eif::read(&text).is_err());
         }
+    }
+}
+
+/// Texts that are no fingerprint, and every byte in one.
+#[test]
+fn fingerprints() {
+    for byte in 0..=u8::MAX {
+        let fingerprint = Fingerprint(Digest([byte; 48]));
+        let text = fingerprint.to_string();
+        assert_eq!(text.len(), 96);
+        assert_eq!(format!("{fingerprint:x}"), text);
+        assert_eq!(text.parse(), Ok(fingerprint));
+        assert_eq!(text.to_uppercase().parse(), Ok(fingerprint));
+        let other = char::from(byte).to_string();
+        for place in [0, 1, 95] {
+            let mut text = "a".repeat(96);
+            text.replace_range(place..place + 1, &other);
+            let is_digit = byte.is_ascii_hexdigit();
+            assert_eq!(text.parse::<Fingerprint>().is_ok(), is_digit, "{text}");
+        }
+    }
+    for length in (0..200).filter(|&length| length != 96) {
+        assert!("a".repeat(length).parse::<Fingerprint>().is_err());
     }
 }
 

@@ -18,7 +18,7 @@ fn say(line: &str) {
 type Compare = fn(&mut Rng, u64, &mut Tally);
 
 /// Of each kind of input: how many there are, their seed, and what makes and compares one.
-fn kinds(seed: u64) -> [(u64, u64, Compare); 14] {
+fn kinds(seed: u64) -> [(u64, u64, Compare); 16] {
     [
         (100_000, seed, |rng, ordinal, tally| {
             let image = any_image(rng);
@@ -55,6 +55,15 @@ fn kinds(seed: u64) -> [(u64, u64, Compare); 14] {
             20_000,
             !seed.rotate_left(56),
             compare_measured_state::<RegistersArriving>,
+        ),
+        (20_000, seed.rotate_left(4), |rng, ordinal, tally| {
+            let image = any_image(rng);
+            compare_measured::<FingerprintArriving>(rng, ordinal, &image, tally);
+        }),
+        (
+            20_000,
+            !seed.rotate_left(4),
+            compare_measured_state::<FingerprintArriving>,
         ),
         (100_000, seed.rotate_left(8), |rng, ordinal, tally| {
             compare_sign1(ordinal, &any_sign1(rng), tally);

@@ -12,6 +12,7 @@ use crate::{
 use std::mem::{align_of, offset_of, size_of};
 
 pub mod assembler;
+pub mod fingerprint;
 pub mod measuring;
 pub mod sign1;
 

@@ -17,6 +17,7 @@
 mod arriving;
 mod assembler;
 mod crc32;
+mod fingerprint;
 mod image;
 mod json;
 mod measuring;
@@ -33,6 +34,7 @@ mod strict;
 pub use arriving::{Arriving, Span};
 pub use assembler::Transfer;
 pub use crc32::Crc32;
+pub use fingerprint::{fingerprint, Fingerprinting};
 pub use image::{read, Reading, Section};
 pub use json::check_json;
 pub use measuring::Measuring;

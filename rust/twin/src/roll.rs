@@ -6,7 +6,7 @@ use crate::rules::*;
 const RECORD_HEAD: usize = 10;
 
 /// Type of the flags record, the first of a roll. Its data are two bytes.
-const FLAGS: u16 = 256;
+pub(crate) const FLAGS: u16 = 256;
 const FLAGS_RECORD: usize = RECORD_HEAD + 2;
 
 /// A record of an accepted roll.
