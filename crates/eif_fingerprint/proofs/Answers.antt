@@ -1,5 +1,5 @@
 -- The fingerprint of an image by its own reading, and the answer.
-use Prim.Native.Nat.{ℕ, _≤_}
+use Prim.Native.Nat.{ℕ, _^_, _<_, _≤_}
 use mathlib.Core.Path.{_≡_, refl, sym, ap, ap₂, _∙_}
 use mathlib.Core.List.{List, []}
 use native.Mathlib.Omega.{arith}
@@ -7,6 +7,7 @@ use lib.ListN.{length}
 use Rattle.eif.specs.Answers.{beside}
 use Rattle.eif.specs.Order.{firstThatApplies, imageRules}
 use Rattle.eif.specs.Reading.{verdictOf, dataOf, readImage}
+use Rattle.eif.specs.Roll.{rollBytes}
 use Rattle.eif.specs.declared.Reading.{Reading}
 use Rattle.eif.specs.declared.Refusal.{Refusal}
 use Rattle.eif.specs.declared.Section.{Section}
@@ -16,14 +17,21 @@ use Rattle.eif_laws.proofs.FirstApplies.{read-first}
 use Rattle.eif_lemmas.proofs.Reading.{verdict-is}
 use Rattle.sha384_block.specs.Fips.{sha384}
 use Rattle.sha384.specs.State.{totalLimit}
-use Rattle.staged.specs.View.{heldBy}
+use Rattle.staged.specs.Staged.{stagedVerdict, afresh}
+use Rattle.staged.specs.View.{heldBy, stagedView}
+use Rattle.staged.specs.declared.Staged.{Staged}
 use Rattle.staged.proofs.Held.{held-alone}
 use Rattle.roll_writer.specs.Write.{sectionsRoll}
 use Rattle.roll_writer.proofs.Steps.{size-is}
 use Rattle.roll_writer.proofs.Reading.{holds, bounded, roll-is}
-use Rattle.eif_fingerprint.specs.Fingerprint.{fingerprintOf, noFingerprint, fingerprintAnswer, rollDigest, readFingerprint}
+use Rattle.roll_writer.proofs.Staging as staging
+use Rattle.eif_fingerprint.specs.Fingerprint.{fingerprintOf, noFingerprint, fingerprintFor, fingerprintAnswer, stagedFingerprint, rollDigest, readFingerprint}
 use Rattle.eif_fingerprint.specs.declared.Fingerprinted.{Fingerprinted}
 use Rattle.eif_fingerprint.proofs.Hashed.{roll-hashed}
+
+-- with nothing replaced, the digest over the sections is that over the image
+pub digest-alone : (s : List ℕ) (flags : ℕ) (l : List Section) → rollDigest flags (heldBy s []) l ≡ rollDigest flags (dataOf s) l
+digest-alone s flags l = ap (λ (held : Section → List ℕ). rollDigest flags held l) (λ t x. held-alone s x t)
 
 -- ---- any reading
 
@@ -46,8 +54,7 @@ module _ (s : List ℕ) (r : Reading) (is : r ≡ readImage s) where
       let n = size-is (heldBy s []) (r .flags) (r .sections) (holds s r is ok) in
       let b = bounded s r is ok in
       let few : length (sectionsRoll (r .flags) (heldBy s []) (r .sections)) ≤ totalLimit = omega arith in
-      let alone : heldBy s [] ≡ dataOf s = λ t x. held-alone s x t in
-      ap (λ (held : Section → List ℕ). rollDigest (r .flags) held (r .sections)) (sym alone)
+      sym (digest-alone s (r .flags) (r .sections))
       ∙ roll-hashed (heldBy s []) (r .flags) (r .sections) few ∙ ap sha384 (roll-is s r is ok)
 
   by-verdict : (v : Verdict) → r .verdict ≡ v → readFingerprint s r ≡ beside v (fingerprintOf s) noFingerprint
@@ -63,6 +70,32 @@ module _ (s : List ℕ) (r : Reading) (is : r ≡ readImage s) where
     where
       with : Verdict → List ℕ → Fingerprinted
       with v l = record { verdict = v; digest = l }
+
+-- ---- a staged view
+
+module _ (s r : List ℕ) (k : ℕ) (x : Staged) (is : x ≡ stagedView s (length r) k k) where
+  pub staged-refused : (f : Refusal) → x .verdict ≡ Refused f
+      → _≡_ {A = Fingerprinted} (record { verdict = x .verdict; digest = noFingerprint }) (stagedFingerprint s r k)
+  unfolding stagedFingerprint
+  staged-refused f e =
+      let v = staging.verdict-is s r k x is in
+      let w : stagedVerdict s (length r) k k ≡ Refused f = sym v ∙ e in
+      rw e (sym (ap (λ (y : Verdict). fingerprintFor y (afresh s r k)) w))
+
+  -- the flags fit in two bytes
+  pub staged-accepted : x .verdict ≡ Accepted → x .flags < 2 ^ 16 → {d : List ℕ} → d ≡ rollDigest (x .flags) (heldBy s r) (x .sections)
+      → _≡_ {A = Fingerprinted} (record { verdict = Accepted; digest = d }) (stagedFingerprint s r k)
+  unfolding stagedFingerprint fingerprintOf
+  staged-accepted told h {d} e =
+      let n = size-is (heldBy s r) (x .flags) (x .sections) (staging.holds s r k x is told) in
+      let b = staging.bounded s r k x is told in
+      let few : length (sectionsRoll (x .flags) (heldBy s r) (x .sections)) ≤ totalLimit = omega arith in
+      let i : d ≡ sha384 (rollBytes (afresh s r k)) =
+      e ∙ roll-hashed (heldBy s r) (x .flags) (x .sections) few ∙ ap sha384 (staging.roll-is s r k x is told h) in
+      ap with i ∙ sym (ap (λ (y : Verdict). fingerprintFor y (afresh s r k)) (staging.ok s r k x is told))
+    where
+      with : List ℕ → Fingerprinted
+      with l = record { verdict = Accepted; digest = l }
 
 module _ (s : List ℕ) where
   -- the form over a reading agrees with the form over the image, for every image

@@ -1,7 +1,7 @@
 -- The fingerprint of an image: SHA-384 of its boot roll (FORMAT.md, The boot roll); and its computation record by record.
 use Prim.Native.Nat.{ℕ}
 use mathlib.Core.List.{List, [], _∷_}
-use lib.ListN.{replicate}
+use lib.ListN.{length, replicate}
 use Rattle.octets.specs.Logic.{choose}
 use Rattle.eif.specs.Answers.{beside}
 use Rattle.eif.specs.Reading.{verdictOf, dataOf}
@@ -9,9 +9,11 @@ use Rattle.eif.specs.Rules.{bootType}
 use Rattle.eif.specs.Roll.{headOf, flagsRecord, endType, rollBytes}
 use Rattle.eif.specs.declared.Reading.{Reading}
 use Rattle.eif.specs.declared.Section.{Section}
+use Rattle.eif.specs.declared.Verdict.{Verdict}
 use Rattle.sha384_block.specs.Fips.{digestSize, sha384}
 use Rattle.sha384.specs.State.{initialState, moreHashed, digestFrom}
 use Rattle.sha384.specs.declared.State.{State}
+use Rattle.staged.specs.Staged.{stagedVerdict, afresh}
 use Rattle.eif_fingerprint.specs.declared.Fingerprinted.{Fingerprinted}
 
 -- the fingerprint of an image
@@ -22,9 +24,17 @@ fingerprintOf s = sha384 (rollBytes s)
 unfoldable pub noFingerprint : List ℕ
 noFingerprint = replicate digestSize 0
 
--- an image's verdict, and its fingerprint, or zero if it is refused
+-- a verdict, and the fingerprint of an image, or zero beside a refusal
+abbrev pub fingerprintFor : Verdict → List ℕ → Fingerprinted
+fingerprintFor verdict s = record { verdict = verdict; digest = beside verdict (fingerprintOf s) noFingerprint }
+
+-- the answer for an image
 unfoldable pub fingerprintAnswer : List ℕ → Fingerprinted
-fingerprintAnswer s = record { verdict = verdictOf s; digest = beside (verdictOf s) (fingerprintOf s) noFingerprint }
+fingerprintAnswer s = fingerprintFor (verdictOf s) s
+
+-- the answer for a staged view: that of the image written afresh with the replacement
+unfoldable pub stagedFingerprint : List ℕ → List ℕ → ℕ → Fingerprinted
+stagedFingerprint s r k = fingerprintFor (stagedVerdict s (length r) k k) (afresh s r k)
 
 -- ---- record by record, for any sections and any data of theirs
 

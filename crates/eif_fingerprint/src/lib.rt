@@ -1,11 +1,12 @@
 // Computes the fingerprint of an image: SHA-384 of its boot roll (FORMAT.md, The boot roll).
 //
-// The roll is hashed record by record from where the sections lie in the image; no roll is built and nothing is copied.
+// The roll is hashed record by record from where the sections lie in memory; no roll is built and nothing is copied. In a staged view a section
+// lies in the base or in the replacement; an image is the view with nothing replaced.
 ghost use mathlib.Core.Path.{_≡_};
-ghost use Rattle.eif.specs.Reading.{dataOf};
 ghost use Rattle.eif.specs.Roll.{headOf, flagsRecord};
 ghost use Rattle.sha384.specs.State.{moreHashed};
-ghost use Rattle.eif_fingerprint.specs.Fingerprint.{recordHashed, recordsHashed, rollDigest, readFingerprint, fingerprintAnswer};
+ghost use Rattle.staged.specs.View.{heldBy};
+ghost use Rattle.eif_fingerprint.specs.Fingerprint.{recordHashed, recordsHashed, rollDigest, readFingerprint, fingerprintAnswer, stagedFingerprint};
 use eif::FlagsRecord;
 use eif::PLACES;
 use eif::Reading;
@@ -46,25 +47,30 @@ pub fn hash_flags(roll: State, flags: u16) -> State
 }
 
 // The hash state after the record of a section; the state as it was if a roll leaves its type out.
-fn hash_record(roll: State, image: &[u8], x: Section) -> State
-    ensures { λ r. ⌜ r ≡ recordHashed (dataOf (now (image .entry))) roll x ⌝ }
+fn hash_record<'a>(roll: State, base: &'a [u8], replacement: &'a [u8], x: Section) -> State
+    ensures { λ r. ⌜ r ≡ recordHashed (heldBy (now (base .entry)) (now (replacement .entry))) roll x ⌝ }
 {
     if SectionType::is_boot(x.kind) {
         let head = hash_head(roll, x.length.0, x.kind);
-        return sha384::after(head, stream_reader::section_data(image, x));
+        return sha384::after(head, staged_view::held(base, replacement, x));
     }
     roll
 }
 
 // The hash state after the records of all sections.
-fn hash_records(roll: State, image: &[u8], sections: [Section; PLACES]) -> State
-    ensures { λ r. ⌜ r ≡ recordsHashed (dataOf (now (image .entry))) roll sections ⌝ }
+fn hash_records<'a>(
+    roll: State,
+    base: &'a [u8],
+    replacement: &'a [u8],
+    sections: [Section; PLACES],
+) -> State
+    ensures { λ r. ⌜ r ≡ recordsHashed (heldBy (now (base .entry)) (now (replacement .entry))) roll sections ⌝ }
 {
     let mut st = roll;
     let mut i: usize = 0;
     while i < PLACES {
         let section = sections[i];
-        let next = hash_record(st, image, section);
+        let next = hash_record(st, base, replacement, section);
         st = next;
         i += 1;
     }
@@ -74,11 +80,16 @@ fn hash_records(roll: State, image: &[u8], sections: [Section; PLACES]) -> State
 // ---- the fingerprint
 
 // SHA-384 of the roll of flags and sections.
-fn roll_digest(image: &[u8], flags: u16, sections: [Section; PLACES]) -> [u8; DIGEST_SIZE]
-    ensures { λ r. ⌜ r ≡ rollDigest flags (dataOf (now (image .entry))) sections ⌝ }
+fn roll_digest<'a>(
+    base: &'a [u8],
+    replacement: &'a [u8],
+    flags: u16,
+    sections: [Section; PLACES],
+) -> [u8; DIGEST_SIZE]
+    ensures { λ r. ⌜ r ≡ rollDigest flags (heldBy (now (base .entry)) (now (replacement .entry))) sections ⌝ }
 {
     let first = hash_flags(sha384::new(), flags);
-    let all = hash_records(first, image, sections);
+    let all = hash_records(first, base, replacement, sections);
     let whole = hash_head(all, 0, RecordHead::END_TYPE);
     sha384::finish(whole)
 }
@@ -92,7 +103,7 @@ pub fn step(image: &[u8], reading: Reading) -> [u8; DIGEST_SIZE]
         return [0u8; DIGEST_SIZE];
     };
     let sections = reading.sections;
-    roll_digest(image, reading.flags, sections)
+    roll_digest(image, &image[..0], reading.flags, sections)
 }
 
 // The fingerprint of an image; or its refusal, and zero.
@@ -103,4 +114,24 @@ pub fn fingerprint(image: &[u8]) -> Fingerprinted
     let verdict = reading.verdict;
     let digest = step(image, reading);
     Fingerprinted { verdict, digest }
+}
+
+// The fingerprint of the image written afresh with a replacement for one section, from where the data lies; or the refusal, and zero.
+pub fn fingerprint_staged<'a>(base: &'a [u8], replacement: &'a [u8], replaced: u64) -> Fingerprinted
+    ensures { λ r. ⌜ r ≡ stagedFingerprint (now (base .entry)) (now (replacement .entry)) replaced ⌝ }
+{
+    let view = staged_view::judge(base, replacement.len() as u64, replaced, replaced);
+    let verdict = view.verdict;
+    let Verdict::Accepted = verdict else {
+        return Fingerprinted {
+            verdict,
+            digest: [0u8; DIGEST_SIZE],
+        };
+    };
+    let sections = view.sections;
+    let digest = roll_digest(base, replacement, view.flags, sections);
+    Fingerprinted {
+        verdict: Verdict::Accepted,
+        digest,
+    }
 }

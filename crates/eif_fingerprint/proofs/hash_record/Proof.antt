@@ -4,9 +4,9 @@ use mathlib.Core.List.{List}
 use Prim.Native.Nat.{ℕ}
 use borrow.Author.Needs.{needs}
 use denote.Ref.{now}
-use Rattle.eif.specs.Reading.{dataOf}
 use Rattle.sha384.specs.State.{moreHashed}
 use Rattle.sha384.specs.declared.State.{State}
+use Rattle.staged.specs.View.{heldBy}
 use Rattle.eif_fingerprint.proofs.Hashed.{record-boot, record-other}
 use Rattle.eif_fingerprint.proofs.hash_record.Statement.{statement}
 use Rattle.eif_fingerprint.proofs.hash_record.Tie as tie
@@ -16,15 +16,15 @@ returns c =
     let d = c .before in
     let h = d .before in
     let b = h .before .before in
-    let a = b .before .before .args in
-    c .after .ensures ∙ ap₂ (λ (st : State) (l : List ℕ). moreHashed st l) (h .hash-head .ensures) (d .section-data .ensures .0)
-    ∙ sym (record-boot (dataOf (now (a .image))) (a .roll) (a .x) (sym (b .is-boot .ensures) ∙ h .before .if1 .taken))
+    let a = b .before .before .before .args in
+    c .after .ensures ∙ ap₂ (λ (st : State) (l : List ℕ). moreHashed st l) (h .hash-head .ensures) (d .held .ensures .0)
+    ∙ sym (record-boot (heldBy (now (a .base)) (now (a .replacement))) (a .roll) (a .x) (sym (b .is-boot .ensures) ∙ h .before .if1 .taken))
 
 returns-2 : tie.Need-returns-2
 returns-2 c =
     let b = c .before in
-    let a = b .before .before .args in
-    sym (record-other (dataOf (now (a .image))) (a .roll) (a .x) (sym (b .is-boot .ensures) ∙ c .if1 .left))
+    let a = b .before .before .before .args in
+    sym (record-other (heldBy (now (a .base)) (now (a .replacement))) (a .roll) (a .x) (sym (b .is-boot .ensures) ∙ c .if1 .left))
 
 pub hash-record-spec : {M : Type 1} → statement M
 hash-record-spec =

@@ -2,10 +2,10 @@
 use mathlib.Core.Path.{ap, _∙_}
 use borrow.Author.Needs.{needs}
 use denote.Ref.{now}
-use Rattle.eif.specs.Reading.{dataOf}
 use Rattle.eif.specs.Roll.{headOf, flagsRecord, endType}
 use Rattle.sha384.specs.State.{moreHashed, digestFrom}
 use Rattle.sha384.specs.declared.State.{State}
+use Rattle.staged.specs.View.{heldBy}
 use Rattle.eif_fingerprint.specs.Fingerprint.{recordsHashed, rollDigest}
 use Rattle.eif_fingerprint.proofs.roll_digest.Statement.{statement}
 use Rattle.eif_fingerprint.proofs.roll_digest.Tie as tie
@@ -17,8 +17,8 @@ returns c =
     let r = h .before in
     let f = r .before in
     let n = f .before in
-    let a = n .before .before .args in
-    let held = dataOf (now (a .image)) in
+    let a = n .before .before .before .args in
+    let held = heldBy (now (a .base)) (now (a .replacement)) in
     c .finish .ensures ∙ ap digestFrom (h .hash-head .ensures)
     ∙ ap (λ (x : State). digestFrom (moreHashed x (headOf 0 endType))) (r .hash-records .ensures)
     ∙ ap (λ (x : State). digestFrom (moreHashed (recordsHashed held x (a .sections)) (headOf 0 endType))) (f .hash-flags .ensures)
