@@ -1,7 +1,7 @@
-// The fingerprint of an image, and of an image that arrives in pieces, for programs in C and Rust (FORMAT.md, The boot roll and Check while it
-// arrives). A state is a value that the caller keeps, and every value is a state.
+// The fingerprint of an image, of a staged view, and of an image that arrives in pieces, for programs in C and Rust (FORMAT.md, The boot roll,
+// Staging, Check while it arrives). A state is a value that the caller keeps, and every value is a state.
 ghost use mathlib.Core.Path.{_≡_};
-ghost use Rattle.eif_fingerprint.specs.Fingerprint.{fingerprintAnswer};
+ghost use Rattle.eif_fingerprint.specs.Fingerprint.{fingerprintAnswer, stagedFingerprint};
 ghost use Rattle.arriving_fingerprint.specs.Fingerprinting.{freshFingerprinting, fedFingerprinting, finishedFingerprinting};
 ghost use Rattle.eif_c.specs.Fingerprint.{flatFingerprint, flatFingerprinting};
 use arriving_fingerprint::Fed;
@@ -27,7 +27,7 @@ pub struct EifFingerprintingFinished {
     pub digest: Digest,
 }
 
-// ---- an image in memory
+// ---- an image in memory, and one with a section replaced
 
 fn flat_fingerprint(answer: Fingerprinted) -> EifFingerprint
     ensures { λ r. ⌜ r ≡ flatFingerprint answer ⌝ }
@@ -48,6 +48,18 @@ pub extern "C" fn eif_image_fingerprint(image: &[u8]) -> EifFingerprint
     ensures { λ r. ⌜ r ≡ flatFingerprint (fingerprintAnswer (now (image .entry))) ⌝ }
 {
     flat_fingerprint(eif_fingerprint::fingerprint(image))
+}
+
+#[no_mangle]
+pub extern "C" fn eif_staged_fingerprint<'a>(
+    base: &'a [u8],
+    replacement: &'a [u8],
+    replaced: u64,
+) -> EifFingerprint
+    ensures { λ r. ⌜ r ≡ flatFingerprint (stagedFingerprint (now (base .entry)) (now (replacement .entry)) replaced) ⌝ }
+{
+    let answer = eif_fingerprint::fingerprint_staged(base, replacement, replaced);
+    flat_fingerprint(answer)
 }
 
 // ---- an image that arrives in pieces
