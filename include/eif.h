@@ -34,7 +34,7 @@
  *
  * Answers have no padding, and their reserved fields are 0: equal answers are equal by memcmp.
  *
- * Each stream, register or roll call on an image reads the whole image again, checksum included. To
+ * Each stream, register, roll or fingerprint call on an image reads the whole image again, checksum included. To
  * copy a stream in pieces, read the image once and take eif_copy_sections, which reads only what it
  * copies.
  */
@@ -446,8 +446,17 @@ typedef struct eif_fingerprinting_fed {
 typedef struct eif_fingerprinting_finished {
     eif_fingerprinting state; /* as it was, its end announced */
     eif_reading reading;      /* what eif_read answers on the bytes taken */
-    eif_digest digest;        /* the fingerprint; all 0 beside a refusal */
+    eif_digest digest;        /* what eif_image_fingerprint answers on them; all 0 beside a refusal */
 } eif_fingerprinting_finished;
+
+/* The fingerprint of an image. */
+typedef struct eif_fingerprint {
+    uint8_t number; /* EIF_ACCEPTED, or one of 1 to 13 and 20 */
+    uint8_t reserved[7];
+    uint64_t index;
+    uint64_t position; /* in the image, of what is at fault */
+    eif_digest digest; /* all 0 beside a refusal */
+} eif_fingerprint;
 
 /* A record of an accepted roll. */
 typedef struct eif_roll_record {
@@ -653,16 +662,20 @@ EIF_MUST_USE eif_answer eif_roll_write(const uint8_t *image, size_t image_length
  * refused by 17 at 0. */
 EIF_MUST_USE eif_roll_reading eif_roll_read(const uint8_t *roll, size_t roll_length);
 
-/* Computes the fingerprint of an image that arrives in pieces of any size, with no room for its bytes: the SHA-384 of
- * its boot roll (FORMAT.md, The boot roll).
+/* The fingerprint of an image: the SHA-384 of its boot roll (FORMAT.md, The boot roll). The roll is not built: each
+ * section is hashed where it lies. Refusals: the image's own. */
+EIF_MUST_USE eif_fingerprint eif_image_fingerprint(const uint8_t *image, size_t image_length);
+
+/* Computes the fingerprint of an image that arrives in pieces of any size, with no room for its bytes
+ * (FORMAT.md, The boot roll):
  *
  *     eif_fingerprinting state = eif_fingerprinting_begin();
  *     eif_fingerprinting_fed fed = eif_fingerprinting_feed(state, piece, piece_length, allowance);
  *     ... continue with fed.state and with what was not taken of the piece, then with the next piece ...
  *     eif_fingerprinting_finished end = eif_fingerprinting_finish(fed.state);
  *
- * Bytes are taken and counted as by eif_arriving_feed. However the file was cut, the reading is that of eif_read on the
- * bytes taken, and the digest is that of the roll that eif_roll_write writes of them. Finishing again gives the same. */
+ * Bytes are taken and counted as by eif_arriving_feed. However the file was cut, the answer is that of eif_read
+ * and of eif_image_fingerprint on the bytes taken. Finishing again gives the same. */
 EIF_MUST_USE eif_fingerprinting eif_fingerprinting_begin(void);
 EIF_MUST_USE eif_fingerprinting_fed eif_fingerprinting_feed(eif_fingerprinting state, const uint8_t *piece,
                                                             size_t piece_length, uint64_t allowance);

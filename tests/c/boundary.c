@@ -54,6 +54,8 @@ typedef char layout_of_fingerprinting_count[offsetof(eif_fingerprinting_fed, cou
 typedef char layout_of_fingerprinting_finished[sizeof(eif_fingerprinting_finished) == 1152 + 824 + 48 ? 1 : -1];
 typedef char layout_of_fingerprinting_reading[offsetof(eif_fingerprinting_finished, reading) == 1152 ? 1 : -1];
 typedef char layout_of_fingerprinting_digest[offsetof(eif_fingerprinting_finished, digest) == 1976 ? 1 : -1];
+typedef char layout_of_fingerprint[sizeof(eif_fingerprint) == 24 + 48 ? 1 : -1];
+typedef char layout_of_fingerprint_digest[offsetof(eif_fingerprint, digest) == 24 ? 1 : -1];
 typedef char layout_of_roll_record[sizeof(eif_roll_record) == 24 ? 1 : -1];
 typedef char layout_of_roll_reading[sizeof(eif_roll_reading) == 32 + 32 * 24 ? 1 : -1];
 typedef char layout_of_roll_flags[offsetof(eif_roll_reading, flags) == 2 ? 1 : -1];
@@ -90,6 +92,7 @@ static void try_null(const uint8_t *image) {
     check(eif_roll_write(NULL, 0, NULL, 0).number == EIF_IMAGE_TOO_SHORT, "roll of null");
     check(eif_roll_read(NULL, 0).number == EIF_RECORD_CUT, "roll read of null");
     check(eif_registers(NULL, 0).number == EIF_IMAGE_TOO_SHORT, "registers of null");
+    check(eif_image_fingerprint(NULL, 0).number == EIF_IMAGE_TOO_SHORT, "fingerprint of null");
     check(eif_sha384_update(eif_sha384_begin(), NULL, 0).number == EIF_ACCEPTED, "a piece of null");
     check(eif_arriving_feed(eif_arriving_begin(), NULL, 0, UINT64_MAX).count == 0, "null arrives");
     check(eif_measuring_feed(eif_measuring_begin(), NULL, 0, UINT64_MAX).count == 0, "null is measured");
@@ -163,6 +166,12 @@ static void try_registers(const uint8_t *image, size_t length) {
     static eif_registers_answer one, other;
     CHECK_TWICE(one, other, eif_registers(image, length), "equal registers by memcmp");
     check(zero(one.reserved, sizeof one.reserved), "reserved of registers");
+}
+
+static void try_fingerprint(const uint8_t *image, size_t length) {
+    static eif_fingerprint one, other;
+    CHECK_TWICE(one, other, eif_image_fingerprint(image, length), "equal fingerprints by memcmp");
+    check(zero(one.reserved, sizeof one.reserved), "reserved of a fingerprint");
 }
 
 static void try_arriving(const uint8_t *image, size_t length) {
@@ -240,6 +249,8 @@ int main(void) {
     try_answer(image, IMAGE_LENGTH, roll, ROLL_LENGTH - 1);
     try_registers(image, IMAGE_LENGTH);
     try_registers(image, CUT_LENGTH);
+    try_fingerprint(image, IMAGE_LENGTH);
+    try_fingerprint(image, CUT_LENGTH);
     try_arriving(image, IMAGE_LENGTH);
     try_arriving(image, CUT_LENGTH);
     try_measuring(image, IMAGE_LENGTH);

@@ -12,7 +12,7 @@ enum { MEMORY = 65536, PAGE = 4096, PIECE = 4096 };
 enum { SECTION_LENGTH = 50000, DATA_LENGTH = EIF_MAX_SECTIONS * SECTION_LENGTH, IMAGE_ROOM = 2000000 };
 
 /* What is sent. The receiver has no room for it in its memory. */
-static uint8_t data[DATA_LENGTH], image[IMAGE_ROOM], roll[IMAGE_ROOM];
+static uint8_t data[DATA_LENGTH], image[IMAGE_ROOM];
 static size_t image_length, sent;
 
 /* The storage of the ramdisks, which is not in the receiver's memory. */
@@ -91,8 +91,7 @@ static size_t used(void) {
 int main(void) {
     size_t bytes, ramdisks = 2 * SECTION_LENGTH;
     eif_registers_answer whole;
-    eif_answer written;
-    eif_digest digest;
+    eif_fingerprint expected;
     if (!prepare()) {
         printf("receive: no image to try\n");
         return 1;
@@ -103,10 +102,9 @@ int main(void) {
     check(stored == sizeof data - ramdisks && memcmp(storage, data + ramdisks, stored) == 0, "the ramdisks are stored");
     whole = eif_registers(image, image_length);
     check(memcmp(registers, whole.registers, sizeof registers) == 0, "the registers are those of the whole image");
-    written = eif_roll_write(image, image_length, roll, sizeof roll);
-    digest = sha384_of(roll, (size_t)written.length);
-    check(written.number == EIF_ACCEPTED && memcmp(&fingerprint, &digest, sizeof digest) == 0,
-          "the fingerprint is the SHA-384 of the roll");
+    expected = eif_image_fingerprint(image, image_length);
+    check(expected.number == EIF_ACCEPTED && memcmp(&fingerprint, &expected.digest, sizeof fingerprint) == 0,
+          "the fingerprint is that of the whole image");
     if (failures == 0) {
         printf("receive: a file of %zu bytes by %d: %zu of %d bytes used, stack, states and piece\n",
                image_length, PIECE, bytes, MEMORY);

@@ -40,6 +40,7 @@ static eif_measuring_finished measured;
 static eif_fingerprinting fingerprinting;
 static eif_fingerprinting_fed fingerprinting_fed, short_fingerprinting;
 static eif_fingerprinting_finished fingerprinted;
+static eif_fingerprint fingerprint;
 static eif_sha384 begun;
 static eif_sha384_fed fed;
 static eif_digest digest;
@@ -106,6 +107,7 @@ static void call_fingerprinting_short(void) {
 static void call_fingerprinting_finish(void) {
     fingerprinted = eif_fingerprinting_finish(fingerprinting_fed.state);
 }
+static void call_image_fingerprint(void) { fingerprint = eif_image_fingerprint(image, image_length); }
 static void call_sha384_begin(void) { begun = eif_sha384_begin(); }
 static void call_sha384_update(void) { fed = eif_sha384_update(begun, image, image_length); }
 static void call_sha384_finish(void) { digest = eif_sha384_finish(fed.state); }
@@ -195,6 +197,7 @@ static const struct {
     {"eif_fingerprinting_begin", call_fingerprinting_begin},
     {"eif_fingerprinting_feed", call_fingerprinting_feed},
     {"eif_fingerprinting_finish", call_fingerprinting_finish},
+    {"eif_image_fingerprint", call_image_fingerprint},
     {"eif_sha384_begin", call_sha384_begin},
     {"eif_sha384_update", call_sha384_update},
     {"eif_sha384_finish", call_sha384_finish},
@@ -228,7 +231,8 @@ static void try_calls(size_t section, size_t kib) {
                     staged_part.number != 0 || staged_registers.number != 0 || stepped.number != 0;
     }
     check(memcmp(measured.registers, registers.registers, sizeof registers.registers) == 0, "the registers");
-    check(fingerprinted.reading.number == 0, "the fingerprinted image");
+    check(fingerprint.number == 0 && memcmp(&fingerprinted.digest, &fingerprint.digest, sizeof fingerprint.digest) == 0,
+          "the fingerprint");
     check(span.place == EIF_NO_SECTION && span.begun == SECTIONS, "the span after the last section");
     check(json.is_text == 1 && marks[0] == 1 && marks[1] == 0, "the text and the marks");
 }

@@ -120,6 +120,9 @@ static void try_position(const uint8_t *image, size_t place, uint8_t value, unsi
     check(registers.number == number && registers.index == index &&
               registers.position == position,
           "position, handed on by registers");
+    eif_fingerprint fingerprint = eif_image_fingerprint(changed, IMAGE_LENGTH);
+    check(fingerprint.number == number && fingerprint.index == index && fingerprint.position == position,
+          "position, handed on by a fingerprint");
 }
 
 /* The checksum is never mended: every rule here but 13 is judged before it. */
@@ -452,11 +455,21 @@ static void try_measuring(const uint8_t *image) {
     check(zero(cut.registers[0].bytes, sizeof cut.registers), "registers of 547 bytes");
 }
 
-/* The image fingerprinted in pieces of every length: SHA-384 of its roll, and nothing after the end. */
-static void try_fingerprinting(const uint8_t *image) {
+static void try_fingerprint(const uint8_t *image) {
     eif_digest digest = sha384_of(expected_roll, ROLL_LENGTH);
+    eif_fingerprint whole = eif_image_fingerprint(image, IMAGE_LENGTH);
+    check(whole.number == EIF_ACCEPTED && whole.index == 0 && whole.position == 0, "fingerprint");
+    check(begins(whole.digest, UINT64_C(0x83f9e4fb2210b884)), "fingerprint, first bytes");
+    check(memcmp(&whole.digest, &digest, sizeof digest) == 0, "SHA-384 of the roll");
+    eif_fingerprint cut = eif_image_fingerprint(image, CUT_LENGTH);
+    check(cut.number == EIF_IMAGE_TOO_SHORT && cut.index == 0 && zero(cut.digest.bytes, sizeof cut.digest),
+          "fingerprint, 547 bytes");
+}
+
+/* The image fingerprinted in pieces of every length: its fingerprint, and nothing after the end. */
+static void try_fingerprinting(const uint8_t *image) {
+    eif_digest digest = eif_image_fingerprint(image, IMAGE_LENGTH).digest;
     eif_reading reading = eif_read(image, IMAGE_LENGTH);
-    check(begins(digest, UINT64_C(0x83f9e4fb2210b884)), "digest of the roll");
     for (size_t length = 1; length <= IMAGE_LENGTH; length++) {
         uint64_t allowance = 1 + length / 2;
         eif_fingerprinting state = eif_fingerprinting_begin();
@@ -525,6 +538,7 @@ int main(void) {
     try_file_order();
     try_registers(image);
     try_measuring(image);
+    try_fingerprint(image);
     try_fingerprinting(image);
     try_sha384();
     try_roll(image);

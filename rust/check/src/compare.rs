@@ -2,10 +2,11 @@
 
 use crate::strict::compare_strict;
 use crate::{Call, Message, Output, PlanInput, ReadingInput, Rng, Tally};
+use eif::raw::fingerprint::{image_fingerprint, FingerprintAnswer};
 use eif::raw::{self, Answer, Reading, RegistersAnswer, RollReading, StreamSections};
 use eif::{
-    DataLength, Digest, FilePosition, Refusal, Registers, RollPosition, SectionType, Stream,
-    StreamPosition, DIGEST_LENGTH, REGISTERS,
+    DataLength, Digest, FilePosition, Fingerprint, Refusal, Registers, RollPosition, SectionType,
+    Stream, StreamPosition, DIGEST_LENGTH, REGISTERS,
 };
 use eif_cases::MAX_SECTIONS;
 use eif_twin as twin;
@@ -307,6 +308,28 @@ pub fn compare_image(rng: &mut Rng, ordinal: u64, image: &[u8], tally: &mut Tall
         twin::registers(image),
     );
     tally.add(Call::Registers, number);
+    compare_fingerprint(input, tally);
+}
+
+/// The fingerprint of an image, by the C interface, the Rust interface and the twin.
+fn compare_fingerprint(input: &Input, tally: &mut Tally) {
+    let answer = image_fingerprint(input.bytes);
+    let expected = match twin::fingerprint(input.bytes).map_err(twin_parts) {
+        Ok(digest) => FingerprintAnswer {
+            digest: Digest(digest),
+            ..FingerprintAnswer::default()
+        },
+        Err(parts) => refused!(FingerprintAnswer, parts),
+    };
+    same(input, "fingerprint", answer, expected);
+    let numbers = (answer.number, answer.index, answer.position);
+    let expected = in_rust(Fingerprint(answer.digest), numbers);
+    let rust = eif::fingerprint(input.bytes).map_err(parts);
+    same(input, "fingerprint in Rust", rust, expected);
+    let read = eif::read(input.bytes).map_err(parts);
+    let of_image = read.map(|image| image.fingerprint());
+    same(input, "fingerprint of an image read", of_image, expected);
+    tally.add(Call::Fingerprint, answer.number);
 }
 
 /// Measures and writes the roll of an image.

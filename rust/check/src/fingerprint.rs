@@ -4,7 +4,8 @@ use crate::arriving::twin_arriving;
 use crate::compare::twin_state;
 use crate::{Call, WhileArriving};
 use eif::raw::fingerprint::{
-    fingerprinting_begin, fingerprinting_feed, fingerprinting_finish, Fingerprinting,
+    fingerprinting_begin, fingerprinting_feed, fingerprinting_finish, image_fingerprint,
+    Fingerprinting,
 };
 use eif::raw::{Arriving, Reading, Sha384};
 use eif::Digest;
@@ -70,6 +71,6 @@ impl WhileArriving for FingerprintArriving {
     }
 
     fn of_image(image: &[u8]) -> Vec<Digest> {
-        vec![Digest(twin::fingerprint(image).unwrap_or([0; 48]))]
+        vec![image_fingerprint(image).digest]
     }
 }

@@ -1,7 +1,10 @@
 //! Every call on an image that is refused.
 
 use crate::{parts, refused, refused_reading};
-use eif::raw::fingerprint::{fingerprinting_begin, fingerprinting_feed, fingerprinting_finish};
+use eif::raw::fingerprint::{
+    fingerprinting_begin, fingerprinting_feed, fingerprinting_finish, image_fingerprint,
+    FingerprintAnswer,
+};
 use eif::raw::measuring::{measuring_begin, measuring_feed, measuring_finish};
 use eif::{
     raw, staged, Arriving, ArrivingFingerprint, ArrivingRegisters, Digest, Refusal, Stream,
@@ -25,6 +28,7 @@ fn every_answer(image: &[u8], out: &mut [u8]) -> Vec<(&'static str, Result<(), R
         ("arriving", arriving.finish().map(|_| ())),
         ("registers", eif::registers(image).map(|_| ())),
         ("arriving registers", measuring.finish().map(|_| ())),
+        ("fingerprint", eif::fingerprint(image).map(|_| ())),
         ("arriving fingerprint", fingerprinting.finish().map(|_| ())),
         ("roll length", eif::roll_length(image).map(|_| ())),
         ("roll", eif::write_roll(image, out).map(|_| ())),
@@ -95,6 +99,8 @@ fn check_raw(name: &str, image: &[u8], answer: Answer, out: &mut [u8]) {
     }
     let registers = refused!(raw::RegistersAnswer, answer);
     assert_eq!(raw::registers(image), registers, "{name}");
+    let fingerprint = refused!(FingerprintAnswer, answer);
+    assert_eq!(image_fingerprint(image), fingerprint, "{name}");
     let staged = raw::staged::staged_registers(image, b"new", most);
     assert_eq!(staged, registers, "{name}");
     let part = refused!(raw::staged::StagedPart, answer);

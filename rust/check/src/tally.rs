@@ -4,7 +4,7 @@ use std::fmt;
 use std::ops::AddAssign;
 
 /// How many kinds of call there are.
-const CALLS: usize = 22;
+const CALLS: usize = 23;
 
 /// Answer numbers are below this.
 const NUMBERS: usize = 30;
@@ -38,6 +38,8 @@ pub enum Call {
     Registers,
     /// The registers of an image that arrives in pieces.
     RegistersArriving,
+    /// The fingerprint of an image.
+    Fingerprint,
     /// The fingerprint of an image that arrives in pieces.
     FingerprintArriving,
     /// A piece for a digest in progress.
@@ -74,6 +76,7 @@ impl Call {
         Call::RollRead,
         Call::Registers,
         Call::RegistersArriving,
+        Call::Fingerprint,
         Call::FingerprintArriving,
         Call::Update,
         Call::Sign1Read,
@@ -95,6 +98,7 @@ impl Call {
             | Call::RollLength
             | Call::Registers
             | Call::RegistersArriving
+            | Call::Fingerprint
             | Call::FingerprintArriving => image.collect(),
             Call::ReadStrict => image.chain([21]).collect(),
             Call::PlanLength => vec![0, 1, 4, 5, 9, 10, 11, 12],

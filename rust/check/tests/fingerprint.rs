@@ -1,6 +1,6 @@
 //! The fingerprint of images: the example of FORMAT.md, the SHA-384 of the roll, and what it tells apart.
 
-use eif::{ArrivingFingerprint, Fingerprint, Refusal, Sha384};
+use eif::{ArrivingFingerprint, Fingerprint, NotFingerprint, Refusal, Sha384};
 use eif_cases::{image_cases, image_of_length, register_cases, worked_image, Layout, Section};
 use std::io::{ErrorKind, Write};
 
@@ -26,6 +26,7 @@ fn arrived(image: &[u8], length: usize) -> Result<Fingerprint, Refusal> {
     let error = arriving.write_all(b"x").unwrap_err();
     assert_eq!(error.kind(), ErrorKind::WriteZero);
     assert_eq!(arriving.finish(), Ok((reading, fingerprint)));
+    assert_eq!(eif::fingerprint(image), Ok(fingerprint));
     Ok(fingerprint)
 }
 
@@ -33,6 +34,10 @@ fn arrived(image: &[u8], length: usize) -> Result<Fingerprint, Refusal> {
 fn the_worked_example() {
     assert_eq!(arrived(&worked_image(), 100).unwrap().to_string(), WORKED);
     assert_eq!(WORKED.parse(), Ok(of_roll(&worked_image())));
+    assert_eq!(
+        WORKED.parse(),
+        eif::fingerprint(&worked_image()).map_err(|_| NotFingerprint)
+    );
 }
 
 /// However the image is cut.

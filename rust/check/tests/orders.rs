@@ -18,6 +18,7 @@ fn calls(order: &str) -> &'static [Call] {
             Call::RollLength,
             Call::Registers,
             Call::RegistersArriving,
+            Call::Fingerprint,
             Call::FingerprintArriving,
         ],
         "stricter reading" => &[Call::ReadStrict],

@@ -1,7 +1,8 @@
 //! The fingerprint of an image: the SHA-384 of its boot roll.
 
 use crate::raw::fingerprint::{
-    fingerprinting_begin, fingerprinting_feed, fingerprinting_finish, Fingerprinting,
+    fingerprinting_begin, fingerprinting_feed, fingerprinting_finish, image_fingerprint,
+    Fingerprinting,
 };
 use crate::state::{over_state, while_arriving};
 use crate::{Digest, Reading, Refusal, DIGEST_LENGTH};
@@ -59,6 +60,22 @@ impl FromStr for Fingerprint {
     }
 }
 
+/// The fingerprint of `image`. Its roll is not built: each section is hashed where it lies.
+///
+/// ```
+/// // What is no image has no fingerprint.
+/// assert_eq!(eif::fingerprint(b"short").unwrap_err().number(), 2);
+/// ```
+///
+/// # Errors
+///
+/// The image's own refusal.
+pub fn fingerprint(image: &[u8]) -> Result<Fingerprint, Refusal> {
+    let answer = image_fingerprint(image);
+    Refusal::check(answer.number, answer.index, answer.position)?;
+    Ok(Fingerprint(answer.digest))
+}
+
 /// A text that is not 96 hexadecimal digits.
 #[derive(Clone, Copy, Debug, PartialEq, Eq)]
 pub struct NotFingerprint;
@@ -75,7 +92,7 @@ impl std::error::Error for NotFingerprint {}
 /// however long the file is.
 ///
 /// ```
-/// use eif::{ArrivingFingerprint, DataLength, Place, Plan, SectionType, Sha384};
+/// use eif::{ArrivingFingerprint, DataLength, Place, Plan, SectionType};
 ///
 /// let places = vec![
 ///     Place::new(SectionType::KERNEL, DataLength(4)),
@@ -88,11 +105,9 @@ impl std::error::Error for NotFingerprint {}
 /// for piece in image.chunks(100) {
 ///     assert_eq!(arriving.feed(piece), piece.len());
 /// }
-/// let (_, fingerprint) = arriving.finish()?;
-///
-/// let mut hash = Sha384::new();
-/// hash.update(&eif::roll_to_vec(&image)?)?;
-/// assert_eq!(fingerprint.0, hash.finish());
+/// let (reading, fingerprint) = arriving.finish()?;
+/// assert_eq!(reading.sections().len(), 2);
+/// assert_eq!(fingerprint, eif::fingerprint(&image)?);
 /// # Ok::<(), eif::Refusal>(())
 /// ```
 ///
@@ -107,7 +122,7 @@ impl ArrivingFingerprint {
     }
 
     /// Ends the file. The answer is the reading that [`read`](crate::read) gives of the bytes taken, and their
-    /// fingerprint. Ending again gives the same.
+    /// [`fingerprint`](fingerprint()). Ending again gives the same.
     ///
     /// # Errors
     ///

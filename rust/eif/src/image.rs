@@ -1,8 +1,8 @@
 //! Reading an image.
 
 use crate::{
-    raw, Architecture, DataLength, FilePosition, Place, Plan, Refusal, Registers, Section,
-    SectionType, SECTION_HEADER_LENGTH,
+    raw, Architecture, DataLength, FilePosition, Fingerprint, Place, Plan, Refusal, Registers,
+    Section, SectionType, SECTION_HEADER_LENGTH,
 };
 use std::ops::Deref;
 
@@ -258,6 +258,12 @@ impl<'a> Image<'a> {
     pub fn registers(&self) -> Registers {
         // These bytes were accepted, so there is no refusal.
         Registers(raw::registers(self.bytes).registers)
+    }
+
+    /// The image's fingerprint. The image is read again for it.
+    pub fn fingerprint(&self) -> Fingerprint {
+        // These bytes were accepted, so there is no refusal.
+        Fingerprint(raw::fingerprint::image_fingerprint(self.bytes).digest)
     }
 
     /// The data of all sections, joined in file order.

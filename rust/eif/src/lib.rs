@@ -17,7 +17,8 @@
 //! | [`ArrivingRegisters`] | the same of an image that arrives in pieces, with no memory for its bytes |
 //! | [`Sha384`] | SHA-384, fed in pieces |
 //! | [`write_roll`], [`roll_length`], [`roll_to_vec`], [`read_roll`] | the boot roll |
-//! | [`ArrivingFingerprint`] | the fingerprint, which is the SHA-384 of the boot roll, of an image that arrives in pieces |
+//! | [`fingerprint()`], [`Image::fingerprint`] | the fingerprint, which is the SHA-384 of the boot roll |
+//! | [`ArrivingFingerprint`] | the same of an image that arrives in pieces, with no memory for its bytes |
 //! | [`Assembler`], [`assembler::records`] | an image from pieces that come in any order, some of them twice; its records |
 //! | [`sign1::read`], [`sign1::write`], [`sign1::to_vec`] | what a signature claims, not verified |
 //! | [`staged::section`], [`staged::roll_to_vec`], [`staged::registers`] | the same of an image with one section replaced, and no second image |
@@ -127,7 +128,7 @@ mod stream;
 
 pub use arriving::{Arriving, Parts, Span};
 pub use assembler::Assembler;
-pub use fingerprint::{ArrivingFingerprint, Fingerprint, NotFingerprint};
+pub use fingerprint::{fingerprint, ArrivingFingerprint, Fingerprint, NotFingerprint};
 pub use image::{read, read_strict, Image, Reading};
 pub use measuring::ArrivingRegisters;
 pub use numbers::{

@@ -4,6 +4,22 @@ use super::{Arriving, Reading, Sha384};
 use crate::Digest;
 use std::mem::{align_of, offset_of, size_of};
 
+/// What [`image_fingerprint`] answers.
+#[repr(C)]
+#[derive(Clone, Copy, Debug, Default, PartialEq, Eq)]
+pub struct FingerprintAnswer {
+    /// The answer number, 0 where the image is accepted.
+    pub number: u8,
+    /// Always 0.
+    pub reserved: [u8; 7],
+    /// The index beside a refusal.
+    pub index: u64,
+    /// Where what is at fault stands, beside a refusal.
+    pub position: u64,
+    /// The fingerprint, zero beside a refusal.
+    pub digest: Digest,
+}
+
 /// An image that arrives in pieces and is fingerprinted. Any value is a state; a fresh one is
 /// [`fingerprinting_begin`]'s.
 #[repr(C)]
@@ -40,6 +56,8 @@ pub struct FingerprintingFinished {
 // The layout that eif.h gives to a C compiler, with no padding.
 #[allow(clippy::arithmetic_side_effects)] // the compiler computes these sums
 const _: () = {
+    assert!(size_of::<FingerprintAnswer>() == 1 + 7 + 8 + 8 + 48);
+    assert!(offset_of!(FingerprintAnswer, digest) == 24);
     assert!(size_of::<Fingerprinting>() == size_of::<Arriving>() + size_of::<Sha384>());
     assert!(size_of::<Fingerprinting>() == 1152 && align_of::<Fingerprinting>() == 8);
     assert!(offset_of!(Fingerprinting, roll) == 952);
@@ -51,9 +69,10 @@ const _: () = {
 };
 
 mod c {
-    use super::{Fingerprinting, FingerprintingFed, FingerprintingFinished};
+    use super::{FingerprintAnswer, Fingerprinting, FingerprintingFed, FingerprintingFinished};
 
     extern "C" {
+        pub fn eif_image_fingerprint(image: *const u8, image_length: usize) -> FingerprintAnswer;
         pub fn eif_fingerprinting_begin() -> Fingerprinting;
         pub fn eif_fingerprinting_feed(
             state: Fingerprinting,
@@ -63,6 +82,11 @@ mod c {
         ) -> FingerprintingFed;
         pub fn eif_fingerprinting_finish(state: Fingerprinting) -> FingerprintingFinished;
     }
+}
+
+/// `eif_image_fingerprint`.
+pub fn image_fingerprint(image: &[u8]) -> FingerprintAnswer {
+    super::of_slice(c::eif_image_fingerprint, image)
 }
 
 /// `eif_fingerprinting_begin`.
@@ -99,6 +123,9 @@ mod tests {
         // SAFETY: the length is 0.
         let fed = unsafe { c::eif_fingerprinting_feed(begun, null(), 0, u64::MAX) };
         assert_eq!((fed.count, fed.state), (0, begun));
+        // SAFETY: the length is 0.
+        let none = unsafe { c::eif_image_fingerprint(null(), 0) };
+        assert_eq!((none.number, none), (2, image_fingerprint(&[])));
     }
 
     #[test]
@@ -108,5 +135,8 @@ mod tests {
         assert_eq!(bytes_of(&fed[0]), bytes_of(&fed[1]));
         let finished = fed.map(|fed| fingerprinting_finish(fed.state));
         assert_eq!(bytes_of(&finished[0]), bytes_of(&finished[1]));
+        let answers = [[7; 600]; 2].map(|image| image_fingerprint(&image));
+        assert_eq!(bytes_of(&answers[0]), bytes_of(&answers[1]));
+        assert_eq!(answers[0].reserved, [0; 7]);
     }
 }
