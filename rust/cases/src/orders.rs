@@ -99,13 +99,12 @@ pub fn number_of(rule: Rule) -> u8 {
 /// Reading an image.
 #[rustfmt::skip]
 const IMAGE: &[Rule] = &[
-    "1", "2", "3", "4", "5", "6", "20 gap", "7", "8", "9", "10", "11", "6 next", "12", "20 tail", "13",
+    "1", "2", "3", "4", "5", "6", "20 start", "7", "8", "9", "10", "11", "6 next", "12", "20 tail", "13",
 ];
 
 #[rustfmt::skip]
 const IMAGE_NEVER: &[Never] = &[
     ("1", &["2"], "no file is both longer than the longest and shorter than a header"),
-    ("6", &["20 gap"], "no section starts both before and after the end of the one before it"),
 ];
 
 /// Of one section of an image or of a plan.
