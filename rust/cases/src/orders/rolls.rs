@@ -76,7 +76,7 @@ const LONG_ROWS: [LongRow; 2] = [
     (["18", "1"], true, 1_073_741_253, 1, (18, 0, 1_073_741_295)),
 ];
 
-/// Rolls of more than a GiB, whose zeros take no memory until they are written to.
+/// Rolls of almost 1 GiB, whose zeros take no memory until they are written to.
 pub fn long_roll_orders() -> Vec<OrderCase<Vec<u8>>> {
     let case = |(rules, has_command_line, kernel, after, answer): LongRow| {
         let mut heads = record(2, 256, &[0, 0]);
