@@ -37,8 +37,8 @@ pub use layout::{
 };
 pub use orders::{
     image_orders, long_image_orders, long_roll_orders, orders, plan_orders, roll_orders,
-    short_buffers, sign1_orders, staged_orders, transfer_orders, Order, OrderCase, Replacement,
-    Rule, Sign1Input, TransferInput,
+    short_buffers, sign1_orders, staged_roll_orders, staged_view_orders, transfer_orders, Order,
+    OrderCase, Replacement, Rule, Sign1Input, TransferInput,
 };
 pub use positions::{located_images, located_plans, located_rolls, PlanCase};
 pub use rolls::{

@@ -4,7 +4,8 @@ use eif::raw::{self, assembler, sign1, staged};
 use eif::{Assembler, DataLength, Digest, Place, Plan, SectionType};
 use eif_cases::{
     image_orders, long_image_orders, long_roll_orders, orders, plan_orders, roll_orders,
-    short_buffers, sign1_orders, staged_orders, transfer_orders, worked_image, PlanCase,
+    short_buffers, sign1_orders, staged_roll_orders, staged_view_orders, transfer_orders,
+    worked_image, OrderCase, PlanCase, Replacement,
 };
 use eif_check::{check_refused_image, parts, refused, Call};
 
@@ -28,18 +29,17 @@ fn calls(order: &str) -> &'static [Call] {
         "writing an image" => &[Call::Write],
         "reading a roll" => &[Call::RollRead],
         "a transfer's record" => &[Call::Assemble],
-        "staging" => &[
-            Call::StagedPart,
-            Call::StagedRollLength,
-            Call::StagedRegisters,
-        ],
-        "staging a roll" => &[Call::StagedRollWrite],
+        "the data of a staged section" => &[Call::StagedPart],
+        "the length of a staged roll, and the registers" => {
+            &[Call::StagedRollLength, Call::StagedRegisters]
+        }
+        "writing a staged roll" => &[Call::StagedRollWrite],
         "writing a COSE_Sign1" => &[Call::Sign1Write],
         _ => panic!("no call has the order of {order}"),
     }
 }
 
-/// A call that gains an answer number has it in its order too, where it then needs a case.
+/// A call that gains a number in `Call::numbers` has it in its order too, where it then needs a case.
 #[test]
 fn orders_have_the_numbers_of_their_calls() {
     let mut found = Vec::new();
@@ -146,21 +146,34 @@ fn transfers() {
     }
 }
 
+/// Both calls for the data of a section give the case's answer.
+fn check_view(base: &[u8], replacement: &[u8], case: &OrderCase<Replacement>) {
+    let (input, size) = (&case.input, replacement.len() as u64);
+    let [replaced, shown] = [input.replaced, input.shown].map(|number| number as usize);
+    let part = eif::staged::section(base, replacement, replaced, shown);
+    assert_eq!(
+        part.map(|_| ()).map_err(parts),
+        Err(case.answer),
+        "{:?}",
+        case.rules
+    );
+    let part = staged::staged_part(base, size, input.replaced, input.shown);
+    let refused = refused!(staged::StagedPart, case.answer);
+    assert_eq!(part, refused, "{:?}", case.rules);
+}
+
 /// The replacement's zeros take no memory, since none of them is read.
 #[test]
 fn replacements() {
     let base = worked_image();
-    for case in staged_orders() {
+    for case in staged_view_orders() {
+        check_view(&base, &vec![0; case.input.size], &case);
+    }
+    for case in staged_roll_orders() {
         let (input, expected) = (&case.input, Err(case.answer));
         let (replacement, mut out) = (vec![0; input.size], vec![0xaa; input.room]);
-        let [replaced, shown] = [input.replaced, input.shown].map(|number| number as usize);
-        let part = eif::staged::section(&base, &replacement, replaced, shown);
-        assert_eq!(
-            part.map(|_| ()).map_err(parts),
-            expected,
-            "{:?}",
-            case.rules
-        );
+        let replaced = input.replaced as usize;
+        check_view(&base, &replacement, &case);
         let roll = eif::staged::write_roll(&base, &replacement, replaced, &mut out);
         assert_eq!(
             roll.map(|_| ()).map_err(parts),
@@ -183,9 +196,6 @@ fn replacements() {
             case.rules
         );
 
-        let size = input.size as u64;
-        let part = staged::staged_part(&base, size, input.replaced, input.shown);
-        assert_eq!(part, refused!(staged::StagedPart, case.answer));
         let refused = refused!(raw::Answer, case.answer);
         let roll = staged::staged_roll_write(&base, &replacement, input.replaced, &mut out);
         assert_eq!(roll, refused, "{:?}", case.rules);

@@ -2,7 +2,7 @@
 
 use eif_cases::{
     image_orders, long_image_orders, long_roll_orders, plan_orders, roll_orders, short_buffers,
-    sign1_orders, staged_orders, transfer_orders, worked_image, Answer,
+    sign1_orders, staged_roll_orders, staged_view_orders, transfer_orders, worked_image, Answer,
 };
 use eif_twin::*;
 
@@ -92,7 +92,13 @@ fn transfers() {
 #[test]
 fn replacements() {
     let base = worked_image();
-    for case in staged_orders() {
+    for case in staged_view_orders() {
+        let input = &case.input;
+        let size = input.size as u64;
+        let part = refused(staged_part(&base, size, input.replaced, input.shown));
+        assert_eq!(part, Some(case.answer), "{:?}", case.rules);
+    }
+    for case in staged_roll_orders() {
         let input = &case.input;
         let (replacement, mut out) = (vec![0; input.size], vec![0; input.room]);
         let answers = [
