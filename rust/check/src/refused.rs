@@ -104,8 +104,11 @@ fn check_raw(name: &str, image: &[u8], answer: Answer, out: &mut [u8]) {
     let staged = raw::staged::staged_registers(image, b"new", most);
     assert_eq!(staged, registers, "{name}");
     let part = refused!(raw::staged::StagedPart, answer);
-    let staged = raw::staged::staged_part(image, most, most, most);
-    assert_eq!(staged, part, "{name}");
+    // The replacement is longer than the longest image too, also for a section that the image has.
+    for number in [most, 0] {
+        let staged = raw::staged::staged_part(image, most, number, number);
+        assert_eq!(staged, part, "{name}");
+    }
 }
 
 /// Holds every call on an image to one refusal: number, index, position, zeros beside them, and an output buffer of which

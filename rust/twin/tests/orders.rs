@@ -25,10 +25,11 @@ fn images() {
             refused(stream_length(image, Stream::Whole)),
             refused(copy_stream(image, Stream::App, u64::MAX, &mut [])),
             refused(staged_part(image, u64::MAX, u64::MAX, u64::MAX)),
+            refused(staged_part(image, u64::MAX, 0, 0)),
             refused(write_staged_roll(image, b"new", u64::MAX, &mut [])),
             refused(staged_registers(image, b"new", u64::MAX)),
         ];
-        assert_eq!(answers, [expected; 10], "{:?}", case.rules);
+        assert_eq!(answers, [expected; 11], "{:?}", case.rules);
     }
 }
 
