@@ -1,5 +1,6 @@
--- Records and runs that the relations of specs hold of, and such as they reject, each by the field that it breaks: of a transfer of two pieces in
--- both orders and with a repeat, and of an image of one byte. So no law of this crate is about nothing. Numbers are written out.
+-- Records, runs and lengths of buffers that the relations of specs and of assembler's Faults hold of, and values that they reject, each by the field
+-- that it breaks: of a transfer of two pieces in both orders and with a repeat, and of an image of one byte. So no law of this crate is about
+-- nothing. Numbers are written out.
 use Prim.Native.Nat.{ℕ, zero, suc, _<_, _≤_}
 use mathlib.Core.Path.{_≡_, refl, sym, ap, subst}
 use mathlib.Core.Bool.{true, false≢true, true≢false}
@@ -19,6 +20,7 @@ use Rattle.eif_lemmas.proofs.Verdicts.{never}
 use Rattle.assembler.specs.Records.{numberIn, dataIn, formed, offGrid}
 use Rattle.assembler.specs.Rules.{tooSmall, shorterThanAtOpen, allHeld, faultOf}
 use Rattle.assembler.specs.Step.{freshState, openState, stepAnswer, imageAfter, marksAfter}
+use Rattle.assembler.proofs.Faults.{LongEnough}
 use Rattle.assembler_laws.specs.Run.{Memory, memory, run, takenOf, EachCall, AllAccepted, Announces, PieceFor, PieceOf, Close, Sent, AllSent, Pieces, TransferOf, Transfer, Assembled, OutsideAll, OtherPiece, OtherMark, StaysOpen, Repeated, AnyBetween, WithoutPiece}
 use Rattle.assembler_laws.specs.Set.{In, CompleteSet, bytesFor, joinedPieces, AnyOrder, SetTransfer}
 use Rattle.assembler_laws.specs.Made.{openRecord, pieceRecord, closeRecord}
@@ -392,6 +394,22 @@ without-rejects = (
   λ w. let h = w .of-image in omega arith,
   λ w. w .not-sent .1 .0 refl refl,
   λ w. let h = w .closes .kind in omega arith,
+)
+
+-- ---- lengths of the image's buffer and of the marks, beside a state that is open for 4,097 bytes
+
+enough-holds : LongEnough (openState 4097 4098 3) 4098 3
+enough-holds = record { image-room = lit≤ tt; mark-room = lit≤ tt; image-kept = lit≤ tt; marks-kept = lit≤ tt }
+
+-- rejected: no room for the last byte, nor for the last mark; a byte less than at open, a mark less than at open
+enough-rejects :
+    (LongEnough (openState 4097 4096 3) 4096 3 → ⊥) × (LongEnough (openState 4097 4098 1) 4098 1 → ⊥)
+    × (LongEnough (openState 4097 4098 3) 4097 3 → ⊥) × (LongEnough (openState 4097 4098 3) 4098 2 → ⊥)
+enough-rejects = (
+  λ l. let h = l .image-room in omega arith,
+  λ l. let h = l .mark-room in omega arith,
+  λ l. let h = l .image-kept in omega arith,
+  λ l. let h = l .marks-kept in omega arith,
 )
 
 -- ---- what lies outside the pieces taken: bytes, and marks. A piece that is refused takes none
