@@ -2,3 +2,4 @@ pub mod Sections
 pub mod Parts
 pub mod Pieces
 pub mod BootFirst
+pub mod Witnesses
