@@ -1,8 +1,8 @@
 -- The verdicts of copies one after the other, by computation: of the worked image, whose stream has the two bytes 4b 61. So `all-accepted` is not
 -- about an empty list. Numbers are written out.
 -- Assumes nothing.
-use Prim.Native.Nat.{ℕ}
-use mathlib.Core.Path.{_≡_, refl, ap}
+use Prim.Native.Nat.{ℕ, _+_}
+use mathlib.Core.Path.{_≡_, ap, _∙_}
 use mathlib.Core.List.{List, [], _∷_}
 use lib.ListN.{length}
 use Rattle.octets.specs.Bytes.{field, beValue}
@@ -31,11 +31,20 @@ copy-at-end : copyAnswer workedImage Whole 2 3 ≡ accepted 0
 unfolding copyAnswer copyVerdict streamOf kept keeps field beValue
 copy-at-end = ap (λ (v : Verdict). copiedFor (andThen v (pastEnd (streamOf workedImage Whole) 2)) (length (streamPart workedImage Whole 2 3))) worked-accepted
 
-verdicts-accepted : verdicts workedImage Whole 0 ((0 ∷ []) ∷ (0 ∷ []) ∷ (0 ∷ 0 ∷ 0 ∷ []) ∷ []) ≡ Accepted ∷ Accepted ∷ Accepted ∷ []
+abbrev one : List ℕ
+one = 0 ∷ []
+
+abbrev three : List ℕ
+three = 0 ∷ 0 ∷ 0 ∷ []
+
+verdicts-accepted : verdicts workedImage Whole 0 (one ∷ one ∷ three ∷ []) ≡ Accepted ∷ Accepted ∷ Accepted ∷ []
 unfolding verdicts
-verdicts-accepted = rw (first-copy, second-copy, copy-at-end) refl
+verdicts-accepted =
+    ap (λ (c : Copied). c .verdict ∷ verdicts workedImage Whole (0 + c .count) (one ∷ three ∷ [])) first-copy
+    ∙ ap (λ (c : Copied). Accepted ∷ c .verdict ∷ verdicts workedImage Whole (1 + c .count) (three ∷ [])) second-copy
+    ∙ ap (λ (c : Copied). Accepted ∷ Accepted ∷ c .verdict ∷ []) copy-at-end
 
 -- past its end, refused with 19
-verdicts-refused : verdicts workedImage Whole 3 ((0 ∷ 0 ∷ 0 ∷ 0 ∷ 0 ∷ []) ∷ []) ≡ refuse 19 0 ∷ []
+verdicts-refused : verdicts workedImage Whole 3 ((0 ∷ 0 ∷ three) ∷ []) ≡ refuse 19 0 ∷ []
 unfolding verdicts
-verdicts-refused = rw copy-refused refl
+verdicts-refused = ap (λ (c : Copied). c .verdict ∷ []) copy-refused
