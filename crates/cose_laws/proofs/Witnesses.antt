@@ -1,14 +1,15 @@
--- Claims, signatures and bytes that the relations of cose's specs hold of, and such as they reject, each by the field that it breaks.
+-- Claims, signatures and bytes that the relations of cose's specs hold of, and values that they reject, each by the field that it breaks.
 use Prim.Native.Nat.{ℕ, zero, suc}
 use mathlib.Core.Path.{refl}
 use mathlib.Core.Bool.{false≢true}
-use mathlib.Core.List.{List, [], _∷_}
+use mathlib.Core.List.{List, [], _∷_, _++_}
 use native.Mathlib.Omega.{arith}
 use lib.Dec.{lit<}
 use lib.ListN.{replicate}
 use Rattle.octets.specs.Bytes.{AreBytes}
 use Rattle.eif_lemmas.proofs.Verdicts.{never}
-use Rattle.cose.specs.Sign1.{signatureSize, signatureFits, sign1Bytes, Typed, Writable, IsSign1}
+use Rattle.cose.specs.Cbor.{headBytes, stringBytes}
+use Rattle.cose.specs.Sign1.{signatureSize, signatureFits, protectedBytes, indexPair, valuePair, payloadBytes, sign1Bytes, Typed, Writable, IsSign1}
 use Rattle.cose.specs.Read.{readSign1, sign1Formed, refusedSign1, signatureStart, algorithmOf, valueStart, indexStart, numberEnd, numberWidth, bytesEnd, byteEnd}
 use Rattle.cose.specs.Write.{IsWritten}
 use Rattle.cose.specs.declared.Claim.{Claim}
@@ -55,7 +56,15 @@ sign1-holds = (is, is-written signed is)
     is : IsSign1 signed
     is = record { claim = claimWith 18446744073709551615 (replicate 48 255); signature = replicate 96 255; writable = writable-holds; bytes = refl }
 
--- rejected: no bytes
-sign1-rejects : (IsSign1 [] → ⊥) × (IsWritten [] → ⊥)
-unfolding readSign1 sign1Formed refusedSign1 signatureStart algorithmOf valueStart indexStart numberEnd numberWidth bytesEnd byteEnd signatureSize
-sign1-rejects = (λ i. never _ (accepted-all [] i), λ w. never _ (accepted-all [] (written-is [] w)))
+abbrev oneByteMore : List ℕ
+oneByteMore = signed ++ 0 ∷ []
+
+-- rejected: a byte after it; no bytes
+sign1-rejects : (IsSign1 oneByteMore → ⊥) × (IsWritten oneByteMore → ⊥) × (IsSign1 [] → ⊥) × (IsWritten [] → ⊥)
+unfolding signed sign1Bytes protectedBytes payloadBytes indexPair valuePair headBytes stringBytes readSign1 sign1Formed refusedSign1 signatureStart algorithmOf valueStart indexStart numberEnd numberWidth bytesEnd byteEnd signatureSize
+sign1-rejects = (
+  λ i. never _ (accepted-all oneByteMore i),
+  λ w. never _ (accepted-all oneByteMore (written-is oneByteMore w)),
+  λ i. never _ (accepted-all [] i),
+  λ w. never _ (accepted-all [] (written-is [] w)),
+)

@@ -1,5 +1,5 @@
--- Plans and images that the relations of specs and of eif's Plan hold of, and such as they reject, each by the field that it breaks: of the worked
--- plan and its image.
+-- Plans and images that the relations of specs and of eif's Plan hold of, and values that they reject, each by the field that it breaks: of the
+-- worked plan and its image.
 use Prim.Native.Nat.{ℕ, zero, suc, _<_}
 use mathlib.Core.Path.{_≡_, refl, sym, ap, subst, _∙_}
 use mathlib.Core.Bool.{Bool, true}
@@ -32,7 +32,7 @@ abbrev eachBelow256 : List ℕ → Bool
 eachBelow256 [] = true
 eachBelow256 (b ∷ bs) = both (ltb b 256) (eachBelow256 bs)
 
-bytes-by : (s : List ℕ) → eachBelow256 s ≡ true → AreBytes s
+pub bytes-by : (s : List ℕ) → eachBelow256 s ≡ true → AreBytes s
 bytes-by [] e = tt
 bytes-by (b ∷ bs) e = let h = both-true _ _ e in (ltb-true b 256 (h .0), bytes-by bs (h .1))
 
@@ -147,14 +147,12 @@ written-holds =
 plain-holds : Plain workedImage
 plain-holds = plain-exactly-when workedImage worked-are-bytes .1 written-holds
 
--- rejected: no bytes
-plain-rejects : (Plain [] → ⊥) × (WrittenFrom [] → ⊥)
-unfolding verdictIn early judged headerFault fieldFault positionIn
-plain-rejects = (λ p. never _ (p .accepted), λ w. never _ (plain-exactly-when [] tt .1 w .accepted))
+abbrev otherReserved : List ℕ
+otherReserved = over workedImage 25 (1 ∷ [])
 
 -- rejected: another byte in each reserved field, and in the first unused entry of each table
 unused-rejects :
-    (UnusedZero (over workedImage 25 (1 ∷ [])) → ⊥) × (UnusedZero (over workedImage 543 (1 ∷ [])) → ⊥)
+    (UnusedZero otherReserved → ⊥) × (UnusedZero (over workedImage 543 (1 ∷ [])) → ⊥)
     × (UnusedZero (over workedImage 59 (1 ∷ [])) → ⊥) × (UnusedZero (over workedImage 315 (1 ∷ [])) → ⊥)
 unfolding over field beValue
 unused-rejects = (
@@ -162,6 +160,17 @@ unused-rejects = (
   λ u. let h = u .reserved-after-zero in omega arith,
   λ u. let h = u .unused-offset 3 (lit≤ tt) (lit< tt) in omega arith,
   λ u. let h = u .unused-size 3 (lit≤ tt) (lit< tt) in omega arith,
+)
+
+-- rejected: another byte in a reserved field; no bytes
+plain-rejects :
+    (Plain otherReserved → ⊥) × (Plain [] → ⊥) × (WrittenFrom otherReserved → ⊥) × (WrittenFrom [] → ⊥)
+unfolding over verdictIn early judged headerFault fieldFault positionIn
+plain-rejects = (
+  λ p. unused-rejects .0 (p .unused),
+  λ p. never _ (p .accepted),
+  λ w. unused-rejects .0 (plain-exactly-when otherReserved (bytes-by otherReserved refl) .1 w .unused),
+  λ w. never _ (plain-exactly-when [] tt .1 w .accepted),
 )
 
 same-writing-holds : SameWriting workedPlan sparePlan

@@ -1,11 +1,11 @@
--- Rolls and images that the relations of eif's Roll and of specs hold of, and such as they reject, by computation: of the worked image and its roll,
--- whose kernel's one byte stands at 22.
+-- Rolls and images that the relations of eif's Roll and of specs hold of, and values that they reject, by computation: of the worked image and its
+-- roll, which has the kernel's one byte at 22.
 use mathlib.Core.Path.{refl, ap}
 use mathlib.Core.List.{List, [], _∷_, headD}
 use Prim.Native.Nat.{ℕ}
 use native.Mathlib.Omega.{arith}
 use lib.Dec.{lit≤}
-use lib.ListN.{getD}
+use lib.ListN.{getD, take}
 use Rattle.octets.specs.Bytes.{field, beValue, leField}
 use Rattle.octets.specs.Over.{over}
 use Rattle.eif.specs.Table.{inTable}
@@ -16,7 +16,7 @@ use Rattle.eif.specs.Rows.{workedRoll}
 use Rattle.eif.specs.Worked.{workedImage, worked-accepted, worked-roll}
 use Rattle.eif.specs.declared.RollReading.{RollReading}
 use Rattle.eif_lemmas.proofs.Verdicts.{never}
-use Rattle.plain_laws.proofs.Witnesses.{worked-are-bytes}
+use Rattle.plain_laws.proofs.Witnesses.{bytes-by, worked-are-bytes}
 use Rattle.roll_laws.specs.Told.{ImageOf, ReadsList}
 use Rattle.roll_laws.proofs.Demand3.{accepted-exactly-when}
 
@@ -39,10 +39,13 @@ list-rejects = (
 image-holds : ImageOf workedRoll
 image-holds = record { image = workedImage; bytes = worked-are-bytes; accepted = worked-accepted; roll = worked-roll }
 
--- rejected: a roll cut short
-image-rejects : ImageOf [] → ⊥
-unfolding readRoll flagsFault
-image-rejects i = never _ (accepted-exactly-when [] tt .1 i)
+-- rejected: a roll without its last byte, and no bytes
+image-rejects : (ImageOf (take 53 workedRoll) → ⊥) × (ImageOf [] → ⊥)
+unfolding measuredIn field beValue headOf flagsRecord flagsFault readRest readRoll endFrom recordAt leField seen orderFault missing headFault bodyFault packedBy rollFault inTable
+image-rejects = (
+  λ i. never _ (accepted-exactly-when (take 53 workedRoll) (bytes-by (take 53 workedRoll) refl) .1 i),
+  λ i. never _ (accepted-exactly-when [] tt .1 i),
+)
 
 -- ---- the same flags and sections: another version does not matter; rejected: another byte in the kernel, another flag
 
