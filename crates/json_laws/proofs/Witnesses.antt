@@ -1,4 +1,4 @@
--- Bytes that the relations of json's Verdict hold of, and such as they reject, from what the machine computes.
+-- Bytes that the relations of json's Verdict hold of, and values that they reject, from what the machine computes.
 use mathlib.Core.Path.{refl}
 use mathlib.Core.List.{[], _∷_}
 use native.Mathlib.Omega.{arith}

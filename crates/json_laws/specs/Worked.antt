@@ -57,9 +57,10 @@ abbrev lastDigit : ℕ → List ℕ
 lastDigit b = 0x5c ∷ 0x75 ∷ 0x30 ∷ 0x30 ∷ 0x30 ∷ b ∷ []
 
 -- the four bytes of white space, and vertical tab and form feed; in a string 1f, space and DEL; of two bytes C1, C2 with a first control character
--- (U+0080) and with 7f, the last (U+07FF); of three E0 9F, U+0800, U+D7FF and U+FFFF; of four F0 8F, U+10000, U+10FFFF, and F5; a byte that only
--- goes on; each escape, and \v; hexadecimal digits at the ends of their three ranges, and beside these; digits, and what stands beside them; a plus
--- sign, a capital E, a point in front; a name in full, cut, and with a capital
+-- (U+0080) and with 7f, with bf (U+00BF) and with c0, the last (U+07FF); of three E0 9F, U+0800, U+D7FF, U+E000 and U+FFFF; of four F0 8F, U+10000,
+-- U+40000, U+FFFFF, U+10FFFF, and F5; a byte that only goes on; each escape, and \v; hexadecimal digits at the ends of their three ranges, and beside
+-- these; digits, and the bytes beside them; a plus sign, a capital E, a minus sign in the exponent, a point in front; a name in full, cut, and with a
+-- capital
 abbrev pub boundaryTexts : List WorkedText
 boundaryTexts =
     workedText (0x20 ∷ 0x09 ∷ 0x0a ∷ 0x0d ∷ 0x30 ∷ 0x20 ∷ 0x09 ∷ 0x0a ∷ 0x0d ∷ []) Text
@@ -72,13 +73,18 @@ boundaryTexts =
     ∷ workedText (quoted (0xc1 ∷ 0xbf ∷ [])) (Fault 1)
     ∷ workedText (quoted (0xc2 ∷ 0x80 ∷ [])) Text
     ∷ workedText (quoted (0xc2 ∷ 0x7f ∷ [])) (Fault 2)
+    ∷ workedText (quoted (0xc2 ∷ 0xbf ∷ [])) Text
+    ∷ workedText (quoted (0xc2 ∷ 0xc0 ∷ [])) (Fault 2)
     ∷ workedText (quoted (0xdf ∷ 0xbf ∷ [])) Text
     ∷ workedText (quoted (0xe0 ∷ 0x9f ∷ 0xbf ∷ [])) (Fault 2)
     ∷ workedText (quoted (0xe0 ∷ 0xa0 ∷ 0x80 ∷ [])) Text
     ∷ workedText (quoted (0xed ∷ 0x9f ∷ 0xbf ∷ [])) Text
+    ∷ workedText (quoted (0xee ∷ 0x80 ∷ 0x80 ∷ [])) Text
     ∷ workedText (quoted (0xef ∷ 0xbf ∷ 0xbf ∷ [])) Text
     ∷ workedText (quoted (0xf0 ∷ 0x8f ∷ 0xbf ∷ 0xbf ∷ [])) (Fault 2)
     ∷ workedText (quoted (0xf0 ∷ 0x90 ∷ 0x80 ∷ 0x80 ∷ [])) Text
+    ∷ workedText (quoted (0xf1 ∷ 0x80 ∷ 0x80 ∷ 0x80 ∷ [])) Text
+    ∷ workedText (quoted (0xf3 ∷ 0xbf ∷ 0xbf ∷ 0xbf ∷ [])) Text
     ∷ workedText (quoted (0xf4 ∷ 0x8f ∷ 0xbf ∷ 0xbf ∷ [])) Text
     ∷ workedText (quoted (0xf5 ∷ 0x80 ∷ 0x80 ∷ 0x80 ∷ [])) (Fault 1)
     ∷ workedText (quoted (0x80 ∷ [])) (Fault 1)
@@ -99,6 +105,7 @@ boundaryTexts =
     ∷ workedText (0x3a ∷ []) (Fault 0)
     ∷ workedText (0x2b ∷ 0x31 ∷ []) (Fault 0)
     ∷ workedText (0x31 ∷ 0x45 ∷ 0x39 ∷ []) Text
+    ∷ workedText (0x31 ∷ 0x65 ∷ 0x2d ∷ 0x31 ∷ []) Text
     ∷ workedText (0x2e ∷ 0x35 ∷ []) (Fault 0)
     ∷ workedText (0x6e ∷ 0x75 ∷ 0x6c ∷ 0x6c ∷ []) Text
     ∷ workedText (0x6e ∷ 0x75 ∷ 0x6c ∷ []) (Fault 3)
