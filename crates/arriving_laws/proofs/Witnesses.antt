@@ -1,4 +1,4 @@
--- Turns that `CanTake` holds of, and such as it rejects, and what they leave of a file of three bytes, by computation.
+-- Turns that `CanTake` holds of, turns that it rejects, and what they leave of a file of three bytes, by computation.
 use Prim.Native.Nat.{ℕ}
 use mathlib.Core.Path.{_≡_, refl}
 use mathlib.Core.List.{List, [], _∷_}

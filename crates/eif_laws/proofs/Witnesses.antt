@@ -1,5 +1,5 @@
--- Byte strings that the relations of eif's Burst and Acceptance hold of, and such as they reject, by computation: of five bytes, and of the worked
--- image, whose three sections stand from 548, 561 and 574 on. Numbers are written out.
+-- Byte strings that the relations of eif's Burst and Acceptance hold of, and values that they reject, by computation: of five bytes, and of the
+-- worked image, whose three sections start at 548, 561 and 574. Numbers are written out.
 use Prim.Native.Nat.{ℕ, zero, suc, _<_, _≤_}
 use mathlib.Core.Path.{_≡_, refl, ap, _∙_}
 use mathlib.Core.List.{List, [], _∷_}

@@ -80,7 +80,7 @@ pub bracket-reading : readStrict bracketImage
 unfolding readStrict
 bracket-reading = ap (readingOf (viewOf bracketImage)) bracket-refused
 
--- 13 before 21: the checksum's last byte is another. Of two sections at most one is metadata where 11 does not apply, so no two 21 meet
+-- 13 before 21: the checksum's last byte is another. An accepted image has at most one metadata section, so 21 applies to one section at most
 abbrev otherSumBracket : List ℕ
 otherSumBracket = over bracketImage 547 (0 ∷ [])
 
