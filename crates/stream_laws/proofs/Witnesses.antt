@@ -18,7 +18,7 @@ use Rattle.stream_laws.specs.Pieces.{verdicts}
 abbrev accepted : ℕ → Copied
 accepted count = record { verdict = Accepted; count = count }
 
--- a byte into one, the other into one, and none into threeBuffers, from the stream's end
+-- a byte into one, the other into one, and none into three, from the stream's end
 first-copy : copyAnswer workedImage Whole 0 1 ≡ accepted 1
 unfolding copyAnswer copyVerdict streamOf kept keeps field beValue
 first-copy = ap (λ (v : Verdict). copiedFor (andThen v (pastEnd (streamOf workedImage Whole) 0)) (length (streamPart workedImage Whole 0 1))) worked-accepted
@@ -34,17 +34,17 @@ copy-at-end = ap (λ (v : Verdict). copiedFor (andThen v (pastEnd (streamOf work
 abbrev one : List ℕ
 one = 0 ∷ []
 
-abbrev threeBuffers : List ℕ
-threeBuffers = 0 ∷ 0 ∷ 0 ∷ []
+abbrev threeBytes : List ℕ
+threeBytes = 0 ∷ 0 ∷ 0 ∷ []
 
-verdicts-accepted : verdicts workedImage Whole 0 (one ∷ one ∷ threeBuffers ∷ []) ≡ Accepted ∷ Accepted ∷ Accepted ∷ []
+verdicts-accepted : verdicts workedImage Whole 0 (one ∷ one ∷ threeBytes ∷ []) ≡ Accepted ∷ Accepted ∷ Accepted ∷ []
 unfolding verdicts
 verdicts-accepted =
-    ap (λ (c : Copied). c .verdict ∷ verdicts workedImage Whole (0 + c .count) (one ∷ threeBuffers ∷ [])) first-copy
-    ∙ ap (λ (c : Copied). Accepted ∷ c .verdict ∷ verdicts workedImage Whole (1 + c .count) (threeBuffers ∷ [])) second-copy
+    ap (λ (c : Copied). c .verdict ∷ verdicts workedImage Whole (0 + c .count) (one ∷ threeBytes ∷ [])) first-copy
+    ∙ ap (λ (c : Copied). Accepted ∷ c .verdict ∷ verdicts workedImage Whole (1 + c .count) (threeBytes ∷ [])) second-copy
     ∙ ap (λ (c : Copied). Accepted ∷ Accepted ∷ c .verdict ∷ []) copy-at-end
 
 -- past its end, refused with 19
-verdicts-refused : verdicts workedImage Whole 3 ((0 ∷ 0 ∷ threeBuffers) ∷ []) ≡ refuse 19 0 ∷ []
+verdicts-refused : verdicts workedImage Whole 3 ((0 ∷ 0 ∷ threeBytes) ∷ []) ≡ refuse 19 0 ∷ []
 unfolding verdicts
 verdicts-refused = ap (λ (c : Copied). c .verdict ∷ []) copy-refused
