@@ -451,7 +451,7 @@ typedef struct eif_fingerprinting_finished {
 
 /* The fingerprint of an image. */
 typedef struct eif_fingerprint {
-    uint8_t number; /* EIF_ACCEPTED, or one of 1 to 13 and 20 */
+    uint8_t number; /* EIF_ACCEPTED, or one of 1 to 13 and 20; of eif_staged_fingerprint also 27 */
     uint8_t reserved[7];
     uint64_t index;
     uint64_t position; /* in the image, of what is at fault */
@@ -719,6 +719,13 @@ EIF_MUST_USE eif_registers_answer eif_staged_registers(const uint8_t *base, size
                                                        const uint8_t *replacement,
                                                        size_t replacement_length,
                                                        uint64_t replaced);
+
+/* The fingerprint of the image written afresh. Neither that image nor its roll is built: each section is hashed
+ * where it lies, in the base or in the replacement. */
+EIF_MUST_USE eif_fingerprint eif_staged_fingerprint(const uint8_t *base, size_t base_length,
+                                                    const uint8_t *replacement,
+                                                    size_t replacement_length,
+                                                    uint64_t replaced);
 
 /* Puts an image together from pieces that come in any order, some of them twice (FORMAT.md, Pieces out of
  * order). Records are handed over one a call, each exactly its bytes, with the image buffer and the mark

@@ -49,6 +49,7 @@ static eif_sign1_reading sign1_reading;
 static uint8_t sign1[EIF_MAX_SIGN1_LENGTH];
 static eif_staged_part_answer staged_part;
 static eif_registers_answer staged_registers;
+static eif_fingerprint staged_fingerprint;
 static eif_assembler assembler;
 static eif_assembler_stepped stepped;
 /* An open record for an image of two pieces, the first of them, and room for both. */
@@ -134,6 +135,9 @@ static void call_staged_roll_write(void) {
 static void call_staged_registers(void) {
     staged_registers = eif_staged_registers(image, image_length, data, data_length, SECTIONS - 1);
 }
+static void call_staged_fingerprint(void) {
+    staged_fingerprint = eif_staged_fingerprint(image, image_length, data, data_length, SECTIONS - 1);
+}
 
 static void call_assembler_new(void) { assembler = eif_assembler_new(); }
 static void call_assembler_open(void) {
@@ -210,6 +214,7 @@ static const struct {
     {"eif_staged_roll_length", call_staged_roll_length},
     {"eif_staged_roll_write", call_staged_roll_write},
     {"eif_staged_registers", call_staged_registers},
+    {"eif_staged_fingerprint", call_staged_fingerprint},
     {"eif_assembler_new", call_assembler_new},
     {"eif_assembler_step 1", call_assembler_open},
     {"eif_assembler_step 2", call_assembler_piece},
@@ -228,7 +233,8 @@ static void try_calls(size_t section, size_t kib) {
         failures += !fits || reading.number != 0 || arrived.reading.number != 0 || measured.reading.number != 0 ||
                     roll_reading.number != 0 || answer.number != 0 || registers.number != 0 ||
                     fed.number != 0 || sign1_reading.number != 0 ||
-                    staged_part.number != 0 || staged_registers.number != 0 || stepped.number != 0;
+                    staged_part.number != 0 || staged_registers.number != 0 || staged_fingerprint.number != 0 ||
+                    stepped.number != 0;
     }
     check(memcmp(measured.registers, registers.registers, sizeof registers.registers) == 0, "the registers");
     check(fingerprint.number == 0 && memcmp(&fingerprinted.digest, &fingerprint.digest, sizeof fingerprint.digest) == 0,

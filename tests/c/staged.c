@@ -1,6 +1,6 @@
 /*
- * One section replaced, through the C interface: where each section's data lies, roll and registers of the
- * image written afresh, refusals in their order; layout, null pointers with length 0, answers without
+ * One section replaced, through the C interface: where each section's data lies; roll, registers and fingerprint of the
+ * image written afresh; refusals in their order; layout, null pointers with length 0, answers without
  * padding. Compiles as C99 and as C++.
  * Prints one line and ends with status 0, or says what differs and ends with status 1.
  */
@@ -87,6 +87,40 @@ static void try_registers(void) {
     check(memcmp(&found, &expected, sizeof found) == 0, "registers with its own data");
 }
 
+static void try_fingerprint(void) {
+    eif_fingerprint expected = eif_image_fingerprint(afresh, afresh_length);
+    eif_fingerprint found = eif_staged_fingerprint(base, sizeof base, bytes_of(mended), MENDED, 2);
+    check(found.number == EIF_ACCEPTED, "fingerprint accepted");
+    check(memcmp(&found, &expected, sizeof found) == 0, "fingerprint");
+    expected = eif_image_fingerprint(base, sizeof base);
+    found = eif_staged_fingerprint(base, sizeof base, bytes_of("old"), 3, 2);
+    check(memcmp(&found, &expected, sizeof found) == 0, "fingerprint with its own data");
+    memset(&expected, 0, sizeof expected);
+    expected.number = EIF_NO_SUCH_SECTION;
+    found = eif_staged_fingerprint(base, sizeof base, bytes_of(mended), MENDED, COUNT);
+    check(memcmp(&found, &expected, sizeof found) == 0, "fingerprint with no such section");
+}
+
+/* The worked example (FORMAT.md, Staging) with section 2, the empty ramdisk, replaced by 72 73: the fingerprint is
+ * the SHA-384 of the roll. */
+static void try_worked(void) {
+    static const uint16_t types[] = {EIF_KERNEL, EIF_COMMAND_LINE, EIF_RAMDISK};
+    enum { WORKED = 586, ROLL = 56 };
+    static uint8_t worked[WORKED], roll[ROLL];
+    eif_plan plan = begin_plan(2, 0, 3);
+    for (unsigned i = 0; i < 3; i++) {
+        put_place(&plan, i, types[i], i < 2);
+    }
+    check(is(eif_write(plan, bytes_of("Ka"), 2, worked, sizeof worked), EIF_ACCEPTED, WORKED), "worked base");
+    check(is(eif_staged_roll_write(worked, sizeof worked, bytes_of("rs"), 2, 2, roll, sizeof roll), EIF_ACCEPTED,
+             ROLL), "roll of the worked base");
+    eif_sha384_fed fed = eif_sha384_update(eif_sha384_begin(), roll, sizeof roll);
+    eif_digest digest = eif_sha384_finish(fed.state);
+    eif_fingerprint found = eif_staged_fingerprint(worked, sizeof worked, bytes_of("rs"), 2, 2);
+    check(fed.number == EIF_ACCEPTED && found.number == EIF_ACCEPTED, "fingerprint of the worked base accepted");
+    check(memcmp(&found.digest, &digest, sizeof digest) == 0, "fingerprint of the worked base");
+}
+
 /* Beside a refusal all else is 0. */
 static void try_refused(size_t base_length, uint64_t size, uint64_t replaced, uint64_t shown,
                         unsigned number, uint64_t index, uint64_t position, const char *what) {
@@ -114,6 +148,7 @@ static void try_null(void) {
     check(eif_staged_part(NULL, 0, 0, 0, 0).number == EIF_IMAGE_TOO_SHORT, "no base");
     check(eif_staged_roll_length(base, sizeof base, NULL, 0, 2).number == EIF_ACCEPTED, "no bytes");
     check(eif_staged_registers(base, sizeof base, NULL, 0, 2).number == EIF_ACCEPTED, "no bytes");
+    check(eif_staged_fingerprint(base, sizeof base, NULL, 0, 2).number == EIF_ACCEPTED, "no bytes");
     check(eif_staged_roll_write(base, sizeof base, NULL, 0, 2, NULL, 0).number ==
           EIF_OUTPUT_TOO_SHORT, "no room");
 }
@@ -129,6 +164,8 @@ int main(void) {
     try_parts();
     try_roll();
     try_registers();
+    try_fingerprint();
+    try_worked();
     try_order();
     try_null();
     try_equal(0);

@@ -194,7 +194,7 @@ pub fn orders() -> Vec<Order> {
         order("reading a roll", &[ROLL], &[ROLL_NEVER]),
         order("a transfer's record", &[TRANSFER], &[TRANSFER_NEVER]),
         order("the data of a staged section", &[IMAGE, STAGED], view),
-        order("the length of a staged roll, and the registers", &[IMAGE, STAGED], staged),
+        order("the length of a staged roll, the registers and the fingerprint", &[IMAGE, STAGED], staged),
         order("writing a staged roll", &[IMAGE, STAGED, &["14"]], staged),
         order("writing a COSE_Sign1", &[&["28", "14"]], &[]),
     ]

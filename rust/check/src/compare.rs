@@ -313,23 +313,40 @@ pub fn compare_image(rng: &mut Rng, ordinal: u64, image: &[u8], tally: &mut Tall
 
 /// The fingerprint of an image, by the C interface, the Rust interface and the twin.
 fn compare_fingerprint(input: &Input, tally: &mut Tally) {
-    let answer = image_fingerprint(input.bytes);
-    let expected = match twin::fingerprint(input.bytes).map_err(twin_parts) {
+    let number = compare_fingerprints(
+        input,
+        "fingerprint",
+        image_fingerprint(input.bytes),
+        eif::fingerprint(input.bytes),
+        twin::fingerprint(input.bytes),
+    );
+    let expected = eif::fingerprint(input.bytes).map_err(parts);
+    let read = eif::read(input.bytes).map_err(parts);
+    let of_image = read.map(|image| image.fingerprint());
+    same(input, "fingerprint of an image read", of_image, expected);
+    tally.add(Call::Fingerprint, number);
+}
+
+/// One fingerprint of the C interface, the Rust interface and the twin. Answers the number.
+pub(crate) fn compare_fingerprints(
+    input: &Input,
+    what: &str,
+    answer: FingerprintAnswer,
+    rust: Result<Fingerprint, Refusal>,
+    twin: Result<[u8; 48], twin::Refusal>,
+) -> u8 {
+    let expected = match twin.map_err(twin_parts) {
         Ok(digest) => FingerprintAnswer {
             digest: Digest(digest),
             ..FingerprintAnswer::default()
         },
         Err(parts) => refused!(FingerprintAnswer, parts),
     };
-    same(input, "fingerprint", answer, expected);
+    same(input, what, answer, expected);
     let numbers = (answer.number, answer.index, answer.position);
     let expected = in_rust(Fingerprint(answer.digest), numbers);
-    let rust = eif::fingerprint(input.bytes).map_err(parts);
-    same(input, "fingerprint in Rust", rust, expected);
-    let read = eif::read(input.bytes).map_err(parts);
-    let of_image = read.map(|image| image.fingerprint());
-    same(input, "fingerprint of an image read", of_image, expected);
-    tally.add(Call::Fingerprint, answer.number);
+    same(input, what, rust.map_err(parts), expected);
+    answer.number
 }
 
 /// Measures and writes the roll of an image.

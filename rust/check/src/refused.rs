@@ -50,6 +50,10 @@ fn every_answer(image: &[u8], out: &mut [u8]) -> Vec<(&'static str, Result<(), R
             staged::registers(image, b"new", past).map(|_| ()),
         ),
         (
+            "staged fingerprint",
+            staged::fingerprint(image, b"new", past).map(|_| ()),
+        ),
+        (
             "staged image",
             staged::write_to_vec(image, b"new", past).map(|_| ()),
         ),
@@ -103,6 +107,8 @@ fn check_raw(name: &str, image: &[u8], answer: Answer, out: &mut [u8]) {
     assert_eq!(image_fingerprint(image), fingerprint, "{name}");
     let staged = raw::staged::staged_registers(image, b"new", most);
     assert_eq!(staged, registers, "{name}");
+    let staged = raw::staged::staged_fingerprint(image, b"new", most);
+    assert_eq!(staged, fingerprint, "{name}");
     let part = refused!(raw::staged::StagedPart, answer);
     // The replacement is longer than the longest image too, also for a section that the image has.
     for number in [most, 0] {

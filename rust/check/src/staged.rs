@@ -1,7 +1,8 @@
 //! A base with one section replaced: generated inputs, and the library's answers held to the twin's.
 
 use crate::compare::{
-    compare_length, compare_output, compare_registers, parts, same, twin_parts, Input,
+    compare_fingerprints, compare_length, compare_output, compare_registers, parts, same,
+    twin_parts, Input,
 };
 use crate::{accepted_layout, any_image, any_image_of, refused, Call, Rng, Tally};
 use eif::raw::staged::{self as raw, StagedPart};
@@ -178,6 +179,14 @@ pub fn compare_staged(rng: &mut Rng, ordinal: u64, given: &StagedInput, tally: &
         twin::staged_registers(base, replacement, replaced),
     );
     tally.add(Call::StagedRegisters, number);
+    let number = compare_fingerprints(
+        input,
+        "staged fingerprint",
+        raw::staged_fingerprint(base, replacement, replaced),
+        staged::fingerprint(base, replacement, replaced as usize),
+        twin::staged_fingerprint(base, replacement, replaced),
+    );
+    tally.add(Call::StagedFingerprint, number);
 }
 
 fn compare_staged_roll(

@@ -4,7 +4,7 @@ use std::fmt;
 use std::ops::AddAssign;
 
 /// How many kinds of call there are.
-const CALLS: usize = 23;
+const CALLS: usize = 24;
 
 /// Answer numbers are below this.
 const NUMBERS: usize = 30;
@@ -56,6 +56,8 @@ pub enum Call {
     StagedRollWrite,
     /// Its registers.
     StagedRegisters,
+    /// Its fingerprint.
+    StagedFingerprint,
     /// A record of a transfer.
     Assemble,
 }
@@ -85,6 +87,7 @@ impl Call {
         Call::StagedRollLength,
         Call::StagedRollWrite,
         Call::StagedRegisters,
+        Call::StagedFingerprint,
         Call::Assemble,
     ];
 
@@ -110,9 +113,10 @@ impl Call {
             Call::Update => vec![0, 29],
             Call::Sign1Read => vec![0, 28],
             Call::Sign1Write => vec![0, 14, 28],
-            Call::StagedPart | Call::StagedRollLength | Call::StagedRegisters => {
-                image.chain([27]).collect()
-            }
+            Call::StagedPart
+            | Call::StagedRollLength
+            | Call::StagedRegisters
+            | Call::StagedFingerprint => image.chain([27]).collect(),
             Call::StagedRollWrite => image.chain([14, 27]).collect(),
             Call::Assemble => vec![0, 1, 22, 23, 24, 25, 26],
         };

@@ -30,9 +30,11 @@ fn calls(order: &str) -> &'static [Call] {
         "reading a roll" => &[Call::RollRead],
         "a transfer's record" => &[Call::Assemble],
         "the data of a staged section" => &[Call::StagedPart],
-        "the length of a staged roll, and the registers" => {
-            &[Call::StagedRollLength, Call::StagedRegisters]
-        }
+        "the length of a staged roll, the registers and the fingerprint" => &[
+            Call::StagedRollLength,
+            Call::StagedRegisters,
+            Call::StagedFingerprint,
+        ],
         "writing a staged roll" => &[Call::StagedRollWrite],
         "writing a COSE_Sign1" => &[Call::Sign1Write],
         _ => panic!("no call has the order of {order}"),
@@ -196,6 +198,14 @@ fn replacements() {
             case.rules
         );
 
+        let fingerprint = eif::staged::fingerprint(&base, &replacement, replaced);
+        assert_eq!(
+            fingerprint.map(|_| ()).map_err(parts),
+            expected,
+            "{:?}",
+            case.rules
+        );
+
         let refused = refused!(raw::Answer, case.answer);
         let roll = staged::staged_roll_write(&base, &replacement, input.replaced, &mut out);
         assert_eq!(roll, refused, "{:?}", case.rules);
@@ -203,6 +213,9 @@ fn replacements() {
         assert_eq!(length, refused, "{:?}", case.rules);
         let registers = staged::staged_registers(&base, &replacement, input.replaced);
         assert_eq!(registers, refused!(raw::RegistersAnswer, case.answer));
+        let fingerprint = staged::staged_fingerprint(&base, &replacement, input.replaced);
+        let refused = refused!(raw::fingerprint::FingerprintAnswer, case.answer);
+        assert_eq!(fingerprint, refused, "{:?}", case.rules);
         assert!(out.iter().all(|&byte| byte == 0xaa), "{:?}", case.rules);
     }
 }

@@ -43,6 +43,8 @@ fn check_afresh(base: &[u8], replacement: &[u8], replaced: usize) {
     assert_eq!(roll, eif::roll_to_vec(&bytes).unwrap());
     let registers = staged::registers(base, replacement, replaced);
     assert_eq!(registers, eif::registers(&bytes));
+    let fingerprint = staged::fingerprint(base, replacement, replaced);
+    assert_eq!(fingerprint, eif::fingerprint(&bytes));
     for shown in 0..afresh.sections().len() {
         let data = staged::section(base, replacement, replaced, shown).unwrap();
         assert_eq!(Some(data), afresh.section_data(shown));
@@ -81,6 +83,8 @@ fn own_data_changes_nothing() {
             assert_eq!(roll, eif::roll_to_vec(&base));
             let registers = staged::registers(&base, own, replaced);
             assert_eq!(registers, eif::registers(&base));
+            let fingerprint = staged::fingerprint(&base, own, replaced);
+            assert_eq!(fingerprint, eif::fingerprint(&base));
             let written = staged::write_to_vec(&base, own, replaced);
             assert_eq!(written, Ok(layout.image()));
             for (shown, section) in layout.sections.iter().enumerate() {
@@ -247,6 +251,8 @@ fn a_replacement_that_is_too_long() {
     assert_eq!(length.map_err(parts), Err(TOO_LONG));
     let registers = staged::registers(&base, &longer, 2);
     assert_eq!(registers.map_err(parts), Err(TOO_LONG));
+    let fingerprint = staged::fingerprint(&base, &longer, 2);
+    assert_eq!(fingerprint.map_err(parts), Err(TOO_LONG));
     let written = staged::write_to_vec(&base, &longer, 2);
     assert_eq!(written.map_err(parts), Err(TOO_LONG));
 }

@@ -2,7 +2,7 @@
 
 use crate::raw::fingerprint::{
     fingerprinting_begin, fingerprinting_feed, fingerprinting_finish, image_fingerprint,
-    Fingerprinting,
+    FingerprintAnswer, Fingerprinting,
 };
 use crate::state::{over_state, while_arriving};
 use crate::{Digest, Reading, Refusal, DIGEST_LENGTH};
@@ -71,9 +71,15 @@ impl FromStr for Fingerprint {
 ///
 /// The image's own refusal.
 pub fn fingerprint(image: &[u8]) -> Result<Fingerprint, Refusal> {
-    let answer = image_fingerprint(image);
-    Refusal::check(answer.number, answer.index, answer.position)?;
-    Ok(Fingerprint(answer.digest))
+    image_fingerprint(image).accepted()
+}
+
+impl FingerprintAnswer {
+    /// The fingerprint, or the refusal.
+    pub(crate) fn accepted(self) -> Result<Fingerprint, Refusal> {
+        Refusal::check(self.number, self.index, self.position)?;
+        Ok(Fingerprint(self.digest))
+    }
 }
 
 /// A text that is not 96 hexadecimal digits.

@@ -20,12 +20,14 @@
 //! assert_eq!(staged::section(&base, mended, 2, 1)?, b"quiet");
 //! assert_eq!(staged::section(&base, mended, 2, 2)?, mended);
 //!
-//! // The roll and the registers, before the image is written.
+//! // The roll, the registers and the fingerprint, before the image is written.
 //! let roll = staged::roll_to_vec(&base, mended, 2)?;
 //! let registers = staged::registers(&base, mended, 2)?;
+//! let fingerprint = staged::fingerprint(&base, mended, 2)?;
 //! let image = staged::write_to_vec(&base, mended, 2)?;
 //! assert_eq!(roll, eif::roll_to_vec(&image)?);
 //! assert_eq!(registers, eif::registers(&image)?);
+//! assert_eq!(fingerprint, eif::fingerprint(&image)?);
 //!
 //! // There is no section 3.
 //! assert_eq!(staged::section(&base, mended, 3, 0).unwrap_err().number(), 27);
@@ -34,7 +36,7 @@
 
 use crate::image::part_of;
 use crate::raw::staged as raw;
-use crate::{DataLength, Refusal, Registers};
+use crate::{DataLength, Fingerprint, Refusal, Registers};
 
 /// The data of section `shown` of `base` with section `replaced` replaced: a part of one of the two slices,
 /// never a copy. The base is read for it.
@@ -113,6 +115,19 @@ pub fn roll_to_vec(base: &[u8], replacement: &[u8], replaced: usize) -> Result<V
 /// The base's own refusal, then 27, then 1.
 pub fn registers(base: &[u8], replacement: &[u8], replaced: usize) -> Result<Registers, Refusal> {
     raw::staged_registers(base, replacement, replaced as u64).accepted()
+}
+
+/// The fingerprint of the image written afresh. Each section is hashed where it lies.
+///
+/// # Errors
+///
+/// The base's own refusal, then 27, then 1.
+pub fn fingerprint(
+    base: &[u8],
+    replacement: &[u8],
+    replaced: usize,
+) -> Result<Fingerprint, Refusal> {
+    raw::staged_fingerprint(base, replacement, replaced as u64).accepted()
 }
 
 /// The image written afresh, by [`write()`](crate::write()). It is a second image, with the joined data

@@ -44,6 +44,8 @@ pub use roll::{read_roll, roll_length, write_roll, Record, Roll};
 pub use rules::{Refusal, MAX_IMAGE};
 pub use sha384::Sha384;
 pub use sign1::{read_sign1, write_sign1, Claim, Sign1};
-pub use staged::{staged_image, staged_part, staged_registers, write_staged_roll, StagedPart};
+pub use staged::{
+    staged_fingerprint, staged_image, staged_part, staged_registers, write_staged_roll, StagedPart,
+};
 pub use stream::{copy_sections, copy_stream, stream_length, stream_sections, Stream};
 pub use strict::read_strict;

@@ -1,5 +1,6 @@
-//! One section of an image replaced: the image written afresh, its roll and its registers.
+//! One section of an image replaced: the image written afresh, its roll, its registers and its fingerprint.
 
+use crate::fingerprint::fingerprint;
 use crate::image::{read, Reading};
 use crate::plan::{plan_length, write, Place, Plan};
 use crate::registers::registers;
@@ -99,4 +100,13 @@ pub fn staged_registers(
     replaced: u64,
 ) -> Result<[[u8; 48]; 3], Refusal> {
     registers(&staged_image(base, replacement, replaced)?)
+}
+
+/// The fingerprint of the image written afresh.
+pub fn staged_fingerprint(
+    base: &[u8],
+    replacement: &[u8],
+    replaced: u64,
+) -> Result<[u8; 48], Refusal> {
+    fingerprint(&staged_image(base, replacement, replaced)?)
 }

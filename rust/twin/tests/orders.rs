@@ -116,8 +116,9 @@ fn replacements() {
                 &mut out,
             )),
             refused(staged_registers(&base, &replacement, input.replaced)),
+            refused(staged_fingerprint(&base, &replacement, input.replaced)),
         ];
-        assert_eq!(answers, [Some(case.answer); 3], "{:?}", case.rules);
+        assert_eq!(answers, [Some(case.answer); 4], "{:?}", case.rules);
     }
 }
 

@@ -20,6 +20,7 @@ fn the_image_written_afresh() {
     assert_eq!(write_roll(&afresh, &mut rolls[1]), Ok(56));
     assert_eq!(rolls[0], rolls[1]);
     assert_eq!(staged_registers(&base, b"rs", 2), registers(&afresh));
+    assert_eq!(staged_fingerprint(&base, b"rs", 2), fingerprint(&afresh));
     let part = |in_replacement, start, length| StagedPart {
         in_replacement,
         start,

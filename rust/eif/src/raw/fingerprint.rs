@@ -4,7 +4,7 @@ use super::{Arriving, Reading, Sha384};
 use crate::Digest;
 use std::mem::{align_of, offset_of, size_of};
 
-/// What [`image_fingerprint`] answers.
+/// What [`image_fingerprint`] and [`staged_fingerprint`](super::staged::staged_fingerprint) answer.
 #[repr(C)]
 #[derive(Clone, Copy, Debug, Default, PartialEq, Eq)]
 pub struct FingerprintAnswer {

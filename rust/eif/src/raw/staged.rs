@@ -1,5 +1,6 @@
 //! The C interface to a base with one section replaced.
 
+use super::fingerprint::FingerprintAnswer;
 use super::{Answer, RegistersAnswer};
 use crate::DataLength;
 use std::mem::{align_of, offset_of, size_of};
@@ -32,7 +33,7 @@ const _: () = {
 };
 
 mod c {
-    use super::{Answer, RegistersAnswer, StagedPart};
+    use super::{Answer, FingerprintAnswer, RegistersAnswer, StagedPart};
 
     extern "C" {
         pub fn eif_staged_part(
@@ -65,6 +66,13 @@ mod c {
             replacement_length: usize,
             replaced: u64,
         ) -> RegistersAnswer;
+        pub fn eif_staged_fingerprint(
+            base: *const u8,
+            base_length: usize,
+            replacement: *const u8,
+            replacement_length: usize,
+            replaced: u64,
+        ) -> FingerprintAnswer;
     }
 }
 
@@ -117,6 +125,11 @@ pub fn staged_registers(base: &[u8], replacement: &[u8], replaced: u64) -> Regis
     of_base(c::eif_staged_registers, base, replacement, replaced)
 }
 
+/// `eif_staged_fingerprint`.
+pub fn staged_fingerprint(base: &[u8], replacement: &[u8], replaced: u64) -> FingerprintAnswer {
+    of_base(c::eif_staged_fingerprint, base, replacement, replaced)
+}
+
 #[cfg(test)]
 mod tests {
     use super::*;
@@ -149,6 +162,8 @@ mod tests {
             assert_eq!(found, staged_roll_length(&base, &[], 1));
             let measured = c::eif_staged_registers(start, length, null(), 0, 1);
             assert_eq!(measured, staged_registers(&base, &[], 1));
+            let fingerprint = c::eif_staged_fingerprint(start, length, null(), 0, 1);
+            assert_eq!(fingerprint, staged_fingerprint(&base, &[], 1));
         }
     }
 
@@ -165,6 +180,8 @@ mod tests {
             assert_eq!(answers.map(|answer| answer.reserved), [[0; 7]; 3]);
             let measured = staged_registers(&base, b"new", replaced);
             assert_eq!(measured.reserved, [0; 7]);
+            let fingerprint = staged_fingerprint(&base, b"new", replaced);
+            assert_eq!(fingerprint.reserved, [0; 7]);
         }
     }
 }
