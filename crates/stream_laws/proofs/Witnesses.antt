@@ -18,29 +18,37 @@ use Rattle.stream_laws.specs.Pieces.{verdicts}
 abbrev accepted : ℕ → Copied
 accepted count = record { verdict = Accepted; count = count }
 
--- a byte into one, the other into one, and none into three, from the stream's end
+-- a copy by the image's verdict
+abbrev copyFor : ℕ → ℕ → Verdict → Copied
+copyFor from size v = copiedFor (andThen v (pastEnd (streamOf workedImage Whole) from)) (length (streamPart workedImage Whole from size))
+
+by-stream : (from size : ℕ) → copyAnswer workedImage Whole from size ≡ copyFor from size Accepted
+unfolding copyAnswer copyVerdict
+by-stream from size = ap (copyFor from size) worked-accepted
+
+-- the first byte into a buffer of one, the second into another, and from the stream's end none into a buffer of three
 first-copy : copyAnswer workedImage Whole 0 1 ≡ accepted 1
-unfolding copyAnswer copyVerdict streamOf kept keeps field beValue
-first-copy = ap (λ (v : Verdict). copiedFor (andThen v (pastEnd (streamOf workedImage Whole) 0)) (length (streamPart workedImage Whole 0 1))) worked-accepted
+unfolding streamOf kept keeps field beValue
+first-copy = by-stream 0 1
 
 second-copy : copyAnswer workedImage Whole 1 1 ≡ accepted 1
-unfolding copyAnswer copyVerdict streamOf kept keeps field beValue
-second-copy = ap (λ (v : Verdict). copiedFor (andThen v (pastEnd (streamOf workedImage Whole) 1)) (length (streamPart workedImage Whole 1 1))) worked-accepted
+unfolding streamOf kept keeps field beValue
+second-copy = by-stream 1 1
 
 copy-at-end : copyAnswer workedImage Whole 2 3 ≡ accepted 0
-unfolding copyAnswer copyVerdict streamOf kept keeps field beValue
-copy-at-end = ap (λ (v : Verdict). copiedFor (andThen v (pastEnd (streamOf workedImage Whole) 2)) (length (streamPart workedImage Whole 2 3))) worked-accepted
+unfolding streamOf kept keeps field beValue
+copy-at-end = by-stream 2 3
 
-abbrev one : List ℕ
-one = 0 ∷ []
+abbrev oneByte : List ℕ
+oneByte = 0 ∷ []
 
 abbrev threeBytes : List ℕ
 threeBytes = 0 ∷ 0 ∷ 0 ∷ []
 
-verdicts-accepted : verdicts workedImage Whole 0 (one ∷ one ∷ threeBytes ∷ []) ≡ Accepted ∷ Accepted ∷ Accepted ∷ []
+verdicts-accepted : verdicts workedImage Whole 0 (oneByte ∷ oneByte ∷ threeBytes ∷ []) ≡ Accepted ∷ Accepted ∷ Accepted ∷ []
 unfolding verdicts
 verdicts-accepted =
-    ap (λ (c : Copied). c .verdict ∷ verdicts workedImage Whole (0 + c .count) (one ∷ threeBytes ∷ [])) first-copy
+    ap (λ (c : Copied). c .verdict ∷ verdicts workedImage Whole (0 + c .count) (oneByte ∷ threeBytes ∷ [])) first-copy
     ∙ ap (λ (c : Copied). Accepted ∷ c .verdict ∷ verdicts workedImage Whole (1 + c .count) (threeBytes ∷ [])) second-copy
     ∙ ap (λ (c : Copied). Accepted ∷ Accepted ∷ c .verdict ∷ []) copy-at-end
 
