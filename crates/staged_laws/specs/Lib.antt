@@ -1,1 +1,2 @@
 pub mod Afresh
+pub mod Worked
