@@ -10,14 +10,17 @@ use Rattle.octets.specs.Bytes.{field, beValue}
 use Rattle.octets.specs.Over.{over}
 use Rattle.crc32.specs.Crc.{crc32, crcFrom, shiftBits, shiftBit}
 use Rattle.eif.specs.Answers.{refuseAt}
+use Rattle.eif.specs.Table.{joinFrom}
 use Rattle.eif.specs.Layout.{viewOf}
 use Rattle.eif.specs.Reading.{headerFault, entryFault, sectionFault, tailFault, checksumFault, positionIn, judged, early, verdictIn, checksumOf, verdictOf, blankSection, sectionAt, readingOf}
+use Rattle.eif.specs.Order.{viewRules, headerRules, sectionRules, typeRules, orderRules}
 use Rattle.eif.specs.Worked.{workedImage, workedSection}
 use Rattle.eif.specs.declared.Section.{Section}
 use Rattle.eif.specs.declared.Verdict.the-variants.{Accepted}
 use Rattle.eif.specs.Rules.{fieldFault, allowedIn, seen, orderFault, missing, missingFault, firstRefusal}
 use Rattle.json_machine.specs.Machine.{jsonVerdict, walkFrom, endsOf, kindOf, actOf, entryOf, afterOf}
-use Rattle.strict_reader.specs.Strict.{notJson, textVerdict, metadataVerdict, strictVerdict, readStrict}
+use Rattle.eif_laws.specs.Orders.{firstTwo}
+use Rattle.strict_reader.specs.Strict.{notJson, textVerdict, metadataVerdict, strictVerdict, readStrict, strictRules}
 
 abbrev cutMetadata : ℕ → Section
 cutMetadata i = getD (workedSection 1 10 1 ∷ workedSection 5 20 1 ∷ workedSection 2 22 1 ∷ []) i blankSection
@@ -93,3 +96,8 @@ pub checksum-before-metadata :
     × (metadataVerdict otherSumBracket (sectionAt otherSumBracket) 3 0 ≡ refuseAt 21 2 586)
 unfolding strictVerdict over field beValue firstRefusal textVerdict notJson jsonVerdict walkFrom endsOf kindOf actOf entryOf afterOf classes rows
 checksum-before-metadata = (rw other-sum-refused refl, refl)
+
+-- and the numbers of the first two rules that apply are those of both
+pub checksum-and-metadata : firstTwo (strictRules otherSumBracket) ≡ 13 ∷ 21 ∷ []
+unfolding strictRules over viewRules headerRules sectionRules typeRules orderRules joinFrom allowedIn seen missing field beValue checksumOf notJson jsonVerdict walkFrom endsOf kindOf actOf entryOf afterOf classes rows
+checksum-and-metadata = rw bracket-checksum refl
