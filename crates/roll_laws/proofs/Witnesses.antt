@@ -1,20 +1,24 @@
 -- Rolls and images that the relations of eif's Roll and of specs hold of, and values that they reject, by computation: of the worked image and its
 -- roll, which has the kernel's one byte at 22.
-use mathlib.Core.Path.{refl, ap}
+use mathlib.Core.Path.{_≡_, refl, ap}
 use mathlib.Core.List.{List, [], _∷_, headD}
 use Prim.Native.Nat.{ℕ}
 use native.Mathlib.Omega.{arith}
 use lib.Dec.{lit≤}
-use lib.ListN.{getD, take}
+use lib.ListN.{length, getD, take}
 use Rattle.octets.specs.Bytes.{field, beValue, leField}
 use Rattle.octets.specs.Over.{over}
 use Rattle.eif.specs.Table.{inTable}
+use Rattle.eif.specs.Answers.{andThen}
+use Rattle.eif.specs.Output.{roomVerdict}
 use Rattle.eif.specs.Layout.{packedBy}
 use Rattle.eif.specs.Rules.{seen, orderFault, missing}
-use Rattle.eif.specs.Roll.{Record, headOf, flagsRecord, measuredIn, SameBoot, Begins, flagsFault, recordAt, headFault, bodyFault, endFrom, rollFault, readRest, readRoll}
+use Rattle.eif.specs.Roll.{Record, headOf, flagsRecord, measuredIn, SameBoot, Begins, flagsFault, recordAt, headFault, bodyFault, endFrom, rollFault, readRest, readRoll, rollOf, rollBytes, rollVerdict}
 use Rattle.eif.specs.Rows.{workedRoll}
 use Rattle.eif.specs.Worked.{workedImage, worked-accepted, worked-roll}
 use Rattle.eif.specs.declared.RollReading.{RollReading}
+use Rattle.eif.specs.declared.Verdict.{Verdict}
+use Rattle.eif.specs.declared.Verdict.the-variants.{Accepted}
 use Rattle.eif_lemmas.proofs.Verdicts.{never}
 use Rattle.plain_laws.proofs.Witnesses.{bytes-by, worked-are-bytes}
 use Rattle.roll_laws.specs.Told.{ImageOf, ReadsList}
@@ -67,3 +71,9 @@ begins-holds = record { shorter = lit≤ tt; same = refl }
 
 begins-rejects : (Begins (1 ∷ 2 ∷ 3 ∷ []) (1 ∷ 2 ∷ []) → ⊥) × (Begins (1 ∷ 3 ∷ []) (1 ∷ 2 ∷ 3 ∷ []) → ⊥)
 begins-rejects = (λ b. let h = b .shorter in omega arith, λ b. let h = ap (λ (l : List ℕ). getD l 1 0) (b .same) in omega arith)
+
+-- ---- room of exactly the roll's length is enough; with a byte less it is refused: `eif/specs/Worked.roll-refused`
+
+roll-fits : rollVerdict workedImage 54 ≡ Accepted
+unfolding rollVerdict rollBytes flagsRecord rollOf headOf measuredIn field beValue
+roll-fits = ap (λ (v : Verdict). andThen v (roomVerdict 54 (length (rollBytes workedImage)))) worked-accepted
