@@ -53,7 +53,7 @@ twoFaults bytes verdict next = record { bytes = bytes; verdict = verdict; next =
 abbrev numbersOf : OrderedBytes → List ℕ
 numbersOf r = numberOf (r .verdict) ∷ r .next ∷ []
 
--- ---- reading an image; 0 stands for the right checksum, which none of them holds
+-- ---- reading an image; the right checksum is given as 0, which none of them holds
 
 abbrev pub orderedImages : List OrderedBytes
 orderedImages =

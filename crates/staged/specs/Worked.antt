@@ -58,7 +58,8 @@ unfolding stagedPlace stagedVerdict stagedPlan readView packedBy field beValue
 places-shown = rw worked-accepted refl
 
 -- 27 for the number of the replaced section and for that of the shown one, which are one answer and so have no order; an image as long as the
--- longest, one byte more, and 27 before 1
+-- longest, one byte more, and 27 before 1. For roll and registers 27 and 1 never both apply: a replacement for no section is no part of the image
+-- written afresh
 pub views-refused :
     stagedVerdict workedImage 0 3 0 ∷ stagedVerdict workedImage 1 0 3
     ∷ stagedVerdict workedImage 1073741238 2 2 ∷ stagedVerdict workedImage 1073741239 2 2 ∷ stagedVerdict workedImage 1073741239 2 3 ∷ []
