@@ -332,7 +332,7 @@ typedef struct eif_arriving_finished {
 typedef struct eif_span {
     uint64_t place;  /* the section whose data they are, or EIF_NO_SECTION */
     uint64_t length; /* how many they are */
-    uint64_t begun;  /* how many sections have begun before them: their own headers have arrived whole */
+    uint64_t begun;  /* how many sections in order have begun before them: their own headers have arrived whole */
 } eif_span;
 
 /* The kinds of a transfer's records. */
@@ -555,12 +555,13 @@ EIF_MUST_USE eif_arriving_finished eif_arriving_finish(eif_arriving state);
  *     eif_span span = eif_arriving_next(state, piece_length);
  *     ... the first span.length bytes of the piece are data of section span.place, or of no section where it is
  *         EIF_NO_SECTION; use them ...
- *     state = eif_arriving_feed(state, piece, piece_length, span.length).state;
- *     ... continue with the rest of the piece ...
+ *     eif_arriving_fed fed = eif_arriving_feed(state, piece, piece_length, span.length);
+ *     ... continue with fed.state and with the piece after its first fed.count bytes ...
  *
- * span.length is at most length, and at least 1 if length is. The type of section i is the big-endian number in
+ * span.length is at most length, and at least 1 if length is. After eif_arriving_finish the answer is the same, but
+ * eif_arriving_feed takes nothing. The type of section i, if i is less than span.begun, is the big-endian number in
  * state.section_headers[12 * i] and [12 * i + 1]. If the file is accepted at its end, the bytes of place i, joined,
- * are the data of section i, however the file was cut. Until then nothing is judged, so what was stored must not be
+ * are the data of section i, however the file was cut. Until then no rule is checked, so what was stored must not be
  * used before eif_arriving_finish accepts the file. The call takes any state and any length. */
 EIF_MUST_USE eif_span eif_arriving_next(eif_arriving state, uint64_t length);
 

@@ -89,8 +89,8 @@ impl Arriving {
     }
 
     /// Of the next `length` bytes, those at the start that belong together: to the data of one section, or to
-    /// none (FORMAT.md, Check while it arrives). It always makes progress: the answer's length is at least 1 if
-    /// `length` is.
+    /// none (FORMAT.md, Check while it arrives). Before the end it makes progress: the answer's length is at least 1
+    /// if `length` is.
     ///
     /// ```
     /// let mut arriving = eif::Arriving::new();
