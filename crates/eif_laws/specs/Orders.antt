@@ -3,8 +3,8 @@
 -- program in which two neighbours are exchanged alike differ from a row.
 --
 -- Neighbours that never apply to one input, or never first:
--- - 1 and 2 of an image: it would be longer than the longest image and shorter than a header. That 1 comes before every other rule of an image is
---   law `eif_lemmas/Reading.read-too-long`, since an image to which 1 applies is too long to compute;
+-- - 1 and 2 of an image: it would be longer than the longest image and shorter than a header. An image to which 1 applies is too long to compute:
+--   1 and 3 are computed of a view alone, and law `eif_lemmas/Reading.read-too-long` says that 1 comes before every other rule;
 -- - 9 and 10 at one section: a ramdisk is allowed in every version;
 -- - 9 and 11 at one section: an earlier section has the type that is not allowed, and its 9 comes first;
 -- - 10 and 11 at one section or record: 10 is about a ramdisk, 11 about any other type.
@@ -19,7 +19,7 @@ use Rattle.eif.specs.Table.{inTable, joinFrom}
 use Rattle.eif.specs.Rules.{fieldFault, allowedIn, seen, orderFault, typeFault, missing, missingFault, typesVerdict, firstRefusal}
 use Rattle.eif.specs.Answers.{refuseAt, numberOf, andThen}
 use Rattle.eif.specs.Output.{roomVerdict}
-use Rattle.eif.specs.Layout.{viewOf, packedBy}
+use Rattle.eif.specs.Layout.{View, viewOf, packedBy}
 use Rattle.eif.specs.Reading.{headerFault, entryFault, sectionFault, tailFault, checksumFault, positionIn, judged, early, verdictIn, verdictOf, checksumOf}
 use Rattle.eif.specs.Plan.{dataBefore, planVerdict, sizeFault, writeVerdict}
 use Rattle.eif.specs.Stream.{kept, keeps, streamOf, copyVerdict, pastEnd}
@@ -105,6 +105,24 @@ pub images-by-two :
 unfolding over viewRules headerRules sectionRules typeRules orderRules joinFrom allowedIn seen missing field beValue
 images-by-two = refl
 
+-- 1 and 3, and 1 on both sides of the limit: bytes of the worked image in a file of another size
+abbrev viewOfSize : ℕ → List ℕ → View
+viewOfSize n s =
+    record {
+      size = n;
+      header = viewOf s .header;
+      kind = viewOf s .kind;
+      flags = viewOf s .flags;
+      ownSize = viewOf s .ownSize;
+    }
+
+pub limit-of-an-image :
+    (verdictIn (viewOfSize 1073741825 (over workedImage 3 (0x67 ∷ []))) 0 ≡ refuseAt 1 0 0)
+    × (firstTwo (viewRules (viewOfSize 1073741825 (over workedImage 3 (0x67 ∷ []))) 0) ≡ 1 ∷ 3 ∷ [])
+    × (verdictIn (viewOfSize 1073741824 workedImage) 0 ≡ refuseAt 20 0 586)
+unfolding over verdictIn early judged positionIn headerFault fieldFault firstRefusal sectionFault entryFault allowedIn orderFault seen missingFault tailFault missing field beValue viewRules headerRules sectionRules typeRules orderRules joinFrom
+limit-of-an-image = (refl, refl, refl)
+
 -- ---- copying from a stream and writing a roll: 13, the image's last rule, and 19 or 14
 
 other-refused : verdictOf otherChecksum ≡ refuseAt 13 0 544
@@ -161,6 +179,12 @@ rolls-by-two = refl
 pub long-roll-in-order : (rollFault (headOf 1073741824 3) 1 ≡ 12) × (firstTwo (endRules (headOf 1073741824 3) 1) ≡ 12 ∷ 1 ∷ [])
 unfolding headOf endRules recordAt leField seen packedBy rollFault
 long-roll-in-order = (refl, refl)
+
+-- 1 on both sides of the limit
+pub limit-of-a-roll :
+    (firstTwo (endRules (headOf 1073741264 3) 1) ≡ 12 ∷ []) × (firstTwo (endRules (headOf 1073741265 3) 1) ≡ 12 ∷ 1 ∷ [])
+unfolding headOf endRules recordAt leField seen packedBy
+limit-of-a-roll = (refl, refl)
 
 -- ---- writing an image: a plan, with no data and no room
 
