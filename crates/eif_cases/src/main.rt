@@ -330,6 +330,7 @@ fn two_at_once() {
     full(b"10 at 2, 11 at 4", 548, 2, 4);
     full_twice(b"11 at 1, 9 at 2", Change(561, 2, 1), Change(574, 2, 6));
     full(b"9 at 5, and 12", 614, 2, 9);
+    paired(b"11 at 1, and 12", 2, 1, 1);
     missing_or_checksum();
     after_checksum(b"20 at 0, and 13", Change(28, 8, 549));
 }
