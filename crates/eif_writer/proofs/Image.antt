@@ -5,7 +5,8 @@ use mathlib.Core.Path.{_≡_, refl, sym, ap, ap₂, _∙_}
 use mathlib.Core.List.{List, _++_, append-assoc}
 use native.Mathlib.Omega.{arith}
 use native.Mathlib.Nat.{zero-add}
-use lib.ListN.{length, take, drop, length-append, length-take, length-drop}
+use borrow.Author.Tests.{eq-eqb, ne-eqb}
+use lib.ListN.{length, replicate, take, drop, length-append, length-take, length-drop}
 use lib.Seq.{take-at, drop-at}
 use Rattle.octets.specs.Bytes.{beBytes}
 use Rattle.octets.specs.Over.{over}
@@ -16,7 +17,9 @@ use Rattle.eif.specs.Reading.{checksumOf}
 use Rattle.eif.specs.Plan.{dataBefore, plainSize, fixedFields, packedAt, tableBytes, headerBytes, bodyBytes, plainImage, plannedSize}
 use Rattle.eif.specs.declared.Plan.{Plan}
 use Rattle.plain_laws.proofs.Shape.{packed-zero, length-table, length-header, length-sections}
-use Rattle.eif_writer.specs.Parts.{firstFields, nextFields}
+use Rattle.eif_writer.specs.Parts.{firstFields, nextFields, headerWith}
+use Rattle.plan_judge.specs.Size.{imageSize}
+use Rattle.eif_writer.proofs.Pieces.{over-whole}
 use Rattle.eif_checksum.specs.Put.{withChecksum}
 
 -- ---- the header
@@ -49,6 +52,20 @@ module _ (p : Plan) where
       (ap (λ (n : ℕ). defaultMemAt + n) length-next))
       (ap (λ (n : ℕ). 0 + n) length-first)
       ∙ ap (over d 0) header-parts
+
+  -- the header with a number in the checksum field fills an array of its size
+  pub whole-header : (n : ℕ) {b c : List ℕ} → b ≡ over (replicate headerSize 0) 0 (headerBytes p) → c ≡ over b checksumAt (beBytes 4 n) → c ≡ headerBytes p ++ beBytes 4 n
+  whole-header n e f =
+      over-joined (replicate headerSize 0) 0 (headerBytes p) (beBytes 4 n) {m = checksumAt} e f (zero-add (length (headerBytes p)) ∙ length-header p)
+      ∙ over-whole headerSize (headerBytes p ++ beBytes 4 n) (length-append (headerBytes p) (beBytes 4 n) ∙ ap (λ (m : ℕ). m + 4) (length-header p))
+
+  pub header-none : (n : ℕ) → imageSize p ≡ 0 → replicate headerSize 0 ≡ headerWith p n
+  unfolding headerWith
+  header-none n e = simp (eq-eqb (imageSize p) 0 e)
+
+  pub header-some : (n : ℕ) → (imageSize p ≡ 0 → ⊥) → headerBytes p ++ beBytes 4 n ≡ headerWith p n
+  unfolding headerWith
+  header-some n h = simp (ne-eqb (imageSize p) 0 h)
 
 -- ---- the whole
 

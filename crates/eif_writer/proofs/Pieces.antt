@@ -2,11 +2,12 @@
 -- Assumes nothing.
 use Prim.Native.Nat.{ℕ, suc, _+_, _-_, _<_, _≤_}
 use mathlib.Core.Path.{_≡_, refl, sym, ap, _∙_}
-use mathlib.Core.List.{List, _++_, append-assoc}
+use mathlib.Core.List.{List, _++_, append-assoc, append-nil}
 use native.Mathlib.Omega.{arith}
-use lib.ListN.{length}
+use lib.ListN.{length, replicate}
+use Rattle.octets.specs.Bytes.{beBytes}
 use Rattle.octets.specs.Over.{over}
-use Rattle.octets.proofs.Over.{over-joined}
+use Rattle.octets.proofs.Over.{over-joined, over-row}
 use Rattle.eif.specs.Numbers.{sizeLimit}
 use Rattle.eif.specs.Layout.{sectionHeaderSize}
 use Rattle.eif.specs.Plan.{placeAt, plannedSize, packedAt, dataBefore, pieceAt, sectionHeader, sectionBytes}
@@ -14,6 +15,21 @@ use Rattle.eif.specs.declared.Place.{Place}
 use Rattle.eif.specs.Table.{joinFrom}
 use Rattle.plain_laws.proofs.Shape.{packed-le, packed-suc, before-le, before-suc, length-sectionHeader, length-piece}
 use Rattle.eif_lemmas.proofs.Table.{join-next}
+
+-- ---- bytes that fill an array
+
+pub over-whole : (n : ℕ) (x : List ℕ) → length x ≡ n → over (replicate n 0) 0 x ≡ x
+over-whole n x e =
+    let z : n - length x ≡ 0 = omega arith in
+    over-row n 0 x (omega arith) ∙ ap (λ (k : ℕ). x ++ replicate {A = ℕ} k 0) z ∙ append-nil x
+
+pub whole-section-header : (x : Place) {b c d : List ℕ} → b ≡ over (replicate sectionHeaderSize 0) 0 (beBytes 2 (x .kind)) → c ≡ over b 2 (beBytes 2 (x .flags))
+    → d ≡ over c 4 (beBytes 8 (x .length .0)) → d ≡ sectionHeader x
+unfolding sectionHeader
+whole-section-header x e f g =
+    over-joined (replicate sectionHeaderSize 0) 0 (beBytes 2 (x .kind)) (beBytes 2 (x .flags) ++ beBytes 8 (x .length .0)) {m = 2} e
+    (over-joined _ 2 (beBytes 2 (x .flags)) (beBytes 8 (x .length .0)) {m = 4} f g refl) refl
+    ∙ over-whole sectionHeaderSize (sectionHeader x) (length-sectionHeader x)
 
 -- ---- the sections
 

@@ -10,7 +10,7 @@ ghost use Rattle.eif.specs.Numbers.{placeCount, sizeLimit};
 ghost use Rattle.eif.specs.Table.{joinFrom};
 ghost use Rattle.eif.specs.Layout.{headerSize, defaultMemAt, entrySize};
 ghost use Rattle.eif.specs.Plan.{packedAt, dataBefore, plainSize, headerBytes, sectionHeader, sectionBytes, writeAnswer, writeOutput, plannedSize, tableOf};
-ghost use Rattle.eif_writer.specs.Parts.{firstFields, nextFields};
+ghost use Rattle.eif_writer.specs.Parts.{firstFields, nextFields, headerWith};
 use eif::Header;
 use eif::PLACES;
 use eif::Place;
@@ -99,16 +99,30 @@ fn put_header(out: &mut [u8], plan: Plan)
     octets::put_be32(out, Header::RESERVED_AFTER_AT, 0);
 }
 
+// The header of a plan's image, with a number in the checksum field; zeros where the plan has no image of a size within the limit.
+pub fn header(plan: Plan, checksum: u32) -> [u8; Header::SIZE]
+    ensures { λ r. ⌜ r ≡ headerWith plan checksum ⌝ }
+{
+    let mut bytes = [0u8; Header::SIZE];
+    if plan_judge::image_size(plan) == 0 {
+        return bytes;
+    }
+    put_header(&mut bytes, plan);
+    octets::put_be32(&mut bytes, Header::CHECKSUM_AT, checksum);
+    bytes
+}
+
 // ---- the sections
 
 // A section's own header.
-fn put_section_header(out: &mut [u8], at: usize, place: Place)
-    requires { ⌜ at ≤ sizeLimit ⌝ }
-    ensures { λ _. ⌜ now (out .exit) ≡ over (now (out .entry)) at (sectionHeader place) ⌝ }
+pub fn section_header(place: Place) -> [u8; SectionHeader::SIZE]
+    ensures { λ r. ⌜ r ≡ sectionHeader place ⌝ }
 {
-    octets::put_be16(out, at + SectionHeader::TYPE_AT, place.kind);
-    octets::put_be16(out, at + SectionHeader::FLAGS_AT, place.flags);
-    octets::put_be64(out, at + SectionHeader::SIZE_AT, place.length.0);
+    let mut own = [0u8; SectionHeader::SIZE];
+    octets::put_be16(&mut own, SectionHeader::TYPE_AT, place.kind);
+    octets::put_be16(&mut own, SectionHeader::FLAGS_AT, place.flags);
+    octets::put_be64(&mut own, SectionHeader::SIZE_AT, place.length.0);
+    own
 }
 
 // The sections, in plan order, each with its part of the data.
@@ -124,7 +138,8 @@ fn put_sections(out: &mut [u8], places: [Place; PLACES], count: usize, lent: &[u
         let place = places[i];
         let size = place.length.0 as usize;
         let next = from + size;
-        put_section_header(out, at, place);
+        let own = section_header(place);
+        octets::copy(out, at, &own);
         octets::copy(out, at + SectionHeader::SIZE, &lent[from..next]);
         at = at + SectionHeader::SIZE + size;
         from = next;

@@ -66,7 +66,8 @@ module _ (p : Plan) (r : ℕ) (few : p .count ≤ placeCount) (e : r ≡ imageSi
       (λ h. h)
       (le-or-lt (plainSize p) sizeLimit)
 
-  within-limit : (r ≡ 0 → ⊥) → (plainSize p ≤ sizeLimit) × (r ≡ plainSize p)
+  -- any other size is that of an image within the limit
+  pub within-limit : (r ≡ 0 → ⊥) → (plainSize p ≤ sizeLimit) × (r ≡ plainSize p)
   within-limit z =
       ⊎-elim
       (λ h. (h, size-is ∙ sym (limited-in (plainSize p) h)))

@@ -100,7 +100,7 @@ pub fn image_size(plan: Plan) -> u64
 
 // How much data the image of a plan has, or 0 where the plan has no image of a size within the limit. An image is its header,
 // a header for each section, and the data.
-fn data_size(plan: Plan) -> u64
+pub fn data_size(plan: Plan) -> u64
     ensures { λ r. ⌜ r ≡ dataSize plan ⌝ }
 {
     let size = image_size(plan);

@@ -61,21 +61,23 @@ loop-again : tie.Need-loop-again Inv-loop μ-loop
 loop-again c =
     let y = c .before .before in
     let x = y .before .before .before .before .before in
-    let t = x .before .before .before in
+    let s = x .before .before .before in
+    let t = s .before .before in
     let v = t .before .loop in
-    let o = x .put-section-header .last .0 in
+    let o = x .copy .last .0 in
+    let g : o ≡ over (v .out) (v .at) (sectionHeader (placeAt (l t) (i t))) = x .copy .ensures ∙ ap (over (v .out) (v .at)) (s .section-header .ensures) in
     let h = packed-suc (plannedSize (l t)) (i t) in
     let k = before-suc (l t) (i t) in
     let n : v .from + plannedSize (l t) (i t) - v .from ≡ plannedSize (l t) (i t) = omega arith in
-    let e : y .copy .last .0 ≡ over o (v .at + sectionHeaderSize) (pieceAt (l t) (lent t) (i t)) =
-    y .copy .ensures ∙ ap₂ (λ (m j : ℕ). over o (v .at + sectionHeaderSize) (take m (drop j (lent t)))) n (v .inv .2) in
+    let e : y .copy2 .last .0 ≡ over o (v .at + sectionHeaderSize) (pieceAt (l t) (lent t) (i t)) =
+    y .copy2 .ensures ∙ ap₂ (λ (m j : ℕ). over o (v .at + sectionHeaderSize) (take m (drop j (lent t)))) n (v .inv .2) in
     rw add-one (
       omega arith,
       omega arith,
       omega arith,
-      ap length e ∙ length-over o (v .at + sectionHeaderSize) (pieceAt (l t) (lent t) (i t)) ∙ ap length (x .put-section-header .ensures)
+      ap length e ∙ length-over o (v .at + sectionHeaderSize) (pieceAt (l t) (lent t) (i t)) ∙ ap length g
           ∙ length-over (v .out) (v .at) (sectionHeader (placeAt (l t) (i t))) ∙ v .inv .3,
-      section-over (l t) (count t) (i t) (omega arith) (lent t) (omega arith) (v .out) o (y .copy .last .0) (v .at) (x .put-section-header .ensures) e ∙ v .inv .4,
+      section-over (l t) (count t) (i t) (omega arith) (lent t) (omega arith) (v .out) o (y .copy2 .last .0) (v .at) g e ∙ v .inv .4,
     )
 
 returns : tie.Need-returns Inv-loop μ-loop
@@ -94,14 +96,16 @@ put-sections-spec =
     (λ c. omega arith)
     (λ c. omega arith)
     add-next
-    (λ c κs. let h = ends (c .before .before) in omega arith)
-    (λ c. let h = ends (c .before .before .before .before .before .before) in omega arith)
-    (λ c. omega arith)
-    (λ c. let h = takes (c .before .before .before .before .before .before) in search needs)
-    (λ c. let h = takes (c .before .before .before .before .before .before) in search needs)
     (λ c κs. tt)
-    (λ c. let h = ends (c .before .before .before .before .before .before .before .before .before .before) in omega arith)
-    (λ c. let h = ends (c .before .before .before .before .before .before .before .before .before .before) in omega arith)
+    (λ c. search needs)
+    (λ c κs. tt)
+    (λ c. let h = ends (c .before .before .before .before .before .before .before .before) in omega arith)
+    (λ c. omega arith)
+    (λ c. let h = takes (c .before .before .before .before .before .before .before .before) in search needs)
+    (λ c. let h = takes (c .before .before .before .before .before .before .before .before) in search needs)
+    (λ c κs. tt)
+    (λ c. let h = ends (c .before .before .before .before .before .before .before .before .before .before .before .before) in omega arith)
+    (λ c. let h = ends (c .before .before .before .before .before .before .before .before .before .before .before .before) in omega arith)
     (λ c. omega arith)
     (λ c. omega arith)
     loop-again
