@@ -3,3 +3,4 @@ pub mod Afresh
 pub mod Same
 pub mod Held
 pub mod Shown
+pub mod Listed

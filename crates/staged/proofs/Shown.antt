@@ -1,80 +1,27 @@
--- What is shown of a section, case by case: the replacement, the base's own part, or nothing.
+-- Where the data of a section lies, case by case: in the replacement, or in the base; and that the bytes there are what is shown.
 -- Assumes nothing.
-use Prim.Native.Nat.{ℕ, _+_, _<_, min}
+use Prim.Native.Nat.{ℕ}
 use mathlib.Core.Path.{_≡_, refl, sym, ap, _∙_}
 use mathlib.Core.Bool.{Bool, true, false}
-use mathlib.Core.List.{List, []}
-use native.Mathlib.Omega.{arith}
+use mathlib.Core.List.{List}
 use borrow.Author.Tests.{eq-eqb, ne-eqb}
 use lib.Dec.{eqb}
 use lib.ListN.{length, take, drop}
 use lib.Seq.{getD-set-other, take-length}
-use Rattle.eif.specs.Numbers.{placeCount}
 use Rattle.octets.specs.Logic.{choose}
 use Rattle.eif.specs.Reading.{blankSection, dataOf, readImage, sectionIn}
-use Rattle.eif.specs.declared.Refusal.{Refusal}
 use Rattle.eif.specs.declared.Section.{Section}
-use Rattle.eif.specs.declared.Verdict.the-variants.{Accepted, Refused}
-use Rattle.plain_laws.proofs.WriteBack.{sound-head}
+use Rattle.eif.specs.declared.Verdict.the-variants.{Accepted}
 use Rattle.staged.specs.Staged.{stagedPart, stagedVerdict, shownPart}
-use Rattle.staged.specs.View.{moved, stagedSections, shownStart, placeFor, stagedPlace}
-use Rattle.staged.proofs.Accept.{staged→}
+use Rattle.staged.specs.View.{moved, stagedSections, placeFor, stagedPlace}
 
 -- a section that is not replaced stands in the view's list as in the base's
 section-kept : (l : List Section) (k j at size : ℕ) → (j ≡ k → ⊥) → sectionIn (stagedSections l k at size) j ≡ sectionIn l j
 unfolding stagedSections
 section-kept l k j at size n = getD-set-other l k j (moved (sectionIn l k) at size) blankSection n
 
-module _ (s r : List ℕ) (k j : ℕ) where
-  pub shown-refused : (x : Refusal) → stagedVerdict s (length r) k j ≡ Refused x → shownPart s r k j ≡ []
-  unfolding shownPart
-  shown-refused x e = simp e
-
-  module _ (e : stagedVerdict s (length r) k j ≡ Accepted) where
-    -- the replaced section is the replacement, whole
-    pub shown-replaced : j ≡ k → shownPart s r k j ≡ r
-    unfolding shownPart stagedPart
-    shown-replaced q = simp (e, eq-eqb j k q)
-
-    -- any other is that of the base, as the view lists it
-    pub listed-kept : (j ≡ k → ⊥)
-        → dataOf s (sectionIn (stagedSections (readImage s .sections) k (length s) (length r)) j) ≡ shownPart s r k j
-    unfolding shownPart stagedPart
-    listed-kept n =
-        ap (dataOf s) (section-kept (readImage s .sections) k j (length s) (length r) n) ∙ sym (simp (e, ne-eqb j k n))
-
--- ---- where it stands in memory
-
-module _ (s : List ℕ) (size k j : ℕ) (base given : ℕ × ℕ) where
-  pub start-refused : (x : Refusal) → stagedVerdict s size k j ≡ Refused x → base ≡ shownStart s size k j base given
-  unfolding shownStart
-  start-refused x e = simp e
-
-  module _ (e : stagedVerdict s size k j ≡ Accepted) where
-    pub start-replaced : j ≡ k → given ≡ shownStart s size k j base given
-    unfolding shownStart
-    start-replaced q = simp (e, eq-eqb j k q)
-
-    pub start-kept : (j ≡ k → ⊥) → (x : Section) → x ≡ sectionIn (stagedSections (readImage s .sections) k (length s) size) j
-        → (base .0, base .1 + min (x .position .0) (length s)) ≡ shownStart s size k j base given
-    unfolding shownStart
-    start-kept n x q =
-        ap (λ (y : Section). (base .0, base .1 + min (y .position .0) (length s)))
-        (q ∙ section-kept (readImage s .sections) k j (length s) size n)
-        ∙ sym (simp (e, ne-eqb j k n))
-
--- ---- where it lies: the same, by its place
-
 module _ (s : List ℕ) (size k j : ℕ) where
-  pub place-refused : (x : Refusal) → stagedVerdict s size k j ≡ Refused x → placeFor (Refused x) 0 0 0 ≡ stagedPlace s size k j
-  unfolding stagedPlace
-  place-refused x e = simp e
-
   module _ (e : stagedVerdict s size k j ≡ Accepted) where
-    -- the number of a section is one of a place
-    pub place-in : j < placeCount
-    place-in = let a = staged→ s size k j e in let f = sound-head s (a .accepted) .fields .few in let h = a .shown in omega arith
-
     pub place-replaced : j ≡ k → placeFor Accepted 1 0 size ≡ stagedPlace s size k j
     unfolding stagedPlace
     place-replaced q = simp (e, eq-eqb j k q)

@@ -8,6 +8,7 @@ ghost use lib.ListN.{length};
 ghost use Rattle.eif.specs.Numbers.{sizeLimit, placeCount};
 ghost use Rattle.eif.specs.Plan.{plainSize, placeOf, planOf};
 ghost use Rattle.staged.specs.Staged.{withPlace, stagedVerdict, shownPart};
+ghost use Rattle.staged.specs.Listed.{listedVerdict, listedView, listedShown, listedStart, listedPlace};
 ghost use Rattle.staged.specs.View.{moved, blankStaged, stagedView, heldBy, heldStart, shownStart, stagedPlace};
 use eif::DataLength;
 use eif::FilePosition;
@@ -96,46 +97,6 @@ fn refused(verdict: Verdict) -> Staged
     }
 }
 
-// The base's refusal; 27 for the number of the replaced section or of the one to be shown; 1 where the image written afresh
-// would be over the limit; or the sections, of which the replaced one stands as if a replacement of so many bytes followed the base.
-pub fn judge(base: &[u8], size: u64, replaced: u64, shown: u64) -> Staged
-    ensures { λ r. ⌜ r ≡ stagedView (now (base .entry)) size replaced shown ⌝ }
-{
-    let reading = eif_reader::read(base);
-    let verdict = reading.verdict;
-    let no_such = Verdict::refuse(Refusal::NO_SUCH_SECTION, 0);
-    let Verdict::Accepted = verdict else {
-        return refused(verdict);
-    };
-    let count = reading.count as u64;
-    if count <= replaced {
-        return refused(no_such);
-    }
-    if count <= shown {
-        return refused(no_such);
-    }
-    let k = replaced as usize;
-    if too_long(reading, k, size) {
-        return refused(Verdict::refuse(Refusal::IMAGE_TOO_LONG, 0));
-    }
-    let mut sections = reading.sections;
-    let old = sections[k];
-    sections[k] = moved_to(old, base.len() as u64, size);
-    Staged {
-        verdict,
-        flags: reading.flags,
-        sections,
-    }
-}
-
-// The verdict on what `section` shows.
-pub fn verdict(base: &[u8], replacement: &[u8], replaced: u64, shown: u64) -> Verdict
-    ensures { λ r. ⌜ r ≡ stagedVerdict (now (base .entry)) (length (now (replacement .entry))) replaced shown ⌝ }
-{
-    let view = judge(base, replacement.len() as u64, replaced, shown);
-    view.verdict
-}
-
 // The data of any section: of the base where it starts in it, and else of the replacement.
 pub fn held<'a>(base: &'a [u8], replacement: &'a [u8], x: Section) -> &'a [u8]
     ensures { λ r. ⌜ now r ≡ heldBy (now (base .entry)) (now (replacement .entry)) x ⌝ }
@@ -149,31 +110,81 @@ pub fn held<'a>(base: &'a [u8], replacement: &'a [u8], x: Section) -> &'a [u8]
     stream_reader::section_data(replacement, after)
 }
 
-// The data of a section, where it lies: the replacement, or a part of the base. Refused: the base's empty start.
-pub fn section<'a>(base: &'a [u8], replacement: &'a [u8], replaced: u64, shown: u64) -> &'a [u8]
-    ensures { λ r. ⌜ now r ≡ shownPart (now (base .entry)) (now (replacement .entry)) replaced shown ⌝ }
-    ensures { λ r. ⌜ r .ptr ≡ shownStart (now (base .entry)) (length (now (replacement .entry))) replaced shown (base .entry .ptr) (replacement .entry .ptr) ⌝ }
+// ---- from a reading of the base that the caller has already
+
+// The verdict on a replacement of so many bytes: the reading's refusal; 5 where it counts more sections than there are places; 27 for the number of
+// the replaced section or of the one to be shown; 1 where the image written afresh would be over the limit.
+pub fn verdict_listed(reading: Reading, size: u64, replaced: u64, shown: u64) -> Verdict
+    ensures { λ r. ⌜ r ≡ listedVerdict reading size replaced shown ⌝ }
 {
-    let view = judge(base, replacement.len() as u64, replaced, shown);
-    let verdict = view.verdict;
+    let verdict = reading.verdict;
+    let Verdict::Accepted = verdict else {
+        return verdict;
+    };
+    let count = reading.count as u64;
+    if (PLACES as u64) < count {
+        return Verdict::refuse(Refusal::WRONG_COUNT, 0);
+    }
+    if count <= replaced {
+        return Verdict::refuse(Refusal::NO_SUCH_SECTION, 0);
+    }
+    if count <= shown {
+        return Verdict::refuse(Refusal::NO_SUCH_SECTION, 0);
+    }
+    if too_long(reading, replaced as usize, size) {
+        return Verdict::refuse(Refusal::IMAGE_TOO_LONG, 0);
+    }
+    Verdict::Accepted
+}
+
+// That verdict, and the sections, of which the replaced one stands as if a replacement of so many bytes followed a base of `end` bytes.
+pub fn judge_listed(reading: Reading, end: u64, size: u64, replaced: u64, shown: u64) -> Staged
+    ensures { λ r. ⌜ r ≡ listedView reading end size replaced shown ⌝ }
+{
+    let verdict = verdict_listed(reading, size, replaced, shown);
+    let Verdict::Accepted = verdict else {
+        return refused(verdict);
+    };
+    let k = replaced as usize;
+    let mut sections = reading.sections;
+    let old = sections[k];
+    sections[k] = moved_to(old, end, size);
+    Staged {
+        verdict: Verdict::Accepted,
+        flags: reading.flags,
+        sections,
+    }
+}
+
+// The data of a section, where it lies: the replacement, or a part of the base. Refused: the base's empty start.
+pub fn section_listed<'a>(
+    base: &'a [u8],
+    replacement: &'a [u8],
+    reading: Reading,
+    replaced: u64,
+    shown: u64,
+) -> &'a [u8]
+    ensures { λ r. ⌜ now r ≡ listedShown (now (base .entry)) (now (replacement .entry)) reading replaced shown ⌝ }
+    ensures { λ r. ⌜ r .ptr ≡ listedStart (now (base .entry)) (length (now (replacement .entry))) reading replaced shown (base .entry .ptr) (replacement .entry .ptr) ⌝ }
+{
+    let verdict = verdict_listed(reading, replacement.len() as u64, replaced, shown);
     let Verdict::Accepted = verdict else {
         return &base[..0];
     };
     if replaced == shown {
         return replacement;
     }
-    let sections = view.sections;
+    let sections = reading.sections;
     let at = shown as usize;
     let x = sections[at];
     stream_reader::section_data(base, x)
 }
 
 // Where that data lies, for a replacement of so many bytes: in the replacement, or at a position of the base.
-pub fn place(base: &[u8], size: u64, replaced: u64, shown: u64) -> StagedPart
-    ensures { λ r. ⌜ r ≡ stagedPlace (now (base .entry)) size replaced shown ⌝ }
+pub fn place_listed(reading: Reading, size: u64, replaced: u64, shown: u64) -> StagedPart
+    ensures { λ r. ⌜ r ≡ listedPlace reading size replaced shown ⌝ }
 {
-    let view = judge(base, size, replaced, shown);
-    let verdict = view.verdict;
+    let verdict = verdict_listed(reading, size, replaced, shown);
     let Verdict::Accepted = verdict else {
         return StagedPart {
             verdict,
@@ -190,7 +201,7 @@ pub fn place(base: &[u8], size: u64, replaced: u64, shown: u64) -> StagedPart
             length: DataLength(size),
         };
     }
-    let sections = view.sections;
+    let sections = reading.sections;
     let at = shown as usize;
     let x = sections[at];
     StagedPart {
@@ -199,4 +210,39 @@ pub fn place(base: &[u8], size: u64, replaced: u64, shown: u64) -> StagedPart
         start: x.position.0,
         length: DataLength(x.length.0),
     }
+}
+
+// ---- the same, with the base read first
+
+// The verdict on the base and a replacement of so many bytes, and the view.
+pub fn judge(base: &[u8], size: u64, replaced: u64, shown: u64) -> Staged
+    ensures { λ r. ⌜ r ≡ stagedView (now (base .entry)) size replaced shown ⌝ }
+{
+    let reading = eif_reader::read(base);
+    judge_listed(reading, base.len() as u64, size, replaced, shown)
+}
+
+// The verdict on what `section` shows.
+pub fn verdict(base: &[u8], replacement: &[u8], replaced: u64, shown: u64) -> Verdict
+    ensures { λ r. ⌜ r ≡ stagedVerdict (now (base .entry)) (length (now (replacement .entry))) replaced shown ⌝ }
+{
+    let reading = eif_reader::read(base);
+    verdict_listed(reading, replacement.len() as u64, replaced, shown)
+}
+
+// The data of a section, where it lies.
+pub fn section<'a>(base: &'a [u8], replacement: &'a [u8], replaced: u64, shown: u64) -> &'a [u8]
+    ensures { λ r. ⌜ now r ≡ shownPart (now (base .entry)) (now (replacement .entry)) replaced shown ⌝ }
+    ensures { λ r. ⌜ r .ptr ≡ shownStart (now (base .entry)) (length (now (replacement .entry))) replaced shown (base .entry .ptr) (replacement .entry .ptr) ⌝ }
+{
+    let reading = eif_reader::read(base);
+    section_listed(base, replacement, reading, replaced, shown)
+}
+
+// Where that data lies, for a replacement of so many bytes.
+pub fn place(base: &[u8], size: u64, replaced: u64, shown: u64) -> StagedPart
+    ensures { λ r. ⌜ r ≡ stagedPlace (now (base .entry)) size replaced shown ⌝ }
+{
+    let reading = eif_reader::read(base);
+    place_listed(reading, size, replaced, shown)
 }
