@@ -2,12 +2,12 @@
 // replacement, and whether the image written afresh with the replacement would be one.
 ghost use mathlib.Core.Path.{_≡_};
 ghost use mathlib.Core.List.{map};
-ghost use Prim.Native.Nat.{_<_, _≤_};
+ghost use Prim.Native.Nat.{_≤_};
 ghost use lib.Dec.{ltb};
-ghost use lib.ListN.{length};
+ghost use lib.ListN.{length, set};
 ghost use Rattle.eif.specs.Numbers.{sizeLimit, placeCount};
-ghost use Rattle.eif.specs.Plan.{plainSize, placeOf, planOf};
-ghost use Rattle.staged.specs.Staged.{withPlace, stagedVerdict, shownPart};
+ghost use Rattle.eif.specs.Plan.{placeAt, plainSize, placeOf, planOf};
+ghost use Rattle.staged.specs.Staged.{withLength, withPlace, stagedVerdict, shownPart};
 ghost use Rattle.staged.specs.Listed.{listedVerdict, listedView, listedShown, listedStart, listedPlace};
 ghost use Rattle.staged.specs.View.{moved, blankStaged, stagedView, heldBy, heldStart, shownStart, stagedPlace};
 use eif::DataLength;
@@ -48,28 +48,46 @@ fn places_of(sections: [Section; PLACES]) -> [Place; PLACES]
     places
 }
 
-// Whether the image of a reading, with another length of one section, is over the limit.
-fn too_long(reading: Reading, replaced: usize, given: u64) -> bool
-    requires { ⌜ (replaced < placeCount) × (reading .count ≤ placeCount) ⌝ }
-    ensures { λ r. ⌜ r ≡ ltb sizeLimit (plainSize (withPlace (planOf reading) replaced given)) ⌝ }
+// Places, one of which has another length; as they are where there is no such place.
+fn with_length(places: [Place; PLACES], replaced: u64, size: u64) -> [Place; PLACES]
+    ensures { λ r. ⌜ r ≡ set places replaced (withLength (placeAt places replaced) size) ⌝ }
 {
-    let sections = reading.sections;
-    let mut places = places_of(sections);
-    let old = places[replaced];
-    places[replaced] = Place {
+    let mut changed = places;
+    if PLACES as u64 <= replaced {
+        return changed;
+    }
+    let k = replaced as usize;
+    let old = changed[k];
+    changed[k] = Place {
         kind: old.kind,
         flags: old.flags,
-        length: DataLength(given),
+        length: DataLength(size),
     };
-    let plan = Plan {
+    changed
+}
+
+// The plan of the image written afresh: that of a reading, with another length of one section.
+pub fn plan_listed(reading: Reading, replaced: u64, size: u64) -> Plan
+    ensures { λ r. ⌜ r ≡ withPlace (planOf reading) replaced size ⌝ }
+{
+    let sections = reading.sections;
+    let places = with_length(places_of(sections), replaced, size);
+    Plan {
         version: reading.version,
         flags: reading.flags,
         default_mem: reading.default_mem,
         default_cpus: reading.default_cpus,
         count: reading.count,
         places,
-    };
-    plan_judge::image_size(plan) == 0
+    }
+}
+
+// Whether the image of that plan is over the limit.
+fn too_long(reading: Reading, replaced: u64, size: u64) -> bool
+    requires { ⌜ reading .count ≤ placeCount ⌝ }
+    ensures { λ r. ⌜ r ≡ ltb sizeLimit (plainSize (withPlace (planOf reading) replaced size)) ⌝ }
+{
+    plan_judge::image_size(plan_listed(reading, replaced, size)) == 0
 }
 
 // ---- the view
@@ -131,7 +149,7 @@ pub fn verdict_listed(reading: Reading, size: u64, replaced: u64, shown: u64) ->
     if count <= shown {
         return Verdict::refuse(Refusal::NO_SUCH_SECTION, 0);
     }
-    if too_long(reading, replaced as usize, size) {
+    if too_long(reading, replaced, size) {
         return Verdict::refuse(Refusal::IMAGE_TOO_LONG, 0);
     }
     Verdict::Accepted

@@ -58,8 +58,8 @@ pub struct Summed {
 
 // ---- begin
 
-// The state of a refused plan.
-fn empty() -> Writing
+// The state of a refused plan, which writes nothing.
+pub fn empty() -> Writing
     ensures { λ r. ⌜ r ≡ emptyWriting ⌝ }
 {
     let none = Place {
