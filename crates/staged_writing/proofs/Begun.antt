@@ -1,8 +1,7 @@
 -- Beginning to write a staged view: the answer by the view's verdict, and that the base's own reading gives the base's answer.
 use Prim.Native.Nat.{ℕ, zero, suc, _≤_}
-use mathlib.Core.Path.{_≡_, refl, sym, ap, ap₂, _∙_}
+use mathlib.Core.Path.{_≡_, refl, ap, ap₂, _∙_}
 use mathlib.Core.List.{List, [], _∷_}
-use native.Mathlib.Omega.{arith}
 use native.Mathlib.Nat.{not-suc-le-zero, le-of-suc-le-suc}
 use lib.ListN.{length, getD}
 use Rattle.eif.specs.Numbers.{sizeLimit}
@@ -13,10 +12,9 @@ use Rattle.eif.specs.Plan.{dataBefore, plainSize, planOf, planVerdict, planLeng
 use Rattle.eif.specs.declared.Plan.{Plan}
 use Rattle.eif.specs.declared.Reading.{Reading}
 use Rattle.eif.specs.declared.Refusal.{Refusal}
-use Rattle.eif.specs.declared.Section.{Section}
 use Rattle.eif.specs.declared.Verdict.{Verdict}
 use Rattle.eif.specs.declared.Verdict.the-variants.{Accepted, Refused}
-use Rattle.plain_laws.proofs.PlanRules.{Planned, →planned}
+use Rattle.plain_laws.proofs.PlanRules.{→planned}
 use Rattle.staged.specs.Staged.{withPlace, stagedPlan, stagedVerdict}
 use Rattle.staged.specs.View.{stagedView}
 use Rattle.staged.specs.Listed.{listedVerdict, listedView}
@@ -24,10 +22,9 @@ use Rattle.staged.specs.declared.Staged.{Staged}
 use Rattle.staged.proofs.Accept.{staged→}
 use Rattle.staged.proofs.Afresh.{changedPlan, plan-is, changed-planned}
 use Rattle.staged.proofs.Listed.{verdict-agrees, view-agrees}
-use Rattle.writing.specs.Writing.{startOf, emptyWriting, begun}
+use Rattle.writing.specs.Writing.{startWriting, emptyWriting, writingBegun}
 use Rattle.writing.specs.declared.Begun.{Begun}
 use Rattle.staged_writing.specs.StagedWriting.{begunWith, stagedBegun, listedBegun}
-use Rattle.staged_writing.specs.declared.StagedBegun.{StagedBegun}
 
 -- past its end a list has the blank
 pub getD-past : {A : Type 0} (l : List A) (i : ℕ) (d : A) → length l ≤ i → getD l i d ≡ d
@@ -48,18 +45,18 @@ module _ (x : Reading) (end size k field : ℕ) where
   begun-refused r e = simp e
 
   pub begun-listed : listedVerdict x size k k ≡ Accepted
-      → begunWith (begun (withPlace (planOf x) k size) field .state) (listedView x end size k k .sections) (begun (withPlace (planOf x) k size) field .written) ≡ listedBegun x end size k field
+      → begunWith (writingBegun (withPlace (planOf x) k size) field .state) (listedView x end size k k .sections) (writingBegun (withPlace (planOf x) k size) field .written) ≡ listedBegun x end size k field
   unfolding listedBegun
   begun-listed e = simp e
 
 -- ---- from the base
 
 module _ (s r : List ℕ) (k field : ℕ) where
-  abbrev plan : Plan
-  plan = stagedPlan s k (length r)
+  abbrev freshPlan : Plan
+  freshPlan = stagedPlan s k (length r)
 
   -- the plan of the image written afresh is accepted
-  pub plan-accepted : stagedVerdict s (length r) k k ≡ Accepted → planVerdict plan (dataBefore (plan .places) (plan .count)) ≡ Accepted
+  pub plan-accepted : stagedVerdict s (length r) k k ≡ Accepted → planVerdict freshPlan (dataBefore (freshPlan .places) (freshPlan .count)) ≡ Accepted
   plan-accepted e =
       let a = staged→ s (length r) k k e in
       let is = plan-is s r k (a .accepted) (length r) in
@@ -68,13 +65,13 @@ module _ (s r : List ℕ) (k field : ℕ) where
       let q = changedPlan s r k (a .accepted) (length r) in
       rw is (→planned q (dataBefore (q .places) (q .count)) (record { fields = p .fields; types = p .types; small = p .small; sized = refl }))
 
-  begun-plan : stagedVerdict s (length r) k k ≡ Accepted → begun plan field ≡ record { state = startOf plan field; written = writtenFor Accepted (plainSize plan) }
-  unfolding begun planLength
+  begun-plan : stagedVerdict s (length r) k k ≡ Accepted → writingBegun freshPlan field ≡ record { state = startWriting freshPlan field; written = writtenFor Accepted (plainSize freshPlan) }
+  unfolding writingBegun planLength
   begun-plan e = rw (plan-accepted e) refl
 
   by-verdict : (v : Verdict) → stagedVerdict s (length r) k k ≡ v
-      → begunWith (beside v (begun plan field .state) emptyWriting) (stagedView s (length r) k k .sections) (beside v (begun plan field .written) (writtenFor v 0))
-      ≡ begunWith (beside v (startOf plan field) emptyWriting) (stagedView s (length r) k k .sections) (writtenFor v (plainSize plan))
+      → begunWith (beside v (writingBegun freshPlan field .state) emptyWriting) (stagedView s (length r) k k .sections) (beside v (writingBegun freshPlan field .written) (writtenFor v 0))
+      ≡ begunWith (beside v (startWriting freshPlan field) emptyWriting) (stagedView s (length r) k k .sections) (writtenFor v (plainSize freshPlan))
   by-verdict (Refused f) e = refl
   by-verdict Accepted e = ap (λ (b : Begun). begunWith (b .state) (stagedView s (length r) k k .sections) (b .written)) (begun-plan e)
 
@@ -82,6 +79,6 @@ module _ (s r : List ℕ) (k field : ℕ) where
   pub begun-agrees : listedBegun (readImage s) (length s) (length r) k field ≡ stagedBegun s r k field
   unfolding listedBegun stagedBegun stagedPlan
   begun-agrees =
-      ap₂ (λ (v : Verdict) (w : Staged). begunWith (beside v (begun plan field .state) emptyWriting) (w .sections) (beside v (begun plan field .written) (writtenFor v 0)))
+      ap₂ (λ (v : Verdict) (w : Staged). begunWith (beside v (writingBegun freshPlan field .state) emptyWriting) (w .sections) (beside v (writingBegun freshPlan field .written) (writtenFor v 0)))
       (verdict-agrees s (length r) k k) (view-agrees s (length r) k k)
       ∙ by-verdict (stagedVerdict s (length r) k k) refl

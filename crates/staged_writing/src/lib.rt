@@ -7,7 +7,7 @@ ghost use mathlib.Core.Path.{_≡_};
 ghost use lib.ListN.{length};
 ghost use Rattle.octets.specs.Over.{over};
 ghost use Rattle.eif.specs.Reading.{sectionIn};
-ghost use Rattle.writing.specs.Writing.{stepBytes, summed};
+ghost use Rattle.writing.specs.Writing.{stepBytes, writingSummed};
 ghost use Rattle.staged_writing.specs.StagedWriting.{listedBegun, stagedBegun, dueData, stagedStepped};
 use eif::PLACES;
 use eif::Reading;
@@ -40,7 +40,13 @@ pub struct StagedStepped {
 // ---- begin
 
 // Begins from a reading of a base of `end` bytes, with a replacement of `size` bytes for one section; `checksum` is the number for the checksum field.
-pub fn begin_listed(reading: Reading, end: u64, size: u64, replaced: u64, checksum: u32) -> StagedBegun
+pub fn begin_listed(
+    reading: Reading,
+    end: u64,
+    size: u64,
+    replaced: u64,
+    checksum: u32,
+) -> StagedBegun
     ensures { λ r. ⌜ r ≡ listedBegun reading end size replaced checksum ⌝ }
 {
     let view = staged_view::judge_listed(reading, end, size, replaced, replaced);
@@ -133,7 +139,7 @@ pub fn step<'a>(
 
 // 15 where data is missing, otherwise the checksum of the image written afresh.
 pub fn finish(state: StagedWriting) -> Summed
-    ensures { λ r. ⌜ r ≡ summed (state .writing) ⌝ }
+    ensures { λ r. ⌜ r ≡ writingSummed (state .writing) ⌝ }
 {
     let writing = state.writing;
     writing::finish(writing)

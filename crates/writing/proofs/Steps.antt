@@ -1,16 +1,16 @@
 -- The code's steps against the definitions.
-use Prim.Native.Nat.{ℕ, suc, _+_, _-_, _<_, _≤_, min}
+use Prim.Native.Nat.{ℕ, suc, _+_, _-_, _<_, _≤_}
 use mathlib.Core.Path.{_≡_, refl, sym, ap, _∙_}
 use mathlib.Core.Bool.{true, false}
 use mathlib.Core.List.{List, [], _++_}
 use native.Mathlib.Omega.{arith}
 use borrow.Author.Tests.{eq-eqb, ne-eqb, lt-ltb, le-ltb, ltb-true}
 use lib.Dec.{ltb, leb}
-use lib.ListN.{length, take, drop}
+use lib.ListN.{take}
 use lib.Seq.{take-at}
 use Rattle.octets.specs.Bytes.{beBytes}
 use Rattle.octets.proofs.Logic.{both-true}
-use Rattle.crc32.specs.Crc.{crcFrom, ones32}
+use Rattle.crc32.specs.Crc.{crcFrom}
 use Rattle.crc32.proofs.Linear.{crcFrom-append}
 use Rattle.eif.specs.Numbers.{placeCount, sizeLimit, dataLengthDiffers}
 use Rattle.eif.specs.Layout.{headerSize, checksumAt}
@@ -19,18 +19,14 @@ use Rattle.eif.specs.Plan.{placeAt, plainSize, headerBytes, sectionHeader, plan
 use Rattle.eif.specs.declared.Place.{Place}
 use Rattle.eif.specs.declared.Plan.{Plan}
 use Rattle.eif.specs.declared.Refusal.{Refusal}
-use Rattle.eif.specs.declared.Verdict.{Verdict}
 use Rattle.eif.specs.declared.Verdict.the-variants.{Accepted, Refused}
 use Rattle.eif.specs.declared.Written.{Written}
 use Rattle.eif_lemmas.proofs.Table.{join-next}
 use Rattle.plain_laws.proofs.Shape.{length-header}
 use Rattle.plan_judge.specs.Size.{imageSize}
 use Rattle.plan_judge.proofs.Size.{image-limited, limited-in, packed-before}
-use Rattle.writing.specs.Writing.{startOf, emptyWriting, begun, sectionsIn, ownHeaders, dataStep, dataBytes, headerStep, headerPart, sectionStep, nextHeader, beginsSection, stepped, stepBytes, finishVerdict, finalChecksum, summed}
+use Rattle.writing.specs.Writing.{startWriting, emptyWriting, writingBegun, sectionsIn, ownHeaders, dataStep, dataBytes, headerStep, headerPart, sectionStep, nextHeader, beginsSection, writingStepped, stepBytes, finishVerdict, finalChecksum, writingSummed}
 use Rattle.writing.specs.declared.Writing.{Writing}
-use Rattle.writing.specs.declared.Begun.{Begun}
-use Rattle.writing.specs.declared.Stepped.{Stepped}
-use Rattle.writing.specs.declared.Summed.{Summed}
 
 -- ---- begin
 
@@ -46,33 +42,33 @@ module _ (p : Plan) (n : ℕ) where
   pub header-front : take checksumAt (headerBytes p ++ beBytes 4 n) ≡ headerBytes p
   header-front = take-at (headerBytes p) (beBytes 4 n) checksumAt (length-header p)
 
-  pub begun-refused : (w : Written) (r : Refusal) → w ≡ planLength p → w .verdict ≡ Refused r → record { state = emptyWriting; written = w } ≡ begun p n
-  unfolding begun
+  pub begun-refused : (w : Written) (r : Refusal) → w ≡ planLength p → w .verdict ≡ Refused r → record { state = emptyWriting; written = w } ≡ writingBegun p n
+  unfolding writingBegun
   begun-refused w r e v = let q : planLength p .verdict ≡ Refused r = ap (λ (x : Written). x .verdict) (sym e) ∙ v in rw (e, q) refl
 
-  pub begun-accepted : (w : Written) → w ≡ planLength p → w .verdict ≡ Accepted → record { state = startOf p n; written = w } ≡ begun p n
-  unfolding begun
+  pub begun-accepted : (w : Written) → w ≡ planLength p → w .verdict ≡ Accepted → record { state = startWriting p n; written = w } ≡ writingBegun p n
+  unfolding writingBegun
   begun-accepted w e v = let q : planLength p .verdict ≡ Accepted = ap (λ (x : Written). x .verdict) (sym e) ∙ v in rw (e, q) refl
 
 -- ---- the rows of a step
 
 module _ (a : Writing) (lent : List ℕ) (room : ℕ) where
-  pub step-data : (a .«section_left» ≡ 0 → ⊥) → (dataStep a lent room ≡ stepped a lent room) × (dataBytes a lent room ≡ stepBytes a lent room)
-  unfolding stepped stepBytes
+  pub step-data : (a .«section_left» ≡ 0 → ⊥) → (dataStep a lent room ≡ writingStepped a lent room) × (dataBytes a lent room ≡ stepBytes a lent room)
+  unfolding writingStepped stepBytes
   step-data h = (simp (ne-eqb (a .«section_left») 0 h), simp (ne-eqb (a .«section_left») 0 h))
 
   module _ (e : a .«section_left» ≡ 0) where
-    pub step-header : a .«header_written» < headerSize → (headerStep a room ≡ stepped a lent room) × (headerPart a room ≡ stepBytes a lent room)
-    unfolding stepped stepBytes
+    pub step-header : a .«header_written» < headerSize → (headerStep a room ≡ writingStepped a lent room) × (headerPart a room ≡ stepBytes a lent room)
+    unfolding writingStepped stepBytes
     step-header h = (simp (eq-eqb (a .«section_left») 0 e, lt-ltb (a .«header_written») headerSize h), simp (eq-eqb (a .«section_left») 0 e, lt-ltb (a .«header_written») headerSize h))
 
     module _ (g : headerSize ≤ a .«header_written») where
-      pub step-section : beginsSection a room ≡ true → (sectionStep a ≡ stepped a lent room) × (nextHeader a ≡ stepBytes a lent room)
-      unfolding stepped stepBytes
+      pub step-section : beginsSection a room ≡ true → (sectionStep a ≡ writingStepped a lent room) × (nextHeader a ≡ stepBytes a lent room)
+      unfolding writingStepped stepBytes
       step-section h = (simp (eq-eqb (a .«section_left») 0 e, le-ltb (a .«header_written») headerSize g, h), simp (eq-eqb (a .«section_left») 0 e, le-ltb (a .«header_written») headerSize g, h))
 
-      pub step-none : beginsSection a room ≡ false → (record { state = a; taken = 0; written = 0 } ≡ stepped a lent room) × ([] ≡ stepBytes a lent room)
-      unfolding stepped stepBytes
+      pub step-none : beginsSection a room ≡ false → (record { state = a; taken = 0; written = 0 } ≡ writingStepped a lent room) × ([] ≡ stepBytes a lent room)
+      unfolding writingStepped stepBytes
       step-none h = (simp (eq-eqb (a .«section_left») 0 e, le-ltb (a .«header_written») headerSize g, h), simp (eq-eqb (a .«section_left») 0 e, le-ltb (a .«header_written») headerSize g, h))
 
 -- whether a section is begun
@@ -99,14 +95,14 @@ headers-next c l end i h =
     ∙ ap (crcFrom c) (sym (join-next (λ j. sectionHeader (placeAt l j)) end i h))
 
 module _ (a : Writing) where
-  pub summed-none : a .count ≡ 0 → record { verdict = refuse dataLengthDiffers 0; checksum = 0 } ≡ summed a
-  unfolding summed finishVerdict
+  pub summed-none : a .count ≡ 0 → record { verdict = refuse dataLengthDiffers 0; checksum = 0 } ≡ writingSummed a
+  unfolding writingSummed finishVerdict
   summed-none e = simp (eq-eqb (a .count) 0 e)
 
-  pub summed-missing : (a .count ≡ 0 → ⊥) → (a .«data_left» ≡ 0 → ⊥) → record { verdict = refuse dataLengthDiffers 0; checksum = 0 } ≡ summed a
-  unfolding summed finishVerdict
+  pub summed-missing : (a .count ≡ 0 → ⊥) → (a .«data_left» ≡ 0 → ⊥) → record { verdict = refuse dataLengthDiffers 0; checksum = 0 } ≡ writingSummed a
+  unfolding writingSummed finishVerdict
   summed-missing h g = simp (ne-eqb (a .count) 0 h, ne-eqb (a .«data_left») 0 g)
 
-  pub summed-whole : (a .count ≡ 0 → ⊥) → a .«data_left» ≡ 0 → record { verdict = Accepted; checksum = finalChecksum a } ≡ summed a
-  unfolding summed finishVerdict
+  pub summed-whole : (a .count ≡ 0 → ⊥) → a .«data_left» ≡ 0 → record { verdict = Accepted; checksum = finalChecksum a } ≡ writingSummed a
+  unfolding writingSummed finishVerdict
   summed-whole h e = simp (ne-eqb (a .count) 0 h, eq-eqb (a .«data_left») 0 e)

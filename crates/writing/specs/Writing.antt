@@ -25,8 +25,8 @@ use Rattle.writing.specs.declared.Summed.{Summed}
 -- ---- begin
 
 -- the state before the first byte of an accepted plan's image, with a number for the checksum field
-unfoldable pub startOf : Plan → ℕ → Writing
-startOf p field =
+unfoldable pub startWriting : Plan → ℕ → Writing
+startWriting p field =
     record {
       «header_written» = 0;
       «sections_begun» = 0;
@@ -52,8 +52,8 @@ emptyWriting =
       checksum = 0;
     }
 
-unfoldable pub begun : Plan → ℕ → Begun
-begun p field = record { state = beside (planLength p .verdict) (startOf p field) emptyWriting; written = planLength p }
+unfoldable pub writingBegun : Plan → ℕ → Begun
+writingBegun p field = record { state = beside (planLength p .verdict) (startWriting p field) emptyWriting; written = planLength p }
 
 -- ---- a step
 
@@ -135,8 +135,8 @@ sectionStep a =
     }
 
 -- the four rows of FORMAT.md: the first that applies decides the answer and the bytes written
-unfoldable pub stepped : Writing → List ℕ → ℕ → Stepped
-stepped a lent room =
+unfoldable pub writingStepped : Writing → List ℕ → ℕ → Stepped
+writingStepped a lent room =
     choose (not (eqb (a .«section_left») 0)) (dataStep a lent room)
     (choose (ltb (a .«header_written») headerSize) (headerStep a room)
     (choose (beginsSection a room) (sectionStep a)
@@ -160,5 +160,5 @@ unfoldable pub finalChecksum : Writing → ℕ
 finalChecksum a =
     bitXor ones32 (crcFrom (a .checksum) (ownHeaders (a .places) (sectionsIn a - a .«sections_begun») (a .«sections_begun»)))
 
-unfoldable pub summed : Writing → Summed
-summed a = record { verdict = finishVerdict a; checksum = beside (finishVerdict a) (finalChecksum a) 0 }
+unfoldable pub writingSummed : Writing → Summed
+writingSummed a = record { verdict = finishVerdict a; checksum = beside (finishVerdict a) (finalChecksum a) 0 }

@@ -11,7 +11,7 @@ ghost use Rattle.crc32.specs.Crc.{crcFrom};
 ghost use Rattle.eif.specs.Numbers.{placeCount, sizeLimit};
 ghost use Rattle.eif.specs.Layout.{headerSize};
 ghost use Rattle.eif.specs.Plan.{plainSize};
-ghost use Rattle.writing.specs.Writing.{emptyWriting, startOf, begun, sectionsIn, ownHeaders, dataStep, dataBytes, headerStep, headerPart, sectionStep, nextHeader, beginsSection, stepped, stepBytes, summed};
+ghost use Rattle.writing.specs.Writing.{emptyWriting, startWriting, writingBegun, sectionsIn, ownHeaders, dataStep, dataBytes, headerStep, headerPart, sectionStep, nextHeader, beginsSection, writingStepped, stepBytes, writingSummed};
 use eif::DataLength;
 use eif::Header;
 use eif::PLACES;
@@ -82,7 +82,7 @@ pub fn empty() -> Writing
 // The state before the first byte of the image of an accepted plan.
 fn start(plan: Plan, checksum: u32) -> Writing
     requires { ⌜ (plan .count ≤ placeCount) × (plainSize plan ≤ sizeLimit) ⌝ }
-    ensures { λ r. ⌜ r ≡ startOf plan checksum ⌝ }
+    ensures { λ r. ⌜ r ≡ startWriting plan checksum ⌝ }
 {
     let header = eif_writer::header(plan, checksum);
     let places = plan.places;
@@ -100,7 +100,7 @@ fn start(plan: Plan, checksum: u32) -> Writing
 
 // Begins the image of a plan; `checksum` is the number for its checksum field.
 pub fn begin(plan: Plan, checksum: u32) -> Begun
-    ensures { λ r. ⌜ r ≡ begun plan checksum ⌝ }
+    ensures { λ r. ⌜ r ≡ writingBegun plan checksum ⌝ }
 {
     let written = plan_judge::length(plan);
     let verdict = written.verdict;
@@ -225,7 +225,7 @@ fn begins(state: Writing, room: usize) -> bool
 
 // Writes the image's next bytes over the start of the output; later bytes stay. Takes data only for the section begun last.
 pub fn step(state: Writing, lent: &[u8], out: &mut [u8]) -> Stepped
-    ensures { λ r. ⌜ r ≡ stepped state (now (lent .entry)) (length (now (out .entry))) ⌝ }
+    ensures { λ r. ⌜ r ≡ writingStepped state (now (lent .entry)) (length (now (out .entry))) ⌝ }
     ensures { λ _. ⌜ now (out .exit) ≡ over (now (out .entry)) 0 (stepBytes state (now (lent .entry)) (length (now (out .entry)))) ⌝ }
 {
     if state.section_left != 0 {
@@ -263,7 +263,7 @@ fn remainder_after(checksum: u32, places: [Place; PLACES], from: usize, end: usi
 
 // 15 where data is missing, otherwise the checksum of the plain image.
 pub fn finish(state: Writing) -> Summed
-    ensures { λ r. ⌜ r ≡ summed state ⌝ }
+    ensures { λ r. ⌜ r ≡ writingSummed state ⌝ }
 {
     let missing = Summed {
         verdict: Verdict::refuse(Refusal::DATA_LENGTH_DIFFERS, 0),

@@ -1,5 +1,4 @@
 -- `staged_view::with_length` meets its contract: past the places nothing is set.
-use Prim.Native.Nat.{_≤_}
 use mathlib.Core.Path.{_≡_, refl, sym}
 use native.Mathlib.Omega.{arith}
 use borrow.Author.Needs.{needs}

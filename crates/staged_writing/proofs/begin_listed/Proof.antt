@@ -1,12 +1,12 @@
 -- `staged_writing::begin_listed` meets its contract: the view's refusal, or the plan's own answer.
-use mathlib.Core.Path.{_≡_, sym, ap, ap₂, _∙_}
+use mathlib.Core.Path.{sym, ap, ap₂, _∙_}
 use mathlib.Core.List.{List}
 use borrow.Author.Needs.{needs}
 use Rattle.eif.specs.declared.Plan.{Plan}
 use Rattle.eif.specs.declared.Section.{Section}
 use Rattle.eif.specs.declared.Verdict.{Verdict}
 use Rattle.staged.specs.declared.Staged.{Staged}
-use Rattle.writing.specs.Writing.{emptyWriting, begun}
+use Rattle.writing.specs.Writing.{emptyWriting, writingBegun}
 use Rattle.writing.specs.declared.Begun.{Begun}
 use Rattle.writing.specs.declared.Writing.{Writing}
 use Rattle.staged_writing.specs.StagedWriting.{begunWith}
@@ -36,7 +36,7 @@ returns-2 c =
     let e = j .judge-listed .ensures in
     let accepted = sym (listed-verdict (a .reading) (a .end) (a .size) (a .replaced) (a .checksum)) ∙ ap (λ (v : Staged). v .verdict) (sym e) ∙ t .1 in
     ap₂ (λ (x : Begun) (v : Staged). begunWith (x .state) (v .sections) (x .written))
-    (b .begin .ensures ∙ ap (λ (q : Plan). begun q (a .checksum)) (p .plan-listed .ensures)) e
+    (b .begin .ensures ∙ ap (λ (q : Plan). writingBegun q (a .checksum)) (p .plan-listed .ensures)) e
     ∙ begun-listed (a .reading) (a .end) (a .size) (a .replaced) (a .checksum) accepted
 
 pub begin-listed-spec : {M : Type 1} → statement M

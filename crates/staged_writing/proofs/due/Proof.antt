@@ -2,13 +2,11 @@
 use Prim.Native.Nat.{ℕ, _-_}
 use mathlib.Core.Path.{_≡_, ap, _∙_}
 use mathlib.Core.List.{List}
-use native.Mathlib.Omega.{arith}
 use borrow.Author.Needs.{needs}
 use borrow.Rule.Slice.PartAt.{part-to-end}
 use denote.Ref.{now}
-use lib.ListN.{length, take, drop}
+use lib.ListN.{length, drop}
 use Rattle.eif.specs.Reading.{sectionIn}
-use Rattle.eif.specs.declared.Section.{Section}
 use Rattle.staged.specs.View.{heldBy}
 use Rattle.staged_writing.specs.StagedWriting.{dueData}
 use Rattle.staged_writing.proofs.due.Statement.{statement}

@@ -1,5 +1,4 @@
 -- `staged_writing::section_at` meets its contract: past the places the section is blank.
-use Prim.Native.Nat.{_≤_}
 use mathlib.Core.Path.{_≡_, refl, sym}
 use native.Mathlib.Omega.{arith}
 use borrow.Author.Needs.{needs}

@@ -6,7 +6,7 @@ use borrow.Author.Needs.{needs}
 use denote.Ref.{now}
 use lib.ListN.{length}
 use Rattle.octets.specs.Over.{over}
-use Rattle.writing.specs.Writing.{stepped, stepBytes}
+use Rattle.writing.specs.Writing.{writingStepped, stepBytes}
 use Rattle.writing.specs.declared.Stepped.{Stepped}
 use Rattle.staged_writing.specs.StagedWriting.{stagedStepped}
 use Rattle.staged_writing.proofs.step.Statement.{statement}
@@ -20,7 +20,7 @@ returns c =
     let a = d .before .before .before .before .before .before .args in
     let room = length (now (a .out)) in (
       ap (λ (x : Stepped). record { state = record { writing = x .state; sections = a .state .sections }; written = x .written })
-          (t .step .ensures .0 ∙ ap (λ (l : List ℕ). stepped (a .state .writing) l room) (d .due .ensures)),
+          (t .step .ensures .0 ∙ ap (λ (l : List ℕ). writingStepped (a .state .writing) l room) (d .due .ensures)),
       t .step .ensures .1 ∙ ap (λ (l : List ℕ). over (now (a .out)) 0 (stepBytes (a .state .writing) l room)) (d .due .ensures),
     )
 

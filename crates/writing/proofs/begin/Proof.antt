@@ -5,7 +5,6 @@ use Rattle.eif.specs.Plan.{dataBefore, planVerdict, planLength}
 use Rattle.eif.specs.declared.Verdict.the-variants.{Accepted}
 use Rattle.eif.specs.declared.Written.{Written}
 use Rattle.plain_laws.proofs.PlanRules.{planned→}
-use Rattle.writing.specs.declared.Begun.{Begun}
 use Rattle.writing.specs.declared.Writing.{Writing}
 use Rattle.writing.proofs.Steps.{begun-refused, begun-accepted}
 use Rattle.writing.proofs.begin.Statement.{statement}

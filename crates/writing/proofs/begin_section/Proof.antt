@@ -1,7 +1,6 @@
 -- `writing::begin_section` meets its contract: the own header of the next section is written and checksummed.
 use Prim.Native.Nat.{ℕ}
 use mathlib.Core.Path.{ap, _∙_}
-use native.Mathlib.Omega.{arith}
 use borrow.Author.Needs.{needs}
 use denote.Ref.{now}
 use Rattle.octets.specs.Over.{over}

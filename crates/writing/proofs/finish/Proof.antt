@@ -1,6 +1,6 @@
 -- `writing::finish` meets its contract: 15 where data is missing; otherwise the remainder goes on over the own headers that are left.
 use Prim.Native.Nat.{ℕ, _-_}
-use mathlib.Core.Path.{_≡_, ap, _∙_}
+use mathlib.Core.Path.{ap, _∙_}
 use native.Mathlib.Omega.{arith}
 use borrow.Author.Needs.{needs}
 use Rattle.crc32.specs.Crc.{crcFrom, ones32}
@@ -8,7 +8,6 @@ use lib.Bits.{bitXor}
 use Rattle.eif.specs.declared.Verdict.{Verdict}
 use Rattle.eif.specs.declared.Verdict.the-variants.{Accepted}
 use Rattle.writing.specs.Writing.{ownHeaders, finalChecksum}
-use Rattle.writing.specs.declared.Summed.{Summed}
 use Rattle.writing.proofs.Steps.{summed-none, summed-missing, summed-whole}
 use Rattle.writing.proofs.finish.Statement.{statement}
 use Rattle.writing.proofs.finish.Tie as tie

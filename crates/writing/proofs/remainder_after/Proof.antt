@@ -1,7 +1,6 @@
 -- `writing::remainder_after` meets its contract: the remainder, taken on over the own headers from place i on, is the remainder over all of them.
 use Prim.Native.Nat.{ℕ, suc, _-_}
-use mathlib.Core.Path.{_≡_, refl, sym, ap, _∙_}
-use mathlib.Core.List.{List}
+use mathlib.Core.Path.{_≡_, refl, ap, _∙_}
 use native.Mathlib.Omega.{arith}
 use native.Mathlib.Numerals.{add-one}
 use borrow.Author.Needs.{needs}
@@ -25,8 +24,8 @@ loop-again c =
     let v = h .before .before .before .loop in
     let a = h .before .before .before .before .args in
     rw add-one (
-      ap (λ (k : ℕ). crcFrom k (ownHeaders (a .t2) (a .end - suc (v .i)) (suc (v .i)))) (c .update .ensures ∙ ap (crcFrom (v .remainder)) (h .section-header .ensures))
-          ∙ headers-next (v .remainder) (a .t2) (a .end) (v .i) (omega arith) ∙ v .inv
+    ap (λ (k : ℕ). crcFrom k (ownHeaders (a .t2) (a .end - suc (v .i)) (suc (v .i)))) (c .update .ensures ∙ ap (crcFrom (v .remainder)) (h .section-header .ensures))
+    ∙ headers-next (v .remainder) (a .t2) (a .end) (v .i) (omega arith) ∙ v .inv
     )
 
 returns : tie.Need-returns Inv-loop μ-loop

@@ -1,6 +1,6 @@
 -- `writing::start` meets its contract: the plan has an image, so the header and the length of the data are those of the plan.
 use Prim.Native.Nat.{ℕ}
-use mathlib.Core.Path.{_≡_, sym, ap, ap₂, _∙_}
+use mathlib.Core.Path.{sym, ap, ap₂, _∙_}
 use mathlib.Core.List.{List}
 use borrow.Author.Needs.{needs}
 use lib.ListN.{take}
@@ -10,7 +10,7 @@ use Rattle.eif.specs.Plan.{dataBefore, headerBytes}
 use Rattle.eif.specs.declared.Plan.{Plan}
 use Rattle.eif_writer.proofs.Image.{header-some}
 use Rattle.plan_judge.proofs.Size.{data-some}
-use Rattle.writing.specs.Writing.{startOf}
+use Rattle.writing.specs.Writing.{startWriting}
 use Rattle.writing.specs.declared.Writing.{Writing}
 use Rattle.writing.proofs.Steps.{has-image, header-front}
 use Rattle.writing.proofs.start.Statement.{statement}
@@ -31,7 +31,7 @@ with p size header remainder =
     }
 
 returns : tie.Need-returns
-unfolding startOf with
+unfolding startWriting with
 returns c =
     let d = c .before .before .before .before in
     let h = d .before .before in

@@ -1,12 +1,10 @@
 -- `writing::step` meets its contract: each return is a row of the definition.
-use mathlib.Core.Path.{_≡_, sym, ap, _∙_}
-use mathlib.Core.Bool.{true, false}
+use mathlib.Core.Path.{sym, ap, _∙_}
 use native.Mathlib.Omega.{arith}
 use borrow.Author.Needs.{needs}
 use denote.Ref.{now}
 use lib.ListN.{length}
 use Rattle.octets.specs.Over.{over}
-use Rattle.writing.specs.Writing.{beginsSection}
 use Rattle.writing.proofs.Steps.{step-data, step-header, step-section, step-none, begins-inside}
 use Rattle.writing.proofs.step.Statement.{statement}
 use Rattle.writing.proofs.step.Tie as tie
