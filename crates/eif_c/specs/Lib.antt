@@ -7,4 +7,5 @@ pub mod Strict
 pub mod Signature
 pub mod Assembly
 pub mod Staging
+pub mod WritePieces
 pub mod Worked

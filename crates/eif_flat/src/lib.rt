@@ -109,7 +109,7 @@ pub fn position_of(verdict: Verdict) -> u64
     }
 }
 
-fn answer(verdict: Verdict, length: u64) -> EifAnswer
+pub fn answer(verdict: Verdict, length: u64) -> EifAnswer
     ensures { λ r. ⌜ r ≡ flat verdict length ⌝ }
 {
     EifAnswer {
