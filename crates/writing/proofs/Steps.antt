@@ -4,7 +4,7 @@ use mathlib.Core.Path.{_≡_, refl, sym, ap, _∙_}
 use mathlib.Core.Bool.{true, false}
 use mathlib.Core.List.{List, [], _++_}
 use native.Mathlib.Omega.{arith}
-use borrow.Author.Tests.{eq-eqb, ne-eqb, lt-ltb, le-ltb, ltb-true}
+use borrow.Author.Tests.{eq-eqb, ne-eqb, lt-ltb, le-ltb, ltb-true, leb-true}
 use lib.Dec.{ltb, leb}
 use lib.ListN.{take}
 use lib.Seq.{take-at}
@@ -84,6 +84,10 @@ module _ (a : Writing) (room : ℕ) where
   pub begins-inside : beginsSection a room ≡ true → a .«sections_begun» < sectionsIn a
   unfolding beginsSection
   begins-inside e = ltb-true _ _ (both-true (ltb (a .«sections_begun») (sectionsIn a)) (leb 12 room) e .0)
+
+  pub begins-room : beginsSection a room ≡ true → 12 ≤ room
+  unfolding beginsSection
+  begins-room e = leb-true _ _ (both-true (ltb (a .«sections_begun») (sectionsIn a)) (leb 12 room) e .1)
 
 -- ---- finish
 

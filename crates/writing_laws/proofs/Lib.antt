@@ -1,0 +1,3 @@
+pub mod Sections
+pub mod Reached
+pub mod Runs

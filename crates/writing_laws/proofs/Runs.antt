@@ -1,0 +1,376 @@
+-- The laws of writing an image in pieces: what a run of steps from `begin` takes, writes and answers, however data and output buffers are cut. The
+-- only hypothesis is that begin accepts the plan.
+use Prim.Native.Nat.{ℕ, suc, _+_, _-_, _*_, _<_, _≤_, min}
+use mathlib.Core.Path.{_≡_, refl, sym, ap, ap₂, _∙_}
+use mathlib.Core.Bool.{Bool, true, false, true≢false}
+use mathlib.Core.List.{List, [], _++_, append-assoc, append-nil}
+use mathlib.Core.Logic.{⊎-elim}
+use native.Mathlib.Omega.{arith}
+use borrow.Author.Tests.{eq-eqb, ne-eqb, lt-ltb, le-leb}
+use lib.Bits.{bitXor}
+use lib.ListN.{length, take, drop, length-append, length-take, length-drop, take-append-drop}
+use lib.Seq.{length-take-le, take-at, drop-at, take-all, take-append-le}
+use Rattle.octets.specs.Bytes.{beBytes}
+use Rattle.octets.specs.Over.{over}
+use Rattle.octets.proofs.Logic.{equal-or-not, le-or-lt}
+use Rattle.octets.proofs.Over.{over-parts}
+use Rattle.crc32.specs.Crc.{crc32, crcFrom, ones32}
+use Rattle.crc32.proofs.Linear.{crcFrom-append}
+use Rattle.eif.specs.Numbers.{placeCount, dataLengthDiffers}
+use Rattle.eif.specs.Answers.{refuse, beside}
+use Rattle.eif.specs.Layout.{headerSize, sectionHeaderSize, checksumAt}
+use Rattle.eif.specs.Table.{joinFrom}
+use Rattle.eif.specs.Plan.{placeAt, plannedSize, dataBefore, plainSize, headerBytes, sectionHeader, sectionBytes, bodyBytes, plainImage, planVerdict, planLength}
+use Rattle.eif.specs.declared.Place.{Place}
+use Rattle.eif.specs.declared.Plan.{Plan}
+use Rattle.eif.specs.declared.Verdict.{Verdict}
+use Rattle.eif.specs.declared.Verdict.the-variants.{Accepted}
+use Rattle.plain_laws.proofs.PlanRules.{Planned, planned→}
+use Rattle.plain_laws.proofs.Shape.{before-le, length-header, length-sectionHeader}
+use Rattle.plan_judge.proofs.Size.{packed-before}
+use Rattle.writing.specs.Writing.{startWriting, emptyWriting, writingBegun, sectionsIn, ownHeaders, dataBytes, headerPart, beginsSection, nextHeader, dataStep, headerStep, sectionStep, writingStepped, stepBytes, finishVerdict, finalChecksum, writingSummed}
+use Rattle.writing.specs.declared.Writing.{Writing}
+use Rattle.writing.specs.declared.Summed.{Summed}
+use Rattle.writing.specs.declared.Stepped.{Stepped}
+use Rattle.writing.proofs.Steps.{step-data, step-header, step-section, step-none, begins-if, begins-room, summed-missing, summed-whole}
+use Rattle.writing_laws.specs.Runs.{WriteStep, afterSteps, dataTaken, bytesWritten, imageWith}
+use Rattle.writing_laws.proofs.Sections.{join-add, join-zero, length-sections-so-far, sections-more, sections-rest, sections-kept}
+use Rattle.writing_laws.proofs.Reached.{Reached, reached-start, reached-run}
+
+module _ (p : Plan) (field : ℕ) (ok : planLength p .verdict ≡ Accepted) (ts : List WriteStep) where
+  abbrev places : List Place
+  places = p .places
+
+  -- how much data the plan needs
+  abbrev needed : ℕ
+  needed = dataBefore places (p .count)
+
+  -- the state that begin answers, and the state, the data taken and the bytes written after the run
+  abbrev first : Writing
+  first = writingBegun p field .state
+
+  abbrev last : Writing
+  last = afterSteps first ts
+
+  abbrev taken : List ℕ
+  taken = dataTaken first ts
+
+  abbrev written : List ℕ
+  written = bytesWritten first ts
+
+  planned : Planned p needed
+  unfolding planLength
+  planned = planned→ p needed ok
+
+  few : p .count ≤ placeCount
+  few = planned .fields .few
+
+  first-is : first ≡ startWriting p field
+  unfolding writingBegun
+  first-is = ap (λ (v : Verdict). beside v (startWriting p field) emptyWriting) ok
+
+  reached : Reached p field few taken written last
+  reached = rw first-is (reached-run p field few ts [] [] (startWriting p field) (reached-start p field few))
+
+  abbrev begun : ℕ
+  begun = last .«sections_begun»
+
+  header-long : length (headerBytes p ++ beBytes 4 field) ≡ headerSize
+  header-long = length-append (headerBytes p) (beBytes 4 field) ∙ ap (λ (n : ℕ). n + 4) (length-header p)
+
+  written-long : length written ≡ last .«header_written» + (sectionHeaderSize * begun + length taken)
+  written-long =
+      let r = reached in
+      let s = r .section-sum in
+      ap length (r .bytes-are)
+      ∙ length-append (take (last .«header_written») (headerBytes p ++ beBytes 4 field)) (joinFrom (sectionBytes places taken) begun 0)
+      ∙ ap₂ (λ (m n : ℕ). m + n)
+      (length-take-le (last .«header_written») (headerBytes p ++ beBytes 4 field) (let h = r .header-few in let l = header-long in omega arith))
+      (length-sections-so-far places taken begun (r .last-start) (omega arith))
+
+  -- ---- what is taken
+
+  -- data past the plan's sum is never taken
+  pub data-bounded : length taken ≤ needed
+  data-bounded = let s = reached .data-sum in omega arith
+
+  -- ---- what is written
+
+  -- no more bytes are written than begin answered
+  pub bytes-bounded : length written ≤ plainSize p
+  bytes-bounded =
+      let r = reached in
+      let w = written-long in
+      let b = packed-before places (p .count) in
+      let d = data-bounded in
+      let f = r .begun-few in
+      let h = r .header-few in
+      omega arith
+
+  -- the image is complete when as many bytes are written as begin answered: then all data is taken, and the bytes are the plain image of the plan
+  -- and that data but for the checksum field
+  module _ (whole : length written ≡ plainSize p) where
+    all-begun : (begun ≡ p .count) × (last .«header_written» ≡ headerSize) × (length taken ≡ needed)
+    all-begun =
+        let r = reached in
+        let w = written-long in
+        let b = packed-before places (p .count) in
+        let d = data-bounded in
+        let f = r .begun-few in
+        let h = r .header-few in
+        (omega arith, omega arith, omega arith)
+
+    pub complete-data : length taken ≡ needed
+    complete-data = all-begun .2
+
+    pub complete-bytes : written ≡ imageWith p field taken
+    unfolding imageWith
+    complete-bytes =
+        let a = all-begun in
+        reached .bytes-are
+        ∙ ap₂ (λ (m n : ℕ). take m (headerBytes p ++ beBytes 4 field) ++ joinFrom (sectionBytes places taken) n 0) (a .1) (a .0)
+        ∙ ap (λ (q : List ℕ). q ++ bodyBytes p taken) (take-all headerSize (headerBytes p ++ beBytes 4 field) (let l = header-long in omega arith))
+        ∙ append-assoc (headerBytes p) (beBytes 4 field) (bodyBytes p taken)
+
+    -- begun with the right checksum, it is the plain image
+    pub complete-plain : field ≡ crc32 (headerBytes p ++ bodyBytes p taken) → written ≡ plainImage p taken
+    unfolding plainImage imageWith
+    complete-plain e = complete-bytes ∙ ap (λ (n : ℕ). headerBytes p ++ (beBytes 4 n ++ bodyBytes p taken)) e
+
+  -- ---- finish
+
+  pub finish-missing : (length taken ≡ needed → ⊥) → writingSummed last ≡ record { verdict = refuse dataLengthDiffers 0; checksum = 0 }
+  finish-missing n =
+      let r = reached in
+      let c = r .count-is in
+      let s = r .data-sum in
+      let m = planned .fields .some in
+      sym (summed-missing last (λ z. absurd (omega arith)) (λ z. n (omega arith)))
+
+  module _ (all : length taken ≡ needed) where
+    finish-whole : writingSummed last ≡ record { verdict = Accepted; checksum = finalChecksum last }
+    finish-whole =
+        let r = reached in
+        let c = r .count-is in
+        let s = r .data-sum in
+        let m = planned .fields .some in
+        sym (summed-whole last (λ z. absurd (omega arith)) (omega arith))
+
+    pub finish-accepts : writingSummed last .verdict ≡ Accepted
+    finish-accepts = ap (λ (x : Summed). x .verdict) finish-whole
+
+    -- the checksum of the plain image, also where own headers of sections without data are not written yet
+    pub finish-checksum : writingSummed last .checksum ≡ crc32 (headerBytes p ++ bodyBytes p taken)
+    unfolding finalChecksum crc32
+    finish-checksum =
+        let r = reached in
+        let s = r .section-sum in
+        let f = r .begun-few in
+        let c = r .count-is in
+        let up = before-le places begun (p .count) f in
+        let left : sectionsIn last - begun ≡ p .count - begun = let m = few in omega arith in
+        let sum : begun + (p .count - begun) ≡ p .count = omega arith in
+        let own : ownHeaders (last .places) (sectionsIn last - begun) begun ≡ ownHeaders places (p .count - begun) begun =
+        ap₂ (λ (l : List Place) (n : ℕ). ownHeaders l n begun) (r .places-are) left in
+        let body : joinFrom (sectionBytes places taken) begun 0 ++ ownHeaders places (p .count - begun) begun ≡ bodyBytes p taken =
+        sym (sections-rest places taken begun (p .count - begun) (omega arith)) ∙ ap (λ (n : ℕ). joinFrom (sectionBytes places taken) n 0) sum in
+        ap (λ (x : Summed). x .checksum) finish-whole
+        ∙ ap (bitXor ones32)
+        (ap₂ crcFrom (r .checksum-is) own
+        ∙ sym (crcFrom-append (crcFrom ones32 (headerBytes p)) (joinFrom (sectionBytes places taken) begun 0) (ownHeaders places (p .count - begun) begun))
+        ∙ ap (crcFrom (crcFrom ones32 (headerBytes p))) body
+        ∙ sym (crcFrom-append ones32 (headerBytes p) (bodyBytes p taken)))
+
+  -- an image written to a file, with the checksum put in its place afterwards, is the plain image
+  pub checksum-put : length written ≡ plainSize p → over written checksumAt (beBytes 4 (writingSummed last .checksum)) ≡ plainImage p taken
+  unfolding plainImage imageWith
+  checksum-put whole =
+      let sum = beBytes 4 (crc32 (headerBytes p ++ bodyBytes p taken)) in
+      let h = length-header p in
+      let old = beBytes 4 field in
+      let front : length (headerBytes p ++ old) ≡ headerSize = header-long in
+      let b = packed-before places (p .count) in
+      let image = headerBytes p ++ (old ++ bodyBytes p taken) in
+      let long : length image ≡ plainSize p = ap length (sym (complete-bytes whole)) ∙ whole in
+      ap₂ (λ (l : List ℕ) (n : ℕ). over l checksumAt (beBytes 4 n)) (complete-bytes whole) (finish-checksum (complete-data whole))
+      ∙ over-parts image checksumAt sum (omega arith)
+      ∙ ap₂ (λ (x y : List ℕ). x ++ (sum ++ y)) (take-at (headerBytes p) (old ++ bodyBytes p taken) checksumAt h)
+      (ap (drop headerSize) (sym (append-assoc (headerBytes p) old (bodyBytes p taken))) ∙ drop-at (headerBytes p ++ old) (bodyBytes p taken) headerSize front)
+
+  -- ---- progress
+
+  module _ (lent : List ℕ) (room : ℕ) where
+    abbrev bytes : List ℕ
+    bytes = stepBytes last lent room
+
+    -- what holds of the bytes of each row holds of the bytes of a step
+    by-row : (P : Stepped → List ℕ → Type 0)
+        → ((last .«section_left» ≡ 0 → ⊥) → P (dataStep last lent room) (dataBytes last lent room))
+        → (last .«section_left» ≡ 0 → last .«header_written» < headerSize → P (headerStep last room) (headerPart last room))
+        → (last .«section_left» ≡ 0 → headerSize ≤ last .«header_written» → beginsSection last room ≡ true → P (sectionStep last) (nextHeader last))
+        → (last .«section_left» ≡ 0 → headerSize ≤ last .«header_written» → beginsSection last room ≡ false → P (record { state = last; taken = 0; written = 0 }) [])
+        → P (writingStepped last lent room) bytes
+    by-row P one two three four =
+        ⊎-elim
+        (λ (e : last .«section_left» ≡ 0).
+        ⊎-elim
+        (λ (h : headerSize ≤ last .«header_written»). by-section e h (beginsSection last room) refl)
+        (λ (h : last .«header_written» < headerSize). along (step-header last lent room e h) (two e h))
+        (le-or-lt headerSize (last .«header_written»)))
+        (λ (n : last .«section_left» ≡ 0 → ⊥). along (step-data last lent room n) (one n))
+        (equal-or-not (last .«section_left») 0)
+      where
+        along : {a : Stepped} {b : List ℕ} → (a ≡ writingStepped last lent room) × (b ≡ bytes) → P a b → P (writingStepped last lent room) bytes
+        along e x = rw (sym (e .0), sym (e .1)) x
+
+        by-section : last .«section_left» ≡ 0 → headerSize ≤ last .«header_written» → (b : Bool) → beginsSection last room ≡ b → P (writingStepped last lent room) bytes
+        by-section e h true q = along (step-section last lent room e h q) (three e h q)
+        by-section e h false q = along (step-none last lent room e h q) (four e h q)
+
+    length-data : length (dataBytes last lent room) ≡ min (last .«section_left») (min (length lent) room)
+    unfolding dataBytes
+    length-data = rw length-take (omega arith)
+
+    length-part : length (headerPart last room) ≡ min (headerSize - last .«header_written») room
+    unfolding headerPart
+    length-part = let l : length (last .header) ≡ headerSize = ap length (reached .header-is) ∙ header-long in simp (length-take, length-drop) (omega arith)
+
+    length-next : length (nextHeader last) ≡ sectionHeaderSize
+    unfolding nextHeader
+    length-next = length-sectionHeader (placeAt (last .places) (last .«sections_begun»))
+
+    -- a step answers how many bytes it writes, and writes no more than there is room for
+    pub step-counted : (writingStepped last lent room .written ≡ length bytes) × (length bytes ≤ room)
+    unfolding dataStep headerStep sectionStep
+    step-counted =
+        by-row (λ s b. (s .written ≡ length b) × (length b ≤ room))
+        (λ n. let e = length-data in (sym e, omega arith))
+        (λ e h. let l = length-part in (sym l, omega arith))
+        (λ e h q. let l = length-next in (sym l, wide q))
+        (λ e h q. (refl, omega arith))
+      where
+        wide : beginsSection last room ≡ true → length (nextHeader last) ≤ room
+        wide q = let w = begins-room last room q in let l = length-next in omega arith
+
+    -- while the image is not complete, a step with room for a section's own header writes a byte or more
+    module _ (short : length written < plainSize p) (wide : sectionHeaderSize ≤ room) where
+      not-done : last .«section_left» ≡ 0 → headerSize ≤ last .«header_written» → begun < sectionsIn last
+      not-done e h =
+          let r = reached in
+          let w = written-long in
+          let b = packed-before places (p .count) in
+          let f = r .begun-few in
+          let s = r .section-sum in
+          let c = r .count-is in
+          let m = few in
+          let top = r .header-few in
+          ⊎-elim
+          (λ (z : begun ≡ p .count). let q = ap (dataBefore places) z in absurd (omega arith))
+          (λ (n : begun ≡ p .count → ⊥). let q : begun < p .count = lt-of n in omega arith)
+          (equal-or-not begun (p .count))
+        where
+          lt-of : (begun ≡ p .count → ⊥) → begun < p .count
+          lt-of n = let f = reached .begun-few in ⊎-elim (λ (h : p .count ≤ begun). absurd (n (omega arith))) (λ h. h) (le-or-lt (p .count) begun)
+
+      moves : ((last .«section_left» ≡ 0 → ⊥) → 0 < length lent) → 0 < length bytes
+      moves given =
+          by-row (λ s b. 0 < length b)
+          (λ n. let e = length-data in let g = given n in let m : 0 < last .«section_left» = positive n in omega arith)
+          (λ e h. let l = length-part in omega arith)
+          (λ e h q. let l = length-next in omega arith)
+          (λ e h q. absurd (begins e h q))
+        where
+          positive : (last .«section_left» ≡ 0 → ⊥) → 0 < last .«section_left»
+          positive n = ⊎-elim (λ (h : last .«section_left» ≤ 0). absurd (n (omega arith))) (λ h. h) (le-or-lt (last .«section_left») 0)
+
+          begins : last .«section_left» ≡ 0 → headerSize ≤ last .«header_written» → beginsSection last room ≡ false → ⊥
+          begins e h q = let t = sym (le-leb sectionHeaderSize room wide) ∙ begins-if last room (not-done e h) ∙ q in true≢false t
+
+      -- if data is lent
+      pub progress : 0 < length lent → 0 < length bytes
+      progress h = moves (λ n. h)
+
+      -- if all data is taken, with no data
+      pub progress-all-taken : length taken ≡ needed → 0 < length bytes
+      progress-all-taken all =
+          let r = reached in
+          let s = r .section-sum in
+          let up = before-le places begun (p .count) (r .begun-few) in
+          moves (λ n. absurd (n (omega arith)))
+
+  -- ---- a run that is not complete
+
+  module _ (given : List ℕ) (sized : length given ≡ needed) (same : take (length taken) given ≡ taken) where
+    abbrev header : List ℕ
+    header = headerBytes p ++ beBytes 4 field
+
+    abbrev upTo : List ℕ → ℕ → List ℕ
+    upTo d k = joinFrom (sectionBytes places d) k 0
+
+    -- the data that is not taken, of the section begun last and of those after it
+    abbrev due : List ℕ
+    due = take (last .«section_left») (drop (length taken) given)
+
+    abbrev later : List ℕ
+    later = drop (last .«section_left») (drop (length taken) given)
+
+    given-is : given ≡ (taken ++ due) ++ later
+    given-is =
+        sym
+        (append-assoc taken due later
+        ∙ ap₂ (λ (x y : List ℕ). x ++ y) (sym same) (take-append-drop (last .«section_left») (drop (length taken) given))
+        ∙ take-append-drop (length taken) given)
+
+    -- where a section is begun, the sections so far are followed by the data due
+    sections-first : (m : ℕ) → begun ≡ suc m → upTo given begun ≡ upTo taken begun ++ due
+    sections-first m e =
+        let r = reached in
+        let s = r .section-sum in
+        let up = before-le places begun (p .count) (r .begun-few) in
+        let b = ap (dataBefore places) e in
+        let z : begun - 1 ≡ m = omega arith in
+        let start : dataBefore places m ≤ length taken = let q = ap (dataBefore places) z in let l = r .last-start in omega arith in
+        let long : length due ≡ last .«section_left» = simp (length-take, length-drop) (omega arith) in
+        let both = length-append taken due in
+        ap₂ upTo given-is e
+        ∙ ap (upTo ((taken ++ due) ++ later)) (sym e)
+        ∙ sections-kept places begun (taken ++ due) (omega arith) later
+        ∙ ap (upTo (taken ++ due)) e
+        ∙ sections-more places m taken start due (omega arith)
+        ∙ ap (λ (k : ℕ). upTo taken k ++ due) (sym e)
+
+    image-is : imageWith p field given ≡ header ++ upTo given (p .count)
+    unfolding imageWith
+    image-is = sym (append-assoc (headerBytes p) (beBytes 4 field) (bodyBytes p given))
+
+    abbrev image-begins : List ℕ → Type 0
+    image-begins rest = imageWith p field given ≡ written ++ rest
+
+    -- the bytes written are the first bytes of the image of any data that begins with the data taken
+    pub written-first : written ≡ take (length written) (imageWith p field given)
+    written-first = ⊎-elim (λ (h : begun ≤ 0). first-of _ (in-header (omega arith))) (λ (h : 0 < begun). first-of _ (in-sections (begun - 1) (omega arith))) (le-or-lt begun 0)
+      where
+        first-of : (rest : List ℕ) → image-begins rest → written ≡ take (length written) (imageWith p field given)
+        first-of rest e = sym (ap (take (length written)) e ∙ take-at written rest (length written) refl)
+
+        in-header : begun ≡ 0 → image-begins (drop (last .«header_written») header ++ upTo given (p .count))
+        in-header z =
+            let w = last .«header_written» in
+            let none : upTo taken begun ≡ [] = ap (upTo taken) z ∙ join-zero (sectionBytes places taken) in
+            image-is
+            ∙ ap (λ (x : List ℕ). x ++ upTo given (p .count)) (sym (take-append-drop w header))
+            ∙ append-assoc (take w header) (drop w header) (upTo given (p .count))
+            ∙ ap (λ (x : List ℕ). x ++ (drop w header ++ upTo given (p .count))) (sym (reached .bytes-are ∙ ap (λ (x : List ℕ). take w header ++ x) none ∙ append-nil (take w header)))
+
+        in-sections : (m : ℕ) → begun ≡ suc m → image-begins (due ++ joinFrom (sectionBytes places given) (p .count - begun) (0 + begun))
+        in-sections m e =
+            let f = reached .begun-few in
+            let rest = joinFrom (sectionBytes places given) (p .count - begun) (0 + begun) in
+            let n : p .count ≡ begun + (p .count - begun) = omega arith in
+            let h : last .«header_written» ≡ headerSize = reached .header-first (omega arith) in
+            let all : take (last .«header_written») header ≡ header = take-all (last .«header_written») header (let l = header-long in omega arith) in
+            image-is
+            ∙ ap (λ (k : ℕ). header ++ upTo given k) n
+            ∙ ap (λ (x : List ℕ). header ++ x) (join-add (sectionBytes places given) begun (p .count - begun) 0 ∙ ap (λ (x : List ℕ). x ++ rest) (sections-first m e) ∙ append-assoc (upTo taken begun) due rest)
+            ∙ sym (append-assoc header (upTo taken begun) (due ++ rest))
+            ∙ ap (λ (x : List ℕ). x ++ (due ++ rest)) (sym (reached .bytes-are ∙ ap (λ (x : List ℕ). x ++ upTo taken begun) all))
