@@ -1,11 +1,10 @@
 -- What a state is after a run of steps: a function of the data taken and the bytes written so far.
-use Prim.Native.Nat.{ℕ, zero, suc, _+_, _-_, _*_, _<_, _≤_, min}
+use Prim.Native.Nat.{ℕ, suc, _+_, _-_, _<_, _≤_, min}
 use mathlib.Core.Path.{_≡_, refl, sym, ap, ap₂, _∙_}
 use mathlib.Core.Bool.{Bool, true, false}
 use mathlib.Core.List.{List, [], _∷_, _++_, append-assoc, append-nil}
 use mathlib.Core.Logic.{⊎-elim}
 use native.Mathlib.Omega.{arith}
-use native.Mathlib.Numerals.{add-one}
 use lib.ListN.{length, take, drop, length-append, length-take}
 use lib.Seq.{take-add}
 use Rattle.octets.specs.Bytes.{beBytes}
@@ -13,7 +12,7 @@ use Rattle.octets.proofs.Logic.{equal-or-not, le-or-lt}
 use Rattle.crc32.specs.Crc.{crcFrom, ones32}
 use Rattle.crc32.proofs.Linear.{crcFrom-append}
 use Rattle.eif.specs.Numbers.{placeCount}
-use Rattle.eif.specs.Layout.{headerSize, sectionHeaderSize}
+use Rattle.eif.specs.Layout.{headerSize}
 use Rattle.eif.specs.Table.{joinFrom}
 use Rattle.eif.specs.Plan.{placeAt, plannedSize, dataBefore, headerBytes, sectionHeader, sectionBytes}
 use Rattle.eif.specs.declared.Place.{Place}
@@ -72,10 +71,10 @@ module _ (p : Plan) (field : ℕ) (few : p .count ≤ placeCount) where
 
   module _ (d g : List ℕ) (a : Writing) (r : Reached d g a) (lent : List ℕ) (room : ℕ) where
     -- the state, the data taken and the bytes written after an answer
-    abbrev Next : Stepped → List ℕ → Type 0
-    Next s bytes = Reached (d ++ take (s .taken) lent) (g ++ bytes) (s .state)
+    abbrev NextReached : Stepped → List ℕ → Type 0
+    NextReached s bytes = Reached (d ++ take (s .taken) lent) (g ++ bytes) (s .state)
 
-    next-data : (a .«section_left» ≡ 0 → ⊥) → Next (dataStep a lent room) (dataBytes a lent room)
+    next-data : (a .«section_left» ≡ 0 → ⊥) → NextReached (dataStep a lent room) (dataBytes a lent room)
     unfolding dataStep dataBytes
     next-data some =
         let n = min (a .«section_left») (min (length lent) room) in
@@ -112,14 +111,14 @@ module _ (p : Plan) (field : ℕ) (few : p .count ≤ placeCount) where
         }
 
     -- a step that takes no data
-    no-data : (s : Stepped) (bytes : List ℕ) → s .taken ≡ 0 → Reached d (g ++ bytes) (s .state) → Next s bytes
+    no-data : (s : Stepped) (bytes : List ℕ) → s .taken ≡ 0 → Reached d (g ++ bytes) (s .state) → NextReached s bytes
     no-data s bytes e x = let z : d ++ take (s .taken) lent ≡ d = ap (λ (n : ℕ). d ++ take n lent) e ∙ append-nil d in rw z x
 
     no-sections : (k : ℕ) → k ≡ 0 → sectionsUpTo d k ≡ []
     unfolding joinFrom
     no-sections k e = ap (sectionsUpTo d) e
 
-    next-header : a .«section_left» ≡ 0 → a .«header_written» < headerSize → Next (headerStep a room) (headerPart a room)
+    next-header : a .«section_left» ≡ 0 → a .«header_written» < headerSize → NextReached (headerStep a room) (headerPart a room)
     unfolding headerStep headerPart
     next-header none h =
         let n = min (headerSize - a .«header_written») room in
@@ -143,7 +142,7 @@ module _ (p : Plan) (field : ℕ) (few : p .count ≤ placeCount) where
           checksum-is = r .checksum-is;
         })
 
-    next-section : a .«section_left» ≡ 0 → headerSize ≤ a .«header_written» → a .«sections_begun» < sectionsIn a → Next (sectionStep a) (nextHeader a)
+    next-section : a .«section_left» ≡ 0 → headerSize ≤ a .«header_written» → a .«sections_begun» < sectionsIn a → NextReached (sectionStep a) (nextHeader a)
     unfolding sectionStep nextHeader
     next-section none h q =
         let k = a .«sections_begun» in
@@ -178,7 +177,7 @@ module _ (p : Plan) (field : ℕ) (few : p .count ≤ placeCount) where
               ∙ ap (crcFrom (crcFrom ones32 (headerBytes p))) more;
         })
 
-    next-none : Next (record { state = a; taken = 0; written = 0 }) []
+    next-none : NextReached (record { state = a; taken = 0; written = 0 }) []
     next-none = rw (append-nil d, append-nil g) r
 
     -- the row that applies
@@ -193,10 +192,10 @@ module _ (p : Plan) (field : ℕ) (few : p .count ≤ placeCount) where
         (λ (n : a .«section_left» ≡ 0 → ⊥). along (step-data a lent room n) (next-data n))
         (equal-or-not (a .«section_left») 0)
       where
-        along : {s : Stepped} {bytes : List ℕ} → (s ≡ writingStepped a lent room) × (bytes ≡ stepBytes a lent room) → Next s bytes → Next (writingStepped a lent room) (stepBytes a lent room)
+        along : {s : Stepped} {bytes : List ℕ} → (s ≡ writingStepped a lent room) × (bytes ≡ stepBytes a lent room) → NextReached s bytes → NextReached (writingStepped a lent room) (stepBytes a lent room)
         along e x = rw (sym (e .0), sym (e .1)) x
 
-        by-section : a .«section_left» ≡ 0 → headerSize ≤ a .«header_written» → (b : Bool) → beginsSection a room ≡ b → Next (writingStepped a lent room) (stepBytes a lent room)
+        by-section : a .«section_left» ≡ 0 → headerSize ≤ a .«header_written» → (b : Bool) → beginsSection a room ≡ b → NextReached (writingStepped a lent room) (stepBytes a lent room)
         by-section e h true q = along (step-section a lent room e h q) (next-section e h (begins-inside a room q))
         by-section e h false q = along (step-none a lent room e h q) next-none
 

@@ -6,10 +6,10 @@ use mathlib.Core.Bool.{Bool, true, false, true≢false}
 use mathlib.Core.List.{List, [], _++_, append-assoc, append-nil}
 use mathlib.Core.Logic.{⊎-elim}
 use native.Mathlib.Omega.{arith}
-use borrow.Author.Tests.{eq-eqb, ne-eqb, lt-ltb, le-leb}
+use borrow.Author.Tests.{le-leb}
 use lib.Bits.{bitXor}
 use lib.ListN.{length, take, drop, length-append, length-take, length-drop, take-append-drop}
-use lib.Seq.{length-take-le, take-at, drop-at, take-all, take-append-le}
+use lib.Seq.{length-take-le, take-at, drop-at, take-all}
 use Rattle.octets.specs.Bytes.{beBytes}
 use Rattle.octets.specs.Over.{over}
 use Rattle.octets.proofs.Logic.{equal-or-not, le-or-lt}
@@ -20,7 +20,7 @@ use Rattle.eif.specs.Numbers.{placeCount, dataLengthDiffers}
 use Rattle.eif.specs.Answers.{refuse, beside}
 use Rattle.eif.specs.Layout.{headerSize, sectionHeaderSize, checksumAt}
 use Rattle.eif.specs.Table.{joinFrom}
-use Rattle.eif.specs.Plan.{placeAt, plannedSize, dataBefore, plainSize, headerBytes, sectionHeader, sectionBytes, bodyBytes, plainImage, planVerdict, planLength}
+use Rattle.eif.specs.Plan.{placeAt, dataBefore, plainSize, headerBytes, sectionBytes, bodyBytes, plainImage, planLength}
 use Rattle.eif.specs.declared.Place.{Place}
 use Rattle.eif.specs.declared.Plan.{Plan}
 use Rattle.eif.specs.declared.Verdict.{Verdict}
@@ -28,7 +28,7 @@ use Rattle.eif.specs.declared.Verdict.the-variants.{Accepted}
 use Rattle.plain_laws.proofs.PlanRules.{Planned, planned→}
 use Rattle.plain_laws.proofs.Shape.{before-le, length-header, length-sectionHeader}
 use Rattle.plan_judge.proofs.Size.{packed-before}
-use Rattle.writing.specs.Writing.{startWriting, emptyWriting, writingBegun, sectionsIn, ownHeaders, dataBytes, headerPart, beginsSection, nextHeader, dataStep, headerStep, sectionStep, writingStepped, stepBytes, finishVerdict, finalChecksum, writingSummed}
+use Rattle.writing.specs.Writing.{startWriting, emptyWriting, writingBegun, sectionsIn, ownHeaders, dataBytes, headerPart, beginsSection, nextHeader, dataStep, headerStep, sectionStep, writingStepped, stepBytes, finalChecksum, writingSummed}
 use Rattle.writing.specs.declared.Writing.{Writing}
 use Rattle.writing.specs.declared.Summed.{Summed}
 use Rattle.writing.specs.declared.Stepped.{Stepped}
@@ -72,21 +72,21 @@ module _ (p : Plan) (field : ℕ) (ok : planLength p .verdict ≡ Accepted) (ts 
   reached : Reached p field few taken written last
   reached = rw first-is (reached-run p field few ts [] [] (startWriting p field) (reached-start p field few))
 
-  abbrev begun : ℕ
-  begun = last .«sections_begun»
+  abbrev begunSoFar : ℕ
+  begunSoFar = last .«sections_begun»
 
   header-long : length (headerBytes p ++ beBytes 4 field) ≡ headerSize
   header-long = length-append (headerBytes p) (beBytes 4 field) ∙ ap (λ (n : ℕ). n + 4) (length-header p)
 
-  written-long : length written ≡ last .«header_written» + (sectionHeaderSize * begun + length taken)
+  written-long : length written ≡ last .«header_written» + (sectionHeaderSize * begunSoFar + length taken)
   written-long =
       let r = reached in
       let s = r .section-sum in
       ap length (r .bytes-are)
-      ∙ length-append (take (last .«header_written») (headerBytes p ++ beBytes 4 field)) (joinFrom (sectionBytes places taken) begun 0)
+      ∙ length-append (take (last .«header_written») (headerBytes p ++ beBytes 4 field)) (joinFrom (sectionBytes places taken) begunSoFar 0)
       ∙ ap₂ (λ (m n : ℕ). m + n)
       (length-take-le (last .«header_written») (headerBytes p ++ beBytes 4 field) (let h = r .header-few in let l = header-long in omega arith))
-      (length-sections-so-far places taken begun (r .last-start) (omega arith))
+      (length-sections-so-far places taken begunSoFar (r .last-start) (omega arith))
 
   -- ---- what is taken
 
@@ -110,7 +110,7 @@ module _ (p : Plan) (field : ℕ) (ok : planLength p .verdict ≡ Accepted) (ts 
   -- the image is complete when as many bytes are written as begin answered: then all data is taken, and the bytes are the plain image of the plan
   -- and that data but for the checksum field
   module _ (whole : length written ≡ plainSize p) where
-    all-begun : (begun ≡ p .count) × (last .«header_written» ≡ headerSize) × (length taken ≡ needed)
+    all-begun : (begunSoFar ≡ p .count) × (last .«header_written» ≡ headerSize) × (length taken ≡ needed)
     all-begun =
         let r = reached in
         let w = written-long in
@@ -167,17 +167,17 @@ module _ (p : Plan) (field : ℕ) (ok : planLength p .verdict ≡ Accepted) (ts 
         let s = r .section-sum in
         let f = r .begun-few in
         let c = r .count-is in
-        let up = before-le places begun (p .count) f in
-        let left : sectionsIn last - begun ≡ p .count - begun = let m = few in omega arith in
-        let sum : begun + (p .count - begun) ≡ p .count = omega arith in
-        let own : ownHeaders (last .places) (sectionsIn last - begun) begun ≡ ownHeaders places (p .count - begun) begun =
-        ap₂ (λ (l : List Place) (n : ℕ). ownHeaders l n begun) (r .places-are) left in
-        let body : joinFrom (sectionBytes places taken) begun 0 ++ ownHeaders places (p .count - begun) begun ≡ bodyBytes p taken =
-        sym (sections-rest places taken begun (p .count - begun) (omega arith)) ∙ ap (λ (n : ℕ). joinFrom (sectionBytes places taken) n 0) sum in
+        let up = before-le places begunSoFar (p .count) f in
+        let left : sectionsIn last - begunSoFar ≡ p .count - begunSoFar = let m = few in omega arith in
+        let sum : begunSoFar + (p .count - begunSoFar) ≡ p .count = omega arith in
+        let own : ownHeaders (last .places) (sectionsIn last - begunSoFar) begunSoFar ≡ ownHeaders places (p .count - begunSoFar) begunSoFar =
+        ap₂ (λ (l : List Place) (n : ℕ). ownHeaders l n begunSoFar) (r .places-are) left in
+        let body : joinFrom (sectionBytes places taken) begunSoFar 0 ++ ownHeaders places (p .count - begunSoFar) begunSoFar ≡ bodyBytes p taken =
+        sym (sections-rest places taken begunSoFar (p .count - begunSoFar) (omega arith)) ∙ ap (λ (n : ℕ). joinFrom (sectionBytes places taken) n 0) sum in
         ap (λ (x : Summed). x .checksum) finish-whole
         ∙ ap (bitXor ones32)
         (ap₂ crcFrom (r .checksum-is) own
-        ∙ sym (crcFrom-append (crcFrom ones32 (headerBytes p)) (joinFrom (sectionBytes places taken) begun 0) (ownHeaders places (p .count - begun) begun))
+        ∙ sym (crcFrom-append (crcFrom ones32 (headerBytes p)) (joinFrom (sectionBytes places taken) begunSoFar 0) (ownHeaders places (p .count - begunSoFar) begunSoFar))
         ∙ ap (crcFrom (crcFrom ones32 (headerBytes p))) body
         ∙ sym (crcFrom-append ones32 (headerBytes p) (bodyBytes p taken)))
 
@@ -254,7 +254,7 @@ module _ (p : Plan) (field : ℕ) (ok : planLength p .verdict ≡ Accepted) (ts 
 
     -- while the image is not complete, a step with room for a section's own header writes a byte or more
     module _ (short : length written < plainSize p) (wide : sectionHeaderSize ≤ room) where
-      not-done : last .«section_left» ≡ 0 → headerSize ≤ last .«header_written» → begun < sectionsIn last
+      not-done : last .«section_left» ≡ 0 → headerSize ≤ last .«header_written» → begunSoFar < sectionsIn last
       not-done e h =
           let r = reached in
           let w = written-long in
@@ -265,14 +265,15 @@ module _ (p : Plan) (field : ℕ) (ok : planLength p .verdict ≡ Accepted) (ts 
           let m = few in
           let top = r .header-few in
           ⊎-elim
-          (λ (z : begun ≡ p .count). let q = ap (dataBefore places) z in absurd (omega arith))
-          (λ (n : begun ≡ p .count → ⊥). let q : begun < p .count = lt-of n in omega arith)
-          (equal-or-not begun (p .count))
+          (λ (z : begunSoFar ≡ p .count). let q = ap (dataBefore places) z in absurd (omega arith))
+          (λ (n : begunSoFar ≡ p .count → ⊥). let q : begunSoFar < p .count = lt-of n in omega arith)
+          (equal-or-not begunSoFar (p .count))
         where
-          lt-of : (begun ≡ p .count → ⊥) → begun < p .count
-          lt-of n = let f = reached .begun-few in ⊎-elim (λ (h : p .count ≤ begun). absurd (n (omega arith))) (λ h. h) (le-or-lt (p .count) begun)
+          lt-of : (begunSoFar ≡ p .count → ⊥) → begunSoFar < p .count
+          lt-of n = let f = reached .begun-few in ⊎-elim (λ (h : p .count ≤ begunSoFar). absurd (n (omega arith))) (λ h. h) (le-or-lt (p .count) begunSoFar)
 
-      moves : ((last .«section_left» ≡ 0 → ⊥) → 0 < length lent) → 0 < length bytes
+      -- if data is lent where the section begun last needs some
+      pub moves : ((last .«section_left» ≡ 0 → ⊥) → 0 < length lent) → 0 < length bytes
       moves given =
           by-row (λ s b. 0 < length b)
           (λ n. let e = length-data in let g = given n in let m : 0 < last .«section_left» = positive n in omega arith)
@@ -295,7 +296,7 @@ module _ (p : Plan) (field : ℕ) (ok : planLength p .verdict ≡ Accepted) (ts 
       progress-all-taken all =
           let r = reached in
           let s = r .section-sum in
-          let up = before-le places begun (p .count) (r .begun-few) in
+          let up = before-le places begunSoFar (p .count) (r .begun-few) in
           moves (λ n. absurd (n (omega arith)))
 
   -- ---- a run that is not complete
@@ -322,19 +323,19 @@ module _ (p : Plan) (field : ℕ) (ok : planLength p .verdict ≡ Accepted) (ts 
         ∙ take-append-drop (length taken) given)
 
     -- where a section is begun, the sections so far are followed by the data due
-    sections-first : (m : ℕ) → begun ≡ suc m → upTo given begun ≡ upTo taken begun ++ due
+    sections-first : (m : ℕ) → begunSoFar ≡ suc m → upTo given begunSoFar ≡ upTo taken begunSoFar ++ due
     sections-first m e =
         let r = reached in
         let s = r .section-sum in
-        let up = before-le places begun (p .count) (r .begun-few) in
+        let up = before-le places begunSoFar (p .count) (r .begun-few) in
         let b = ap (dataBefore places) e in
-        let z : begun - 1 ≡ m = omega arith in
+        let z : begunSoFar - 1 ≡ m = omega arith in
         let start : dataBefore places m ≤ length taken = let q = ap (dataBefore places) z in let l = r .last-start in omega arith in
         let long : length due ≡ last .«section_left» = simp (length-take, length-drop) (omega arith) in
         let both = length-append taken due in
         ap₂ upTo given-is e
         ∙ ap (upTo ((taken ++ due) ++ later)) (sym e)
-        ∙ sections-kept places begun (taken ++ due) (omega arith) later
+        ∙ sections-kept places begunSoFar (taken ++ due) (omega arith) later
         ∙ ap (upTo (taken ++ due)) e
         ∙ sections-more places m taken start due (omega arith)
         ∙ ap (λ (k : ℕ). upTo taken k ++ due) (sym e)
@@ -348,29 +349,29 @@ module _ (p : Plan) (field : ℕ) (ok : planLength p .verdict ≡ Accepted) (ts 
 
     -- the bytes written are the first bytes of the image of any data that begins with the data taken
     pub written-first : written ≡ take (length written) (imageWith p field given)
-    written-first = ⊎-elim (λ (h : begun ≤ 0). first-of _ (in-header (omega arith))) (λ (h : 0 < begun). first-of _ (in-sections (begun - 1) (omega arith))) (le-or-lt begun 0)
+    written-first = ⊎-elim (λ (h : begunSoFar ≤ 0). first-of _ (in-header (omega arith))) (λ (h : 0 < begunSoFar). first-of _ (in-sections (begunSoFar - 1) (omega arith))) (le-or-lt begunSoFar 0)
       where
         first-of : (rest : List ℕ) → image-begins rest → written ≡ take (length written) (imageWith p field given)
         first-of rest e = sym (ap (take (length written)) e ∙ take-at written rest (length written) refl)
 
-        in-header : begun ≡ 0 → image-begins (drop (last .«header_written») header ++ upTo given (p .count))
+        in-header : begunSoFar ≡ 0 → image-begins (drop (last .«header_written») header ++ upTo given (p .count))
         in-header z =
             let w = last .«header_written» in
-            let none : upTo taken begun ≡ [] = ap (upTo taken) z ∙ join-zero (sectionBytes places taken) in
+            let none : upTo taken begunSoFar ≡ [] = ap (upTo taken) z ∙ join-zero (sectionBytes places taken) in
             image-is
             ∙ ap (λ (x : List ℕ). x ++ upTo given (p .count)) (sym (take-append-drop w header))
             ∙ append-assoc (take w header) (drop w header) (upTo given (p .count))
             ∙ ap (λ (x : List ℕ). x ++ (drop w header ++ upTo given (p .count))) (sym (reached .bytes-are ∙ ap (λ (x : List ℕ). take w header ++ x) none ∙ append-nil (take w header)))
 
-        in-sections : (m : ℕ) → begun ≡ suc m → image-begins (due ++ joinFrom (sectionBytes places given) (p .count - begun) (0 + begun))
+        in-sections : (m : ℕ) → begunSoFar ≡ suc m → image-begins (due ++ joinFrom (sectionBytes places given) (p .count - begunSoFar) (0 + begunSoFar))
         in-sections m e =
             let f = reached .begun-few in
-            let rest = joinFrom (sectionBytes places given) (p .count - begun) (0 + begun) in
-            let n : p .count ≡ begun + (p .count - begun) = omega arith in
+            let rest = joinFrom (sectionBytes places given) (p .count - begunSoFar) (0 + begunSoFar) in
+            let n : p .count ≡ begunSoFar + (p .count - begunSoFar) = omega arith in
             let h : last .«header_written» ≡ headerSize = reached .header-first (omega arith) in
             let all : take (last .«header_written») header ≡ header = take-all (last .«header_written») header (let l = header-long in omega arith) in
             image-is
             ∙ ap (λ (k : ℕ). header ++ upTo given k) n
-            ∙ ap (λ (x : List ℕ). header ++ x) (join-add (sectionBytes places given) begun (p .count - begun) 0 ∙ ap (λ (x : List ℕ). x ++ rest) (sections-first m e) ∙ append-assoc (upTo taken begun) due rest)
-            ∙ sym (append-assoc header (upTo taken begun) (due ++ rest))
-            ∙ ap (λ (x : List ℕ). x ++ (due ++ rest)) (sym (reached .bytes-are ∙ ap (λ (x : List ℕ). x ++ upTo taken begun) all))
+            ∙ ap (λ (x : List ℕ). header ++ x) (join-add (sectionBytes places given) begunSoFar (p .count - begunSoFar) 0 ∙ ap (λ (x : List ℕ). x ++ rest) (sections-first m e) ∙ append-assoc (upTo taken begunSoFar) due rest)
+            ∙ sym (append-assoc header (upTo taken begunSoFar) (due ++ rest))
+            ∙ ap (λ (x : List ℕ). x ++ (due ++ rest)) (sym (reached .bytes-are ∙ ap (λ (x : List ℕ). x ++ upTo taken begunSoFar) all))

@@ -1,0 +1,313 @@
+-- The laws of writing a staged view in pieces: a run of steps from `begin` writes the image written afresh but for its checksum field, however the
+-- output buffers are cut. The only hypothesis is that begin accepts.
+use Prim.Native.Nat.{ℕ, zero, suc, _+_, _-_, _<_, _≤_, min}
+use mathlib.Core.Path.{_≡_, refl, sym, ap, ap₂, _∙_}
+use mathlib.Core.List.{List, [], _∷_, _++_, append-assoc, append-nil}
+use mathlib.Core.Logic.{⊎-elim}
+use native.Mathlib.Omega.{arith}
+use lib.ListN.{length, replicate, take, drop, length-append, length-take, length-drop}
+use lib.Seq.{take-nil, drop-nil, take-add, take-take, take-all, drop-length, drop-drop}
+use Rattle.octets.specs.Bytes.{beBytes}
+use Rattle.octets.specs.Over.{over}
+use Rattle.octets.proofs.Logic.{le-or-lt}
+use Rattle.octets.proofs.Lists.{take-min}
+use Rattle.eif.specs.Numbers.{placeCount}
+use Rattle.eif.specs.Answers.{beside}
+use Rattle.eif.specs.Layout.{checksumAt, countOf, sectionHeaderSize}
+use Rattle.eif.specs.Reading.{blankSection, readImage, sectionIn}
+use Rattle.eif.specs.Table.{filled}
+use Rattle.eif.specs.Plan.{plannedSize, dataBefore, plainSize, pieceAt, plainImage, planLength}
+use Rattle.eif.specs.declared.Place.{Place}
+use Rattle.eif.specs.declared.Plan.{Plan}
+use Rattle.eif.specs.declared.Section.{Section}
+use Rattle.eif.specs.declared.Verdict.{Verdict}
+use Rattle.eif.specs.declared.Verdict.the-variants.{Accepted}
+use Rattle.eif_lemmas.proofs.Table.{filled-at}
+use Rattle.plain_laws.proofs.Joined.{piece-is, length-joined}
+use Rattle.plain_laws.proofs.PlanRules.{planned→}
+use Rattle.plain_laws.proofs.Shape.{before-le, before-suc, before-zero}
+use Rattle.plain_laws.proofs.WriteBack.{sound-head}
+use Rattle.staged.specs.Staged.{stagedPlan, stagedJoined, stagedVerdict, afresh}
+use Rattle.staged.specs.View.{stagedSections, stagedView, heldBy}
+use Rattle.staged.proofs.Accept.{Stages, staged→}
+use Rattle.staged.proofs.Afresh.{partAt, changedPlan, plan-is, parts-are, size-kept}
+use Rattle.staged.proofs.Held.{stagedAt, held-is, sections-are}
+use Rattle.writing.specs.Writing.{startWriting, emptyWriting, writingBegun, writingStepped, stepBytes, writingSummed}
+use Rattle.writing.specs.declared.Writing.{Writing}
+use Rattle.writing_laws.specs.Runs.{WriteStep, afterSteps, dataTaken, bytesWritten}
+use Rattle.writing_laws.proofs.Runs.{bytes-bounded, complete-data, finish-accepts, checksum-put, moves}
+use Rattle.writing_laws.proofs.Reached.{Reached, reached-start, reached-step}
+use Rattle.staged_writing.specs.StagedWriting.{stagedBegun, dueData, stagedStepped}
+use Rattle.staged_writing.specs.declared.StagedWriting.{StagedWriting}
+use Rattle.staged_writing.proofs.Begun.{plan-accepted}
+use Rattle.staged_writing_laws.specs.StagedRuns.{stagedBytesOf, afterStagedSteps, stagedBytesWritten, stagedSteps}
+
+-- ---- the first bytes of a list
+
+-- some of the first bytes are the first bytes
+first-bytes : (n m : ℕ) (x : List ℕ) → take n (take m x) ≡ take (length (take n (take m x))) x
+first-bytes n m x =
+    let few : length (take n (take m x)) ≡ min n (min m (length x)) = simp length-take refl in
+    let k = min n m in
+    let e : take n (take m x) ≡ take k x =
+    sym (take-min n (take m x)) ∙ ap (λ (j : ℕ). take j (take m x)) (ap (min n) (length-take m x)) ∙ take-take (min n (min m (length x))) m x (omega arith)
+    ∙ ap (λ (j : ℕ). take j x) (let z : min n (min m (length x)) ≡ min k (length x) = omega arith in z) ∙ take-min k x in
+    e ∙ sym (take-min k x) ∙ ap (λ (j : ℕ). take j x) (let z : min k (length x) ≡ length (take n (take m x)) = omega arith in z)
+
+-- what follows the first a of a + c elements
+drop-first : (a c : ℕ) (x : List ℕ) → drop a (take (a + c) x) ≡ take c (drop a x)
+drop-first zero c x = let z : 0 + c ≡ c = omega arith in ap (λ (n : ℕ). take n x) z
+drop-first (suc a) c [] = ap (drop (suc a)) (take-nil (suc a + c)) ∙ drop-nil (suc a) ∙ sym (ap (take c) (drop-nil (suc a)) ∙ take-nil c)
+drop-first (suc a) c (b ∷ x) = let z : suc a + c ≡ suc (a + c) = omega arith in ap (λ (n : ℕ). drop (suc a) (take n (b ∷ x))) z ∙ drop-first a c x
+
+module _ (s r : List ℕ) (k field : ℕ) (ok : stagedVerdict s (length r) k k ≡ Accepted) where
+  abbrev planAfresh : Plan
+  planAfresh = stagedPlan s k (length r)
+
+  abbrev places : List Place
+  places = planAfresh .places
+
+  -- the data of all sections of the image written afresh
+  abbrev freshData : List ℕ
+  freshData = stagedJoined s r k
+
+  abbrev viewSections : List Section
+  viewSections = stagedView s (length r) k k .sections
+
+  stages : Stages s (length r) k k
+  stages = staged→ s (length r) k k ok
+
+  plan-ok : planLength planAfresh .verdict ≡ Accepted
+  unfolding planLength
+  plan-ok = plan-accepted s r k field ok
+
+  few : planAfresh .count ≤ placeCount
+  unfolding planLength
+  few = planned→ planAfresh (dataBefore places (planAfresh .count)) plan-ok .fields .few
+
+  -- the plan and the data by the header of the base
+  abbrev base-plan : Plan
+  base-plan = changedPlan s r k (stages .accepted) (length r)
+
+  plan-same : planAfresh ≡ base-plan
+  plan-same = plan-is s r k (stages .accepted) (length r)
+
+  count-same : planAfresh .count ≡ countOf s
+  count-same = ap (λ (p : Plan). p .count) plan-same
+
+  sizes : (i : ℕ) → i < countOf s → length (partAt s r k (stages .accepted) i) ≡ plannedSize (base-plan .places) i
+  sizes = size-kept s r k (stages .accepted) (stages .replaced)
+
+  piece-part : (i : ℕ) → i < planAfresh .count → pieceAt places freshData i ≡ partAt s r k (stages .accepted) i
+  piece-part i h =
+      let c = count-same in
+      ap₂ (λ (p : Plan) (d : List ℕ). pieceAt (p .places) d i) plan-same (parts-are s r k (stages .accepted))
+      ∙ piece-is (base-plan .places) (countOf s) (partAt s r k (stages .accepted)) sizes i (omega arith)
+
+  sections-listed : viewSections ≡ filled (stagedAt s r k) blankSection placeCount (countOf s)
+  unfolding stagedView
+  sections-listed =
+      ap (λ (v : Verdict). beside v (stagedSections (readImage s .sections) k (length s) (length r)) (replicate placeCount blankSection)) ok
+      ∙ sections-are s r k (stages .accepted) (stages .replaced)
+
+  -- the data of section i is what the plan takes of the joined data
+  held-piece : (i : ℕ) → i < planAfresh .count → heldBy s r (sectionIn viewSections i) ≡ pieceAt places freshData i
+  held-piece i h =
+      let c = count-same in
+      let f = sound-head s (stages .accepted) .fields .few in
+      let q : i < countOf s = omega arith in
+      ap (λ (l : List Section). heldBy s r (sectionIn l i)) sections-listed
+      ∙ ap (heldBy s r) (filled-at (stagedAt s r k) blankSection blankSection placeCount (countOf s) i q f)
+      ∙ held-is s r k (stages .accepted) i q ∙ sym (piece-part i h)
+
+  piece-long : (i : ℕ) → i < planAfresh .count → length (pieceAt places freshData i) ≡ plannedSize places i
+  piece-long i h =
+      let c = count-same in
+      ap length (piece-part i h) ∙ sizes i (omega arith) ∙ ap (λ (p : Plan). plannedSize (p .places) i) (sym plan-same)
+
+  joined-long : length freshData ≡ dataBefore places (planAfresh .count)
+  joined-long =
+      ap length (parts-are s r k (stages .accepted)) ∙ length-joined (base-plan .places) (countOf s) (partAt s r k (stages .accepted)) sizes
+      ∙ ap (λ (p : Plan). dataBefore (p .places) (p .count)) (sym plan-same)
+
+  -- ---- what a state is after a run
+
+  -- the state a after data d was taken and bytes g were written: d is the first of the joined data
+  record StagedReached (d g : List ℕ) (a : StagedWriting) : Type 0 where
+    reached : Reached planAfresh field few d g (a .writing)
+    sections-stay : a .sections ≡ viewSections
+    data-first : d ≡ take (length d) freshData
+
+  module _ (d g : List ℕ) (a : StagedWriting) (x : StagedReached d g a) where
+    abbrev left : ℕ
+    left = a .writing .«section_left»
+
+    abbrev lastBegun : ℕ
+    lastBegun = a .writing .«sections_begun»
+
+    -- the data due is the next of the joined data
+    due-none : left ≡ 0 → dueData a s r ≡ take left (drop (length d) freshData)
+    unfolding dueData
+    due-none e =
+        let whole = heldBy s r (sectionIn (a .sections) (lastBegun - 1)) in
+        let n : length whole - left ≡ length whole = omega arith in
+        ap (λ (m : ℕ). drop m whole) n ∙ drop-length whole ∙ ap (λ (m : ℕ). take m (drop (length d) freshData)) (sym e)
+
+    due-some : (m : ℕ) → lastBegun ≡ suc m → dueData a s r ≡ take left (drop (length d) freshData)
+    unfolding dueData
+    due-some m e =
+        let y = x .reached in
+        let start = y .last-start in
+        let sum = y .section-sum in
+        let f = y .begun-few in
+        let z : lastBegun - 1 ≡ m = omega arith in
+        let b = ap (dataBefore places) e ∙ before-suc places m in
+        let q = ap (dataBefore places) z in
+        let size = plannedSize places m in
+        let rest = size - left in
+        let whole : heldBy s r (sectionIn (a .sections) (lastBegun - 1)) ≡ take (rest + left) (drop (dataBefore places m) freshData) =
+        ap₂ (λ (l : List Section) (i : ℕ). heldBy s r (sectionIn l i)) (x .sections-stay) z ∙ held-piece m (omega arith)
+        ∙ ap (λ (n : ℕ). take n (drop (dataBefore places m) freshData)) (let n : size ≡ rest + left = omega arith in n) in
+        let long : length (take (rest + left) (drop (dataBefore places m) freshData)) - left ≡ rest =
+        let l = piece-long m (omega arith) in
+        let n : rest + left ≡ size = omega arith in
+        let t = ap (λ (j : ℕ). length (take j (drop (dataBefore places m) freshData))) n in
+        omega arith in
+        ap (λ (l : List ℕ). drop (length l - left) l) whole
+        ∙ ap (λ (n : ℕ). drop n (take (rest + left) (drop (dataBefore places m) freshData))) long
+        ∙ drop-first rest left (drop (dataBefore places m) freshData)
+        ∙ ap (take left) (drop-drop rest (dataBefore places m) freshData ∙ ap (λ (n : ℕ). drop n freshData) (let n : dataBefore places m + rest ≡ length d = omega arith in n))
+
+    due-is : dueData a s r ≡ take left (drop (length d) freshData)
+    due-is =
+        ⊎-elim
+        (λ (z : lastBegun ≤ 0).
+        let e : lastBegun ≡ 0 = omega arith in
+        let b = ap (dataBefore places) e ∙ before-zero places in
+        let sum = x .reached .section-sum in
+        due-none (omega arith))
+        (λ (h : 0 < lastBegun). due-some (lastBegun - 1) (omega arith))
+        (le-or-lt lastBegun 0)
+
+    staged-next : (room : ℕ)
+        → StagedReached (d ++ take (writingStepped (a .writing) (dueData a s r) room .taken) (dueData a s r)) (g ++ stagedBytesOf a s r room) (stagedStepped a s r room .state)
+    unfolding stagedStepped
+    staged-next room =
+        let n = writingStepped (a .writing) (dueData a s r) room .taken in
+        let y = take n (dueData a s r) in
+        let rest = drop (length d) freshData in
+        let some : y ≡ take (length y) rest = ap (take n) due-is ∙ first-bytes n left rest ∙ ap (λ (l : List ℕ). take (length (take n l)) rest) (sym due-is) in
+        record {
+          reached = reached-step planAfresh field few d g (a .writing) (x .reached) (dueData a s r) room;
+          sections-stay = x .sections-stay;
+          data-first = ap₂ (λ (u v : List ℕ). u ++ v) (x .data-first) some ∙ sym (take-add (length d) (length y) freshData) ∙ ap (λ (m : ℕ). take m freshData) (sym (length-append d y));
+        }
+
+  staged-run : (rooms : List ℕ) (d g : List ℕ) (a : StagedWriting) → StagedReached d g a
+      → StagedReached (d ++ dataTaken (a .writing) (stagedSteps a s r rooms)) (g ++ stagedBytesWritten a s r rooms) (afterStagedSteps a s r rooms)
+  unfolding stagedSteps dataTaken stagedBytesWritten afterStagedSteps stagedStepped
+  staged-run [] d g a x = rw (append-nil d, append-nil g) x
+  staged-run (room ∷ rooms) d g a x =
+      let next = stagedStepped a s r room .state in
+      let y = take (writingStepped (a .writing) (dueData a s r) room .taken) (dueData a s r) in
+      rw (sym (append-assoc d y (dataTaken (next .writing) (stagedSteps next s r rooms))), sym (append-assoc g (stagedBytesOf a s r room) (stagedBytesWritten next s r rooms)))
+      (staged-run rooms (d ++ y) (g ++ stagedBytesOf a s r room) next (staged-next d g a x room))
+
+  -- the run is one of writing
+  steps-same : (rooms : List ℕ) (a : StagedWriting)
+      → (afterStagedSteps a s r rooms .writing ≡ afterSteps (a .writing) (stagedSteps a s r rooms)) × (stagedBytesWritten a s r rooms ≡ bytesWritten (a .writing) (stagedSteps a s r rooms))
+  unfolding stagedSteps afterSteps bytesWritten stagedBytesWritten afterStagedSteps stagedStepped
+  steps-same [] a = (refl, refl)
+  steps-same (room ∷ rooms) a =
+      let next = stagedStepped a s r room .state in
+      let e = steps-same rooms next in
+      (e .0, ap (λ (l : List ℕ). stagedBytesOf a s r room ++ l) (e .1))
+
+  -- ---- the laws
+
+  module _ (rooms : List ℕ) where
+    abbrev first : StagedWriting
+    first = stagedBegun s r k field .state
+
+    abbrev last : StagedWriting
+    last = afterStagedSteps first s r rooms
+
+    abbrev written : List ℕ
+    written = stagedBytesWritten first s r rooms
+
+    abbrev steps : List WriteStep
+    steps = stagedSteps first s r rooms
+
+    abbrev planStart : Writing
+    planStart = writingBegun planAfresh field .state
+
+    first-start : first .writing ≡ startWriting planAfresh field
+    unfolding stagedBegun
+    first-start = ap (λ (v : Verdict). beside v (startWriting planAfresh field) emptyWriting) ok
+
+    first-same : first .writing ≡ planStart
+    unfolding writingBegun
+    first-same = first-start ∙ sym (ap (λ (v : Verdict). beside v (startWriting planAfresh field) emptyWriting) plan-ok)
+
+    first-sections : first .sections ≡ viewSections
+    unfolding stagedBegun
+    first-sections = refl
+
+    whole-run : StagedReached (dataTaken (first .writing) steps) written last
+    whole-run = staged-run rooms [] [] first (record { reached = rw first-start (reached-start planAfresh field few); sections-stay = first-sections; data-first = refl })
+
+    written-same : written ≡ bytesWritten planStart steps
+    written-same = steps-same rooms first .1 ∙ ap (λ (a : Writing). bytesWritten a steps) first-same
+
+    last-same : last .writing ≡ afterSteps planStart steps
+    last-same = steps-same rooms first .0 ∙ ap (λ (a : Writing). afterSteps a steps) first-same
+
+    -- no more bytes are written than begin answered
+    pub staged-bytes-bounded : length written ≤ plainSize planAfresh
+    staged-bytes-bounded = rw written-same (bytes-bounded planAfresh field plan-ok steps)
+
+    -- the image is complete when as many bytes are written as begin answered
+    module _ (whole : length written ≡ plainSize planAfresh) where
+      whole-same : length (bytesWritten planStart steps) ≡ plainSize planAfresh
+      whole-same = ap length (sym written-same) ∙ whole
+
+      -- the data taken is all data of the image written afresh
+      all-data : dataTaken planStart steps ≡ freshData
+      all-data =
+          let t : dataTaken planStart steps ≡ take (length (dataTaken planStart steps)) freshData = rw first-same at (whole-run .data-first) in
+          let n = complete-data planAfresh field plan-ok steps whole-same in
+          let l = joined-long in
+          t ∙ take-all (length (dataTaken planStart steps)) freshData (omega arith)
+
+      pub staged-finish : writingSummed (last .writing) .verdict ≡ Accepted
+      staged-finish = rw last-same (finish-accepts planAfresh field plan-ok steps (complete-data planAfresh field plan-ok steps whole-same))
+
+      -- with the checksum put in its place, the bytes written are the image written afresh
+      pub staged-checksum-put : over written checksumAt (beBytes 4 (writingSummed (last .writing) .checksum)) ≡ afresh s r k
+      unfolding afresh
+      staged-checksum-put =
+          ap₂ (λ (l : List ℕ) (a : Writing). over l checksumAt (beBytes 4 (writingSummed a .checksum))) written-same last-same
+          ∙ checksum-put planAfresh field plan-ok steps whole-same ∙ ap (plainImage planAfresh) all-data
+
+    -- while the image is not complete, a step with room for a section's own header writes a byte or more
+    pub staged-progress : (room : ℕ) → length written < plainSize planAfresh → sectionHeaderSize ≤ room → 0 < length (stagedBytesOf last s r room)
+    staged-progress room short wide =
+        let end = afterSteps planStart steps in
+        let t = dataTaken (first .writing) steps in
+        let y = whole-run .reached in
+        let sum = y .section-sum in
+        let up = before-le places (last .writing .«sections_begun») (planAfresh .count) (y .begun-few) in
+        let long = joined-long in
+        let due : length (dueData last s r) ≡ min (last .writing .«section_left») (length freshData - length t) =
+        ap length (due-is t written last whole-run) ∙ length-take (last .writing .«section_left») (drop (length t) freshData)
+        ∙ ap (min (last .writing .«section_left»)) (length-drop (length t) freshData) in
+        let lent : (end .«section_left» ≡ 0 → ⊥) → 0 < length (dueData last s r) =
+        λ n.
+        ⊎-elim
+        (λ (z : last .writing .«section_left» ≤ 0). absurd (n (ap (λ (a : Writing). a .«section_left») (sym last-same) ∙ (omega arith))))
+        (λ (h : 0 < last .writing .«section_left»). omega arith)
+        (le-or-lt (last .writing .«section_left») 0) in
+        let less : length (bytesWritten planStart steps) < plainSize planAfresh = rw written-same at short in
+        let some = moves planAfresh field plan-ok steps (dueData last s r) room less wide lent in
+        let same = ap (λ (a : Writing). length (stepBytes a (dueData last s r) room)) last-same in
+        omega arith
