@@ -5,26 +5,24 @@ use mathlib.Core.List.{List, [], _++_, append-assoc}
 use native.Mathlib.Omega.{arith}
 use native.Mathlib.Nat.{zero-add}
 use lib.ListN.{replicate, length-append}
-use Rattle.octets.specs.Lists.{All, joinedBy}
-use Rattle.octets.proofs.Lists.{all-map}
+use Rattle.octets.specs.Lists.{joinedBy}
 use Rattle.eif.specs.Answers.{beside}
 use Rattle.eif.specs.Numbers.{placeCount}
 use Rattle.eif.specs.Layout.{headerFlagsOf, countOf, kindAt, sizeAt}
 use Rattle.octets.specs.Logic.{choose}
 use Rattle.eif.specs.Rules.{bootType}
 use Rattle.eif.specs.Reading.{verdictOf, dataOf, blankSection, sectionAt, sectionsOf, readImage}
-use Rattle.eif.specs.Roll.{headOf, endType, rollBytes}
+use Rattle.eif.specs.Roll.{headOf, endType, flagsRecord, rollBytes}
 use Rattle.eif.specs.Table.{filled, joinFrom}
 use Rattle.eif.specs.declared.Section.{Section}
 use Rattle.eif.specs.declared.Verdict.{Verdict}
 use Rattle.eif.specs.declared.Verdict.the-variants.{Accepted, Refused}
-use Rattle.eif_lemmas.proofs.Accept.{Inside, length-data, passes, sections-inside, sound-at}
+use Rattle.eif_lemmas.proofs.Accept.{length-data, passes, sound-at}
 use Rattle.eif_lemmas.proofs.Head.{length-head}
 use Rattle.eif_lemmas.proofs.Reading.{verdict-is}
 use Rattle.eif_lemmas.proofs.Table.{filled-same}
-use Rattle.roll_writer.specs.Write.{rollPart, rollFor, sectionsRoll}
-use Rattle.roll_writer.proofs.Steps.{sections-roll}
-use Rattle.staged.specs.View.{Holds}
+use Rattle.roll_writer.specs.Write.{rollPart, rollFor}
+use Rattle.roll_writer.proofs.Steps.{roll-records}
 use Rattle.sha384_block.specs.Fips.{sha384}
 use Rattle.sha384.specs.State.{digestFrom, stateAfter}
 use Rattle.sha384_laws.proofs.Fed.{fresh-finished}
@@ -66,6 +64,7 @@ module _ (s : List ℕ) (ok : verdictOf s ≡ Accepted) where
   record-own i h =
       record-in s i (has-begun i h)
       ∙ ap (λ (d : List ℕ). choose (bootType (kindAt s i)) (headOf (sizeAt s i) (kindAt s i) ++ d) []) (data-own s ok i h)
+      ∙ ap (λ (n : ℕ). choose (bootType (kindAt s i)) (headOf n (kindAt s i) ++ dataOf s (sectionAt s i)) []) (sym (length-data s (sectionAt s i) (sound-at s ok i h .ends)))
 
   record-past : (i : ℕ) → countOf s ≤ i → recordSoFar s i ≡ []
   record-past i h = record-out s i (λ k. omega (arith, all-ordered s ok, k .order))
@@ -87,15 +86,12 @@ module _ (s : List ℕ) (ok : verdictOf s ≡ Accepted) where
       sym (records-from placeCount (countOf s) 0 (omega arith) (few-sections s ok))
       ∙ ap (joinedBy part) (filled-same (λ k. sectionAt s (0 + k)) (sectionAt s) blankSection placeCount (countOf s) (λ j l. ap (sectionAt s) (zero-add j)))
 
-  held : All (Holds (dataOf s)) (sectionsOf s)
-  held = all-map (Inside s) (Holds (dataOf s)) (length-data s) (sectionsOf s) (sections-inside s ok)
-
   pub roll-is : rollSoFar s ++ headOf 0 endType ≡ rollBytes s
-  unfolding rollSoFar rollBytes sectionsRoll rollFor
+  unfolding rollSoFar rollBytes rollFor
   roll-is =
       append-assoc (flagsSoFar s) (joinFrom (recordSoFar s) placeCount 0) (headOf 0 endType)
       ∙ ap₂ (λ (x y : List ℕ). x ++ (y ++ headOf 0 endType)) (flags-whole s (passes s ok .head .whole)) records-are
-      ∙ sections-roll (dataOf s) (headerFlagsOf s) (sectionsOf s) held
+      ∙ ap (λ (r : List ℕ). flagsRecord (headerFlagsOf s) ++ r) (roll-records (dataOf s) (sectionsOf s))
 
   pub digest-own : fingerprintBeside Accepted (stateAfter (rollSoFar s)) ≡ fingerprintOf s
   unfolding fingerprintBeside fingerprintOf

@@ -1,13 +1,13 @@
 -- The fingerprint of an image by its own reading, and the answer.
-use Prim.Native.Nat.{ℕ, _^_, _<_, _≤_}
+use Prim.Native.Nat.{ℕ, _^_, _<_}
 use mathlib.Core.Path.{_≡_, refl, sym, ap, ap₂, _∙_}
 use mathlib.Core.List.{List, []}
 use native.Mathlib.Omega.{arith}
 use lib.ListN.{length}
+use Rattle.octets.specs.Bytes.{AreBytes}
 use Rattle.eif.specs.Answers.{beside}
 use Rattle.eif.specs.Order.{firstThatApplies, imageRules}
 use Rattle.eif.specs.Reading.{verdictOf, dataOf, readImage}
-use Rattle.eif.specs.Roll.{rollBytes}
 use Rattle.eif.specs.declared.Reading.{Reading}
 use Rattle.eif.specs.declared.Refusal.{Refusal}
 use Rattle.eif.specs.declared.Section.{Section}
@@ -16,16 +16,13 @@ use Rattle.eif.specs.declared.Verdict.the-variants.{Accepted, Refused}
 use Rattle.eif_laws.proofs.FirstApplies.{read-first}
 use Rattle.eif_lemmas.proofs.Reading.{verdict-is}
 use Rattle.sha384_block.specs.Fips.{sha384}
-use Rattle.sha384.specs.State.{totalLimit}
 use Rattle.staged.specs.Staged.{stagedVerdict, afresh}
 use Rattle.staged.specs.View.{heldBy, stagedView}
 use Rattle.staged.specs.declared.Staged.{Staged}
 use Rattle.staged.proofs.Held.{held-alone}
-use Rattle.roll_writer.specs.Write.{sectionsRoll}
-use Rattle.roll_writer.proofs.Steps.{size-is}
-use Rattle.roll_writer.proofs.Reading.{holds, bounded, roll-is}
+use Rattle.roll_writer.proofs.Reading.{bounded, roll-is}
 use Rattle.roll_writer.proofs.Staging as staging
-use Rattle.eif_fingerprint.specs.Fingerprint.{fingerprintOf, noFingerprint, fingerprintFor, fingerprintAnswer, stagedFingerprint, rollDigest, readFingerprint}
+use Rattle.eif_fingerprint.specs.Fingerprint.{fingerprintOf, noFingerprint, fingerprintAnswer, stagedFingerprint, rollDigest, readFingerprint, viewFingerprint}
 use Rattle.eif_fingerprint.specs.declared.Fingerprinted.{Fingerprinted}
 use Rattle.eif_fingerprint.proofs.Hashed.{roll-hashed}
 
@@ -51,11 +48,8 @@ module _ (s : List ℕ) (r : Reading) (is : r ≡ readImage s) where
   own-digest : r .verdict ≡ Accepted → rollDigest (r .flags) (dataOf s) (r .sections) ≡ fingerprintOf s
   unfolding fingerprintOf
   own-digest ok =
-      let n = size-is (heldBy s []) (r .flags) (r .sections) (holds s r is ok) in
       let b = bounded s r is ok in
-      let few : length (sectionsRoll (r .flags) (heldBy s []) (r .sections)) ≤ totalLimit = omega arith in
-      sym (digest-alone s (r .flags) (r .sections))
-      ∙ roll-hashed (heldBy s []) (r .flags) (r .sections) few ∙ ap sha384 (roll-is s r is ok)
+      roll-hashed (dataOf s) (r .flags) (r .sections) (omega arith) ∙ ap sha384 (roll-is s r is ok)
 
   by-verdict : (v : Verdict) → r .verdict ≡ v → readFingerprint s r ≡ beside v (fingerprintOf s) noFingerprint
   by-verdict (Refused f) e = sym (read-refused s r f e)
@@ -73,29 +67,42 @@ module _ (s : List ℕ) (r : Reading) (is : r ≡ readImage s) where
 
 -- ---- a staged view
 
-module _ (s r : List ℕ) (k : ℕ) (x : Staged) (is : x ≡ stagedView s (length r) k k) where
-  pub staged-refused : (f : Refusal) → x .verdict ≡ Refused f
-      → _≡_ {A = Fingerprinted} (record { verdict = x .verdict; digest = noFingerprint }) (stagedFingerprint s r k)
-  unfolding stagedFingerprint
-  staged-refused f e =
-      let v = staging.verdict-is s r k x is in
-      let w : stagedVerdict s (length r) k k ≡ Refused f = sym v ∙ e in
-      rw e (sym (ap (λ (y : Verdict). fingerprintFor y (afresh s r k)) w))
+-- any view
+module _ (s r : List ℕ) (x : Staged) where
+  pub view-refused : (f : Refusal) → x .verdict ≡ Refused f → noFingerprint ≡ viewFingerprint s r x
+  unfolding viewFingerprint
+  view-refused f e = simp e
 
-  -- the flags fit in two bytes
-  pub staged-accepted : x .verdict ≡ Accepted → x .flags < 2 ^ 16 → {d : List ℕ} → d ≡ rollDigest (x .flags) (heldBy s r) (x .sections)
-      → _≡_ {A = Fingerprinted} (record { verdict = Accepted; digest = d }) (stagedFingerprint s r k)
-  unfolding stagedFingerprint fingerprintOf
-  staged-accepted told h {d} e =
-      let n = size-is (heldBy s r) (x .flags) (x .sections) (staging.holds s r k x is told) in
+  pub view-accepted : x .verdict ≡ Accepted → rollDigest (x .flags) (heldBy s r) (x .sections) ≡ viewFingerprint s r x
+  unfolding viewFingerprint
+  view-accepted e = simp e
+
+-- the base's own, whose flags fit in two bytes
+module _ (s r : List ℕ) (k : ℕ) (x : Staged) (is : x ≡ stagedView s (length r) k k) (fit : x .verdict ≡ Accepted → x .flags < 2 ^ 16) where
+  view-digest : x .verdict ≡ Accepted → rollDigest (x .flags) (heldBy s r) (x .sections) ≡ fingerprintOf (afresh s r k)
+  unfolding fingerprintOf
+  view-digest told =
       let b = staging.bounded s r k x is told in
-      let few : length (sectionsRoll (x .flags) (heldBy s r) (x .sections)) ≤ totalLimit = omega arith in
-      let i : d ≡ sha384 (rollBytes (afresh s r k)) =
-      e ∙ roll-hashed (heldBy s r) (x .flags) (x .sections) few ∙ ap sha384 (staging.roll-is s r k x is told h) in
-      ap with i ∙ sym (ap (λ (y : Verdict). fingerprintFor y (afresh s r k)) (staging.ok s r k x is told))
+      roll-hashed (heldBy s r) (x .flags) (x .sections) (omega arith) ∙ ap sha384 (staging.roll-is s r k x is fit told)
+
+  view-by : (v : Verdict) → x .verdict ≡ v → viewFingerprint s r x ≡ beside v (fingerprintOf (afresh s r k)) noFingerprint
+  view-by (Refused f) e = sym (view-refused s r x f e)
+  view-by Accepted e = sym (view-accepted s r x e) ∙ view-digest e
+
+  view-is : viewFingerprint s r x ≡ beside (stagedVerdict s (length r) k k) (fingerprintOf (afresh s r k)) noFingerprint
+  view-is = view-by (stagedVerdict s (length r) k k) (staging.verdict-is s r k x is)
+
+  pub staged-is : {d : List ℕ} → d ≡ viewFingerprint s r x → _≡_ {A = Fingerprinted} (record { verdict = x .verdict; digest = d }) (stagedFingerprint s r k)
+  unfolding stagedFingerprint
+  staged-is {d} e = ap₂ with (staging.verdict-is s r k x is) (e ∙ view-is)
     where
-      with : List ℕ → Fingerprinted
-      with l = record { verdict = Accepted; digest = l }
+      with : Verdict → List ℕ → Fingerprinted
+      with v l = record { verdict = v; digest = l }
+
+-- the form over a view agrees with the form over base and replacement, for every base of bytes
+pub step-view-agrees : (s r : List ℕ) (k : ℕ) → AreBytes s → viewFingerprint s r (stagedView s (length r) k k) ≡ stagedFingerprint s r k .digest
+unfolding stagedFingerprint
+step-view-agrees s r k ws = view-is s r k (stagedView s (length r) k k) refl (staging.flags-fit s r k ws)
 
 module _ (s : List ℕ) where
   -- the form over a reading agrees with the form over the image, for every image

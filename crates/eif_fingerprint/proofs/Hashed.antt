@@ -14,6 +14,7 @@ use Rattle.eif.specs.Rules.{bootType}
 use Rattle.eif.specs.Roll.{headOf, flagsRecord, endType}
 use Rattle.eif.specs.declared.Section.{Section}
 use Rattle.roll_writer.specs.Write.{rollPart, rollFor, sectionsRoll}
+use Rattle.roll_writer.proofs.Steps.{sections-roll}
 use Rattle.sha384_block.specs.Fips.{sha384}
 use Rattle.sha384.specs.State.{initialState, moreHashed, stateAfter, digestFrom, totalLimit}
 use Rattle.sha384.specs.declared.State.{State}
@@ -25,7 +26,7 @@ module _ (held : Section → List ℕ) where
   -- ---- the code's steps
 
   module _ (roll : State) (x : Section) where
-    pub record-boot : bootType (x .kind) ≡ true → recordHashed held roll x ≡ moreHashed (moreHashed roll (headOf (x .length .0) (x .kind))) (held x)
+    pub record-boot : bootType (x .kind) ≡ true → recordHashed held roll x ≡ moreHashed (moreHashed roll (headOf (length (held x)) (x .kind))) (held x)
     unfolding recordHashed
     record-boot e = simp e
 
@@ -51,11 +52,11 @@ module _ (held : Section → List ℕ) where
   record-more s x h = by (bootType (x .kind)) h
     where
       head : List ℕ
-      head = headOf (x .length .0) (x .kind)
+      head = headOf (length (held x)) (x .kind)
 
-      by : (b : Bool) → length (s ++ choose b (headOf (x .length .0) (x .kind) ++ held x) []) ≤ totalLimit
-          → choose b (moreHashed (moreHashed (stateAfter s) (headOf (x .length .0) (x .kind))) (held x)) (stateAfter s)
-          ≡ stateAfter (s ++ choose b (headOf (x .length .0) (x .kind) ++ held x) [])
+      by : (b : Bool) → length (s ++ choose b (headOf (length (held x)) (x .kind) ++ held x) []) ≤ totalLimit
+          → choose b (moreHashed (moreHashed (stateAfter s) (headOf (length (held x)) (x .kind))) (held x)) (stateAfter s)
+          ≡ stateAfter (s ++ choose b (headOf (length (held x)) (x .kind) ++ held x) [])
       by true g =
           let a = length-append s (head ++ held x) in
           let b = length-append head (held x) in
@@ -80,11 +81,13 @@ module _ (held : Section → List ℕ) where
 
   -- the digest of a roll within SHA-384's limit
   pub roll-hashed : (flags : ℕ) (l : List Section) → length (sectionsRoll flags held l) ≤ totalLimit → rollDigest flags held l ≡ sha384 (sectionsRoll flags held l)
-  unfolding rollDigest sectionsRoll rollFor
+  unfolding rollDigest rollFor
   roll-hashed flags l h =
       let first = flagsRecord flags in
       let records = joinedBy (rollPart held) l in
       let last = headOf 0 endType in
+      let whole : first ++ (records ++ last) ≡ sectionsRoll flags held l = sections-roll held flags l in
+      let n = ap length whole in
       let a = length-append first (records ++ last) in
       let b = length-append records last in
       let c = length-append first records in
@@ -95,4 +98,4 @@ module _ (held : Section → List ℕ) where
       ∙ ap (λ (st : State). digestFrom (moreHashed st last)) (records-more first l (omega arith))
       ∙ ap digestFrom (after-more (first ++ records) last (omega arith))
       ∙ fresh-finished ((first ++ records) ++ last)
-      ∙ ap sha384 (append-assoc first records last)
+      ∙ ap sha384 (append-assoc first records last ∙ whole)

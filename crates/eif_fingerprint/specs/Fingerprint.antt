@@ -14,6 +14,8 @@ use Rattle.sha384_block.specs.Fips.{digestSize, sha384}
 use Rattle.sha384.specs.State.{initialState, moreHashed, digestFrom}
 use Rattle.sha384.specs.declared.State.{State}
 use Rattle.staged.specs.Staged.{stagedVerdict, afresh}
+use Rattle.staged.specs.View.{heldBy}
+use Rattle.staged.specs.declared.Staged.{Staged}
 use Rattle.eif_fingerprint.specs.declared.Fingerprinted.{Fingerprinted}
 
 -- the fingerprint of an image
@@ -36,11 +38,11 @@ fingerprintAnswer s = fingerprintFor (verdictOf s) s
 unfoldable pub stagedFingerprint : List ℕ → List ℕ → ℕ → Fingerprinted
 stagedFingerprint s r k = fingerprintFor (stagedVerdict s (length r) k k) (afresh s r k)
 
--- ---- record by record, for any sections and any data of theirs
+-- ---- record by record, for any sections and any data of theirs; the head of a record has the length of its data
 
 -- the hash state after the record of a section
 unfoldable pub recordHashed : (Section → List ℕ) → State → Section → State
-recordHashed held roll x = choose (bootType (x .kind)) (moreHashed (moreHashed roll (headOf (x .length .0) (x .kind))) (held x)) roll
+recordHashed held roll x = choose (bootType (x .kind)) (moreHashed (moreHashed roll (headOf (length (held x)) (x .kind))) (held x)) roll
 
 -- the hash state after the records of sections
 unfoldable pub recordsHashed : (Section → List ℕ) → State → List Section → State
@@ -54,3 +56,7 @@ rollDigest flags held l = digestFrom (moreHashed (recordsHashed held (moreHashed
 -- the fingerprint of an image s by its reading; zero for a refused reading
 unfoldable pub readFingerprint : List ℕ → Reading → List ℕ
 readFingerprint s r = beside (r .verdict) (rollDigest (r .flags) (dataOf s) (r .sections)) noFingerprint
+
+-- the same by a staged view over base s and replacement r; zero for a refused view
+unfoldable pub viewFingerprint : List ℕ → List ℕ → Staged → List ℕ
+viewFingerprint s r x = beside (x .verdict) (rollDigest (x .flags) (heldBy s r) (x .sections)) noFingerprint

@@ -6,7 +6,7 @@ ghost use mathlib.Core.Path.{_≡_};
 ghost use Rattle.eif.specs.Roll.{headOf, flagsRecord};
 ghost use Rattle.sha384.specs.State.{moreHashed};
 ghost use Rattle.staged.specs.View.{heldBy};
-ghost use Rattle.eif_fingerprint.specs.Fingerprint.{recordHashed, recordsHashed, rollDigest, readFingerprint, fingerprintAnswer, stagedFingerprint};
+ghost use Rattle.eif_fingerprint.specs.Fingerprint.{recordHashed, recordsHashed, rollDigest, readFingerprint, viewFingerprint, fingerprintAnswer, stagedFingerprint};
 use eif::FlagsRecord;
 use eif::PLACES;
 use eif::Reading;
@@ -16,6 +16,7 @@ use eif::SectionType;
 use eif::Verdict;
 use sha384::State;
 use sha384_block::DIGEST_SIZE;
+use staged::Staged;
 
 // An image's verdict and its fingerprint; the fingerprint is zero for a refused image.
 pub struct Fingerprinted {
@@ -51,8 +52,9 @@ fn hash_record<'a>(roll: State, base: &'a [u8], replacement: &'a [u8], x: Sectio
     ensures { λ r. ⌜ r ≡ recordHashed (heldBy (now (base .entry)) (now (replacement .entry))) roll x ⌝ }
 {
     if SectionType::is_boot(x.kind) {
-        let head = hash_head(roll, x.length.0, x.kind);
-        return sha384::after(head, staged_view::held(base, replacement, x));
+        let own = staged_view::held(base, replacement, x);
+        let head = hash_head(roll, own.len() as u64, x.kind);
+        return sha384::after(head, own);
     }
     roll
 }
@@ -116,22 +118,24 @@ pub fn fingerprint(image: &[u8]) -> Fingerprinted
     Fingerprinted { verdict, digest }
 }
 
+// The same from a staged view that the caller has already; zero for a refused view.
+pub fn step_view<'a>(base: &'a [u8], replacement: &'a [u8], view: Staged) -> [u8; DIGEST_SIZE]
+    ensures { λ r. ⌜ r ≡ viewFingerprint (now (base .entry)) (now (replacement .entry)) view ⌝ }
+{
+    let verdict = view.verdict;
+    let Verdict::Accepted = verdict else {
+        return [0u8; DIGEST_SIZE];
+    };
+    let sections = view.sections;
+    roll_digest(base, replacement, view.flags, sections)
+}
+
 // The fingerprint of the image written afresh with a replacement for one section, from where the data lies; or the refusal, and zero.
 pub fn fingerprint_staged<'a>(base: &'a [u8], replacement: &'a [u8], replaced: u64) -> Fingerprinted
     ensures { λ r. ⌜ r ≡ stagedFingerprint (now (base .entry)) (now (replacement .entry)) replaced ⌝ }
 {
     let view = staged_view::judge(base, replacement.len() as u64, replaced, replaced);
     let verdict = view.verdict;
-    let Verdict::Accepted = verdict else {
-        return Fingerprinted {
-            verdict,
-            digest: [0u8; DIGEST_SIZE],
-        };
-    };
-    let sections = view.sections;
-    let digest = roll_digest(base, replacement, view.flags, sections);
-    Fingerprinted {
-        verdict: Verdict::Accepted,
-        digest,
-    }
+    let digest = step_view(base, replacement, view);
+    Fingerprinted { verdict, digest }
 }

@@ -7,13 +7,12 @@ use native.Mathlib.Omega.{arith}
 use borrow.Author.Tests.{leb-false, ltb-false, lt-leb, le-ltb}
 use Rattle.eif.specs.Numbers.{sizeLimit}
 use Rattle.eif.specs.Layout.{headerFlagsOf, countOf}
-use Rattle.eif.specs.Reading.{verdictOf, readImage, sectionAt, sectionsOf}
+use Rattle.eif.specs.Reading.{verdictOf, readImage, sectionsOf}
 use Rattle.eif.specs.Plan.{plainSize}
 use Rattle.staged.specs.Staged.{stagedPlan, stagedVerdict}
 use Rattle.eif.specs.declared.Reading.{Reading}
 use Rattle.eif.specs.declared.Verdict.the-variants.{Accepted}
 use Rattle.octets.proofs.Logic.{either-false}
-use Rattle.eif_lemmas.proofs.Accept.{passes, sound-at}
 use Rattle.eif_lemmas.proofs.Reading.{reading-accepted}
 use Rattle.eif_lemmas.proofs.Verdicts.{then-accepted, refused-not}
 
@@ -33,10 +32,6 @@ module _ (s : List ℕ) (ok : verdictOf s ≡ Accepted) where
 
   pub base-sections : readImage s .sections ≡ sectionsOf s
   base-sections = ap (λ (x : Reading). x .sections) (reading-accepted s ok)
-
-  -- none is longer than an image
-  pub base-small : (i : ℕ) → i < countOf s → sectionAt s i .length .0 ≤ sizeLimit
-  base-small i h = let q = sound-at s ok i h .ends in let m = passes s ok .head .small in omega arith
 
 module _ (s : List ℕ) (size k j : ℕ) where
   pub staged→ : stagedVerdict s size k j ≡ Accepted → Stages s size k j

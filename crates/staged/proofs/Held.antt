@@ -8,10 +8,10 @@ use mathlib.Core.List.{List, [], _++_}
 use mathlib.Core.Logic.{⊎-elim}
 use native.Mathlib.Omega.{arith}
 use borrow.Author.Tests.{eq-eqb, ne-eqb, lt-ltb, le-ltb}
-use lib.Dec.{eqb}
-use lib.ListN.{length, set, take, drop, drop-of-length-le}
+use lib.Dec.{ltb, eqb}
+use lib.ListN.{length, set, take, drop, length-take, length-drop, drop-of-length-le}
 use lib.Seq.{take-length, drop-nil}
-use Rattle.octets.specs.Lists.{All, joinedBy}
+use Rattle.octets.specs.Lists.{joinedBy}
 use Rattle.eif.specs.Numbers.{placeCount, sizeLimit}
 use Rattle.octets.specs.Logic.{choose}
 use Rattle.eif.specs.Table.{filled}
@@ -24,14 +24,14 @@ use Rattle.eif.specs.declared.Section.{Section}
 use Rattle.eif.specs.declared.Stream.{Stream}
 use Rattle.eif.specs.declared.Verdict.the-variants.{Accepted}
 use Rattle.octets.proofs.Logic.{equal-or-not, le-or-lt, choose-holds}
-use Rattle.eif_lemmas.proofs.Table.{all-filled, length-filled}
-use Rattle.eif_lemmas.proofs.Accept.{Inside, length-data, sound-at}
+use Rattle.eif_lemmas.proofs.Table.{length-filled}
+use Rattle.eif_lemmas.proofs.Accept.{Inside, passes, sound-at}
 use Rattle.eif_lemmas.proofs.Reading.{reading-section}
 use Rattle.plain_laws.proofs.Written.{size-small, read-flags}
 use Rattle.plain_laws.proofs.WriteBack.{sound-head}
 use Rattle.staged.specs.Staged.{afresh}
-use Rattle.staged.specs.View.{moved, stagedSections, heldBy, heldStart, Holds}
-use Rattle.staged.proofs.Accept.{Stages, base-flags, base-sections, base-small}
+use Rattle.staged.specs.View.{moved, stagedSections, heldBy, heldStart}
+use Rattle.staged.proofs.Accept.{Stages, base-flags, base-sections}
 use Rattle.staged.proofs.Afresh.{partAt, partsJoined, changedPlan, freshImage, plan-is, afresh-is, part-replaced, size-kept, changed-planned, fresh-count, fresh-kind, fresh-data}
 use Rattle.staged.proofs.Same.{same-records, set-filled}
 use Rattle.eif_lemmas.proofs.Streams.{same-stream}
@@ -69,9 +69,15 @@ module _ (s r : List ℕ) (x : Section) where
       (λ (g : x .position .0 < length s). held-base g)
       (le-or-lt (length s) (x .position .0))
 
-  -- and whose data is then as long as it says
-  pub holds-inside : Inside s x → Holds (heldBy s r) x
-  holds-inside h = ap length (held-inside h) ∙ length-data s x h
+  -- no data is longer than both slices
+  pub held-within : (n : ℕ) → length s ≤ n → length r ≤ n → length (heldBy s r x) ≤ n
+  unfolding heldBy
+  held-within n hs hr =
+      let m = x .length .0 in
+      let p = x .position .0 in
+      choose-holds (λ (d : List ℕ). length d ≤ n) (ltb p (length s)) (take m (drop p s)) (take m (drop (p - length s) r))
+      (λ _. omega (arith, length-take m (drop p s), length-drop p s))
+      (λ _. omega (arith, length-take m (drop (p - length s) r), length-drop (p - length s) r))
 
 -- with nothing after the base it is the base's
 pub held-alone : (s : List ℕ) (x : Section) → heldBy s [] x ≡ dataOf s x
@@ -93,10 +99,6 @@ module _ (s r : List ℕ) (k : ℕ) where
 
   abbrev pub stagedAt : ℕ → Section
   stagedAt i = choose (eqb i k) movedSection (sectionAt s i)
-
-  -- what holds of the moved section and of the base's section i holds of section i of the view
-  staged-by : (P : Section → Type 0) (i : ℕ) → P movedSection → P (sectionAt s i) → P (stagedAt i)
-  staged-by P i p q = choose-holds P (eqb i k) movedSection (sectionAt s i) (λ _. p) (λ _. q)
 
   replaced-data : heldBy s r movedSection ≡ r
   replaced-data =
@@ -145,6 +147,10 @@ module _ (s r : List ℕ) (k j : ℕ) (a : Stages s (length r) k j) where
       let q = ap length (part-replaced s r k ok) in
       omega arith
 
+  -- so no data of the view is
+  pub held-short : (x : Section) → length (heldBy s r x) ≤ sizeLimit
+  held-short x = held-within s r x sizeLimit (passes s ok .head .small) replacement-small
+
   abbrev image : List ℕ
   image = freshImage s r k ok
 
@@ -170,24 +176,6 @@ module _ (s r : List ℕ) (k j : ℕ) (a : Stages s (length r) k j) where
   pub stream-is : (stream : Stream) → joinedBy (heldBy s r) (streamSections stream stagedList) ≡ streamOf (afresh s r k) stream
   unfolding streamOf
   stream-is = same-stream (heldBy s r) (dataOf (afresh s r k)) stagedList (sectionsOf (afresh s r k)) records-are
-
-  -- each is as long as the list says, and no longer than an image
-
-  holds-at : (i : ℕ) → i < countOf s → Holds (heldBy s r) (stagedAt s r k i)
-  holds-at i h = staged-by s r k (Holds (heldBy s r)) i (ap length (replaced-data s r k)) (holds-inside s r (sectionAt s i) (sound-at s ok i h .ends))
-
-  small-at : (i : ℕ) → i < countOf s → stagedAt s r k i .length .0 ≤ sizeLimit
-  small-at i h = staged-by s r k (λ (x : Section). x .length .0 ≤ sizeLimit) i replacement-small (base-small s ok i h)
-
-  pub holds-all : All (Holds (heldBy s r)) stagedList
-  holds-all =
-      rw (sections-are s r k ok (a .replaced))
-      (all-filled (Holds (heldBy s r)) (stagedAt s r k) blankSection placeCount (countOf s) (holds-inside s r blankSection (omega arith)) holds-at)
-
-  pub small-all : All (λ (x : Section). x .length .0 ≤ sizeLimit) stagedList
-  small-all =
-      rw (sections-are s r k ok (a .replaced))
-      (all-filled (λ (x : Section). x .length .0 ≤ sizeLimit) (stagedAt s r k) blankSection placeCount (countOf s) (omega arith) small-at)
 
   pub listed-long : length stagedList ≡ placeCount
   listed-long = ap length (sections-are s r k ok (a .replaced)) ∙ length-filled (stagedAt s r k) blankSection placeCount (countOf s)

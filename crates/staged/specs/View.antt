@@ -5,7 +5,6 @@
 use Prim.Native.Nat.{ℕ, _+_, _-_, min}
 use mathlib.Core.Bool.{Bool, true, false}
 use mathlib.Core.List.{List}
-use mathlib.Core.Path.{_≡_}
 use lib.Dec.{ltb, eqb}
 use lib.ListN.{length, set, replicate}
 use Rattle.eif.specs.Numbers.{placeCount}
@@ -51,10 +50,6 @@ heldStart s r x base replacement =
     choose (ltb (x .position .0) (length s))
     (base .0, base .1 + min (x .position .0) (length s))
     (replacement .0, replacement .1 + min (x .position .0 - length s) (length r))
-
--- the data is as long as the section says
-abbrev pub Holds : (Section → List ℕ) → Section → Type 0
-Holds held x = length (held x) ≡ x .length .0
 
 -- ---- where what is shown stands in memory, by where the base and the replacement start there, a block and a place in it: at the replacement's
 -- start, in the base, or where it is refused at the base's start

@@ -128,6 +128,20 @@ pub fn held<'a>(base: &'a [u8], replacement: &'a [u8], x: Section) -> &'a [u8]
     stream_reader::section_data(replacement, after)
 }
 
+// How long that data is.
+pub fn held_length(base: &[u8], replacement: &[u8], x: Section) -> usize
+    ensures { λ r. ⌜ r ≡ length (heldBy (now (base .entry)) (now (replacement .entry)) x) ⌝ }
+{
+    let at = x.position.0 as usize;
+    if at < base.len() {
+        let own = stream_reader::section_data(base, x);
+        return own.len();
+    }
+    let after = moved_to(x, (at - base.len()) as u64, x.length.0);
+    let given = stream_reader::section_data(replacement, after);
+    given.len()
+}
+
 // ---- from a reading of the base that the caller has already
 
 // The verdict on a replacement of so many bytes: the reading's refusal; 5 where it counts more sections than there are places; 27 for the number of

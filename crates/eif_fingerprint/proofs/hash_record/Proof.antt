@@ -1,9 +1,11 @@
 -- `eif_fingerprint::hash_record` meets its contract: head and data, or nothing, by the section's type.
-use mathlib.Core.Path.{sym, ap₂, _∙_}
+use mathlib.Core.Path.{sym, ap, _∙_}
 use mathlib.Core.List.{List}
 use Prim.Native.Nat.{ℕ}
 use borrow.Author.Needs.{needs}
 use denote.Ref.{now}
+use lib.ListN.{length}
+use Rattle.eif.specs.Roll.{headOf}
 use Rattle.sha384.specs.State.{moreHashed}
 use Rattle.sha384.specs.declared.State.{State}
 use Rattle.staged.specs.View.{heldBy}
@@ -13,12 +15,13 @@ use Rattle.eif_fingerprint.proofs.hash_record.Tie as tie
 
 returns : tie.Need-returns
 returns c =
-    let d = c .before in
-    let h = d .before in
-    let b = h .before .before in
+    let h = c .before in
+    let d = h .before in
+    let b = d .before .before in
     let a = b .before .before .before .args in
-    c .after .ensures ∙ ap₂ (λ (st : State) (l : List ℕ). moreHashed st l) (h .hash-head .ensures) (d .held .ensures .0)
-    ∙ sym (record-boot (heldBy (now (a .base)) (now (a .replacement))) (a .roll) (a .x) (sym (b .is-boot .ensures) ∙ h .before .if1 .taken))
+    c .after .ensures ∙ ap (λ (st : State). moreHashed st (now (d .held .result))) (h .hash-head .ensures)
+    ∙ ap (λ (l : List ℕ). moreHashed (moreHashed (a .roll) (headOf (length l) (a .x .kind))) l) (d .held .ensures .0)
+    ∙ sym (record-boot (heldBy (now (a .base)) (now (a .replacement))) (a .roll) (a .x) (sym (b .is-boot .ensures) ∙ d .before .if1 .taken))
 
 returns-2 : tie.Need-returns-2
 returns-2 c =

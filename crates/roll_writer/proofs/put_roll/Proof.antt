@@ -14,15 +14,15 @@ use Rattle.eif.specs.Numbers.{placeCount}
 use Rattle.eif.specs.Reading.{blankSection}
 use Rattle.eif.specs.Roll.{headOf, endType, flagsRecordSize}
 use Rattle.staged.specs.View.{heldBy}
-use Rattle.roll_writer.specs.Write.{rollPart, rollFor, sizeFor}
-use Rattle.roll_writer.proofs.Steps.{size-step, size-end, holds-at, roll-over, roll-end}
+use Rattle.roll_writer.specs.Write.{rollPart, rollFor}
+use Rattle.roll_writer.proofs.Steps.{size-step, size-end, roll-over, roll-end}
 use Rattle.roll_writer.proofs.put_roll.Statement.{statement}
 use Rattle.roll_writer.proofs.put_roll.Tie as tie
 
 abbrev Inv-loop : tie.InvT-loop
 Inv-loop out₀ base replacement sections at₀ i₀ out at i =
     (i ≤ placeCount) × (length out ≡ length out₀)
-    × (at + sizeFor (drop i sections) ≡ flagsRecordSize + sizeFor sections)
+    × (at + length (rollFor (heldBy base replacement) (drop i sections)) ≡ flagsRecordSize + length (rollFor (heldBy base replacement) sections))
     × (over out at (rollFor (heldBy base replacement) (drop i sections)) ≡ over out₀ flagsRecordSize (rollFor (heldBy base replacement) sections))
 
 abbrev μ-loop : tie.MeasureT-loop
@@ -36,8 +36,8 @@ put-record-requires c κs =
     let a = c .before .before .before .before .before .before .before .args in
     let l = c .before .before .before .loop in
     let size : length (a .t4) ≡ placeCount = search needs in
-    let e = size-step (a .t4) (l .i) (omega arith) in
-    (omega arith, holds-at (a .t4) (l .i) (omega arith) (heldBy (now (a .base)) (now (a .replacement))) (c .before .before .before .before .before .before .before .pre .0))
+    let e = size-step (heldBy (now (a .base)) (now (a .replacement))) (a .t4) (l .i) (omega arith) in
+    omega arith
 
 loop-again : tie.Need-loop-again Inv-loop μ-loop
 loop-again c =
@@ -47,20 +47,20 @@ loop-again c =
     let t = start .args .t4 in
     let p = c .before .before .put-record .ensures in
     let size : length t ≡ placeCount = search needs in
-    let e = size-step t (l .i) (omega arith) in
+    let e = size-step s t (l .i) (omega arith) in
     rw add-one (
       omega arith,
       ap length (p .1) ∙ length-over (l .out) (l .at) (rollPart s (getD t (l .i) blankSection)) ∙ l .inv .1,
       omega arith,
       ap₂ (λ (d : List ℕ) (n : ℕ). over d n (rollFor s (drop (suc (l .i)) t))) (p .1) (p .0)
-          ∙ roll-over t (l .i) (omega arith) s (start .pre .0) (l .out) (l .at) ∙ l .inv .3,
+          ∙ roll-over s t (l .i) (omega arith) (l .out) (l .at) ∙ l .inv .3,
     )
 
 put-head-requires : tie.Need-put-head-requires Inv-loop μ-loop
 put-head-requires c κs =
-    let t = c .before .before .before .before .before .before .args .t4 in
-    let size : length t ≡ placeCount = search needs in
-    let e = size-end t (c .before .before .loop .i) (omega arith) in
+    let a = c .before .before .before .before .before .before .args in
+    let size : length (a .t4) ≡ placeCount = search needs in
+    let e = size-end (heldBy (now (a .base)) (now (a .replacement))) (a .t4) (c .before .before .loop .i) (omega arith) in
     omega arith
 
 same-length : tie.Need-same-length Inv-loop μ-loop
@@ -74,7 +74,7 @@ returns c =
     let l = c .before .before .before .before .before .loop in
     let size : length (a .t4) ≡ placeCount = search needs in
     c .before .before .put-head .ensures
-    ∙ ap (over (l .out) (l .at)) (sym (roll-end (a .t4) (l .i) (omega arith) (heldBy (now (a .base)) (now (a .replacement))))) ∙ l .inv .3
+    ∙ ap (over (l .out) (l .at)) (sym (roll-end (heldBy (now (a .base)) (now (a .replacement))) (a .t4) (l .i) (omega arith))) ∙ l .inv .3
 
 pub put-roll-spec : {M : Type 1} → statement M
 put-roll-spec =
