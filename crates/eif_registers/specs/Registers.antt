@@ -15,6 +15,8 @@ use Rattle.sha384_block.specs.Fips.{digestSize, sha384}
 use Rattle.sha384.specs.State.{initialState, digestFrom, afterAll}
 use Rattle.sha384.specs.declared.State.{State}
 use Rattle.staged.specs.Staged.{stagedVerdict, afresh}
+use Rattle.staged.specs.View.{heldBy}
+use Rattle.staged.specs.declared.Staged.{Staged}
 use Rattle.eif_registers.specs.declared.Digest.{Digest}
 use Rattle.eif_registers.specs.declared.Measurement.{Measurement}
 
@@ -73,3 +75,7 @@ stepRegisters held l = map (stepRegister held l) measuredStreams
 -- the registers of an image s that was read already, from its reading; all zero for a refused reading
 unfoldable pub readRegisters : List ℕ → Reading → List (List ℕ)
 readRegisters s r = beside (r .verdict) (stepRegisters (dataOf s) (r .sections)) noRegisters
+
+-- the same from a staged view over base s and replacement r; all zero for a refused view
+unfoldable pub viewRegisters : List ℕ → List ℕ → Staged → List (List ℕ)
+viewRegisters s r x = beside (x .verdict) (stepRegisters (heldBy s r) (x .sections)) noRegisters

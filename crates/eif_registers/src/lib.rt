@@ -12,7 +12,7 @@ ghost use lib.Seq.{slice};
 ghost use Rattle.eif.specs.Numbers.{placeCount};
 ghost use Rattle.sha384.specs.State.{initialState, digestFrom};
 ghost use Rattle.staged.specs.View.{heldBy};
-ghost use Rattle.eif_registers.specs.Registers.{registerFrom, noRegisters, registersFor, registersAnswer, stagedRegisters, hashed, stepRegisters, readRegisters};
+ghost use Rattle.eif_registers.specs.Registers.{registerFrom, noRegisters, registersFor, registersAnswer, stagedRegisters, hashed, stepRegisters, readRegisters, viewRegisters};
 use eif::PLACES;
 use eif::Reading;
 use eif::Section;
@@ -21,6 +21,7 @@ use eif::StreamSections;
 use eif::Verdict;
 use sha384::State;
 use sha384_block::DIGEST_SIZE;
+use staged::Staged;
 
 #[repr(C)]
 pub struct Digest(pub [u8; DIGEST_SIZE]);
@@ -177,6 +178,19 @@ pub fn step(image: &[u8], reading: Reading) -> [[u8; DIGEST_SIZE]; 3]
     step_over(image, &image[..0], all)
 }
 
+// The same from a staged view that the caller has already; all zero for a refused view.
+pub fn step_view<'a>(base: &'a [u8], replacement: &'a [u8], view: Staged) -> [[u8; DIGEST_SIZE]; 3]
+    ensures { λ r. ⌜ r ≡ viewRegisters (now (base .entry)) (now (replacement .entry)) view ⌝ }
+{
+    let verdict = view.verdict;
+    let Verdict::Accepted = verdict else {
+        let none = [0u8; DIGEST_SIZE];
+        return [none, none, none];
+    };
+    let all = view.sections;
+    step_over(base, replacement, all)
+}
+
 // An answer with these three.
 fn measured(all: [[u8; DIGEST_SIZE]; 3]) -> Measurement
     ensures { λ r. ⌜ r ≡ registersFor Verdict.Accepted (getD all 0 [] ∷ getD all 1 [] ∷ getD all 2 [] ∷ []) ⌝ }
@@ -223,7 +237,6 @@ pub fn registers_staged<'a>(base: &'a [u8], replacement: &'a [u8], replaced: u64
     let Verdict::Accepted = verdict else {
         return refused(verdict);
     };
-    let sections = view.sections;
-    let all = step_over(base, replacement, sections);
+    let all = step_view(base, replacement, view);
     measured(all)
 }
