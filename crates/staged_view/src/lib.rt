@@ -150,6 +150,7 @@ pub fn verdict_listed(reading: Reading, size: u64, replaced: u64, shown: u64) ->
     ensures { λ r. ⌜ r ≡ listedVerdict reading size replaced shown ⌝ }
 {
     let verdict = reading.verdict;
+    let no_such = Verdict::refuse(Refusal::NO_SUCH_SECTION, 0);
     let Verdict::Accepted = verdict else {
         return verdict;
     };
@@ -158,10 +159,10 @@ pub fn verdict_listed(reading: Reading, size: u64, replaced: u64, shown: u64) ->
         return Verdict::refuse(Refusal::WRONG_COUNT, 0);
     }
     if count <= replaced {
-        return Verdict::refuse(Refusal::NO_SUCH_SECTION, 0);
+        return no_such;
     }
     if count <= shown {
-        return Verdict::refuse(Refusal::NO_SUCH_SECTION, 0);
+        return no_such;
     }
     if too_long(reading, replaced, size) {
         return Verdict::refuse(Refusal::IMAGE_TOO_LONG, 0);
