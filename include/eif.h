@@ -559,7 +559,7 @@ EIF_MUST_USE eif_arriving_finished eif_arriving_finish(eif_arriving state);
  *     ... continue with fed.state and with the piece after its first fed.count bytes ...
  *
  * span.length is at most length, and at least 1 if length is. After eif_arriving_finish the answer is the same, but
- * eif_arriving_feed takes nothing. The type of section i, if i is less than span.begun, is the big-endian number in
+ * eif_arriving_feed takes nothing. A section with no data has no bytes here: the reading at the end lists it. The type of section i, if i is less than span.begun, is the big-endian number in
  * state.section_headers[12 * i] and [12 * i + 1]. If the file is accepted at its end, the bytes of place i, joined,
  * are the data of section i, however the file was cut. Until then no rule is checked, so what was stored must not be
  * used before eif_arriving_finish accepts the file. The call takes any state and any length. */
@@ -675,8 +675,10 @@ EIF_MUST_USE eif_fingerprint eif_image_fingerprint(const uint8_t *image, size_t 
  *     ... continue with fed.state and with what was not taken of the piece, then with the next piece ...
  *     eif_fingerprinting_finished end = eif_fingerprinting_finish(fed.state);
  *
- * Bytes are taken and counted as by eif_arriving_feed. However the file was cut, the answer is that of eif_read
- * and of eif_image_fingerprint on the bytes taken. Finishing again gives the same. */
+ * Bytes are taken and counted as by eif_arriving_feed, so fed.state.arriving is what eif_arriving_feed makes of the same
+ * pieces. To store sections or compute registers in the same pass, ask eif_arriving_next with state.arriving, and hand
+ * the same bytes to eif_measuring_feed too. However the file was cut, the answer is that of eif_read and of
+ * eif_image_fingerprint on the bytes taken. Finishing again gives the same. */
 EIF_MUST_USE eif_fingerprinting eif_fingerprinting_begin(void);
 EIF_MUST_USE eif_fingerprinting_fed eif_fingerprinting_feed(eif_fingerprinting state, const uint8_t *piece,
                                                             size_t piece_length, uint64_t allowance);

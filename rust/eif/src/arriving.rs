@@ -89,8 +89,9 @@ impl Arriving {
     }
 
     /// Of the next `length` bytes, those at the start that belong together: to the data of one section, or to
-    /// none (FORMAT.md, Check while it arrives). Before the end it makes progress: the answer's length is at least 1
-    /// if `length` is.
+    /// none (FORMAT.md, Check while it arrives). The answer's length is at least 1 if `length` is. After
+    /// [`finish`](Arriving::finish) that is still so, but [`feed`](Arriving::feed) takes nothing: a loop that goes on
+    /// until a piece is used up must end when `feed` answers 0. [`parts`](Arriving::parts) does so.
     ///
     /// ```
     /// let mut arriving = eif::Arriving::new();
@@ -114,7 +115,9 @@ impl Arriving {
 
     /// Takes a piece part by part, and hands out each part with the section whose data it is, or None where it is
     /// no section's data. A part is taken when it is handed out. Parts that are not asked for are not taken, so
-    /// that a caller who stops can continue with the rest of the piece.
+    /// that a caller who stops can continue with the rest of the piece. After the end there are none.
+    ///
+    /// A section with no data has no part. [`finish`](Arriving::finish) lists it in the reading, as every section.
     ///
     /// If [`finish`](Arriving::finish) accepts the file, the parts of section i, joined, are its data. Before that
     /// nothing is judged, so what was stored must not be used yet.

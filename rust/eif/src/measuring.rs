@@ -36,6 +36,38 @@ use std::io;
 /// assert_eq!(arriving.finish().unwrap_err().number(), 2);
 /// # Ok::<(), std::io::Error>(())
 /// ```
+///
+/// Sections can be stored in the same pass. [`arriving`](ArrivingRegisters::arriving) returns a copy, so it is taken
+/// anew for each part:
+///
+/// ```
+/// # use eif::{ArrivingRegisters, DataLength, Place, Plan, SectionType};
+/// # let places = vec![
+/// #     Place::new(SectionType::KERNEL, DataLength(4)),
+/// #     Place::new(SectionType::COMMAND_LINE, DataLength(5)),
+/// # ];
+/// # let plan = Plan { version: 2, places, ..Plan::default() };
+/// # let image = eif::write_to_vec(&plan, b"kernquiet")?;
+/// let mut measuring = ArrivingRegisters::new();
+/// let mut kernel = Vec::new();
+/// for mut piece in image.chunks(100) {
+///     while !piece.is_empty() {
+///         let arriving = measuring.arriving();
+///         let span = arriving.next(piece.len() as u64);
+///         let count = measuring.feed_at_most(piece, span.length);
+///         let is_kernel = |index| arriving.section_type(index) == Some(SectionType::KERNEL);
+///         if span.section.is_some_and(is_kernel) {
+///             kernel.extend_from_slice(&piece[..count]);
+///         }
+///         piece = &piece[count..];
+///     }
+/// }
+/// // Only now is it known that what was stored is a kernel.
+/// let (_, registers) = measuring.finish()?;
+/// assert_eq!(kernel, b"kern");
+/// # assert_eq!(registers, eif::registers(&image)?);
+/// # Ok::<(), eif::Refusal>(())
+/// ```
 #[derive(Clone, Debug, PartialEq, Eq)]
 pub struct ArrivingRegisters(Measuring);
 

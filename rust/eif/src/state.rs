@@ -51,7 +51,10 @@ macro_rules! while_arriving {
                 self.0.arriving.taken
             }
 
-            /// The part of the state that checks the image, to ask which section the next bytes belong to.
+            /// A copy of the part of the state that checks the image, to ask it which section the next bytes belong to.
+            /// Feeding the copy does not feed this one: ask [`next`]($crate::Arriving::next) of the copy, feed this one,
+            /// and take a new copy for the bytes after these. [`ArrivingRegisters`]($crate::ArrivingRegisters) has an
+            /// example.
             pub fn arriving(&self) -> $crate::Arriving {
                 self.0.arriving.into()
             }
