@@ -7,9 +7,9 @@
 //! | call | what it does |
 //! |---|---|
 //! | [`read`] | accepts or refuses an image and lists its sections |
-//! | [`read_strict`], [`json::check`] | the same, and then its metadata must be JSON; whether bytes are one JSON text |
 //! | [`Arriving`] | the same of an image that arrives in pieces, with no memory for its bytes |
 //! | [`Arriving::next`], [`Arriving::parts`] | which section the bytes that arrive belong to |
+//! | [`read_strict`], [`json::check`] | reads an image whose metadata must be JSON; says whether bytes are one JSON text |
 //! | [`write()`], [`plan_length`], [`write_to_vec`] | the plain image of a [`Plan`] |
 //! | [`copy_stream`], [`stream_length`], [`stream_to_vec`] | the three measured streams |
 //! | [`Image::stream_sections`], [`Image::stream_reader`], [`Image::copy_stream`] | the same of an image that was read, without reading it again |
@@ -21,7 +21,7 @@
 //! | [`ArrivingFingerprint`] | the same of an image that arrives in pieces, with no memory for its bytes |
 //! | [`Assembler`], [`assembler::records`] | an image from pieces that come in any order, some of them twice; its records |
 //! | [`sign1::read`], [`sign1::write`], [`sign1::to_vec`] | what a signature claims, not verified |
-//! | [`staged::section`], [`staged::roll_to_vec`], [`staged::registers`] | the same of an image with one section replaced, and no second image |
+//! | [`staged::section`], [`staged::roll_to_vec`], [`staged::registers`], [`staged::fingerprint`] | an image with one section replaced, and no second image: a section's data, the boot roll, the registers, the fingerprint |
 //!
 //! Every call takes any bytes and any numbers, and none panics. A [`Refusal`] has the first answer number that
 //! applies, in the order that FORMAT.md gives for the call, and says where; then no byte of an output buffer has
