@@ -559,10 +559,11 @@ EIF_MUST_USE eif_arriving_finished eif_arriving_finish(eif_arriving state);
  *     ... continue with fed.state and with the piece after its first fed.count bytes ...
  *
  * span.length is at most length, and at least 1 if length is. After eif_arriving_finish the answer is the same, but
- * eif_arriving_feed takes nothing. A section with no data has no bytes here: the reading at the end lists it. The type of section i, if i is less than span.begun, is the big-endian number in
- * state.section_headers[12 * i] and [12 * i + 1]. If the file is accepted at its end, the bytes of place i, joined,
- * are the data of section i, however the file was cut. Until then no rule is checked, so what was stored must not be
- * used before eif_arriving_finish accepts the file. The call takes any state and any length. */
+ * eif_arriving_feed takes nothing. A section with no data has no bytes here; the reading at the end lists it. The type
+ * of section i, if i is less than span.begun, is the big-endian number in state.section_headers[12 * i] and
+ * [12 * i + 1]. If the file is accepted at its end, the bytes of place i, joined, are the data of section i, however the
+ * file was cut. Until then no rule is checked, so what was stored must not be used before eif_arriving_finish accepts
+ * the file. The call takes any state and any length. */
 EIF_MUST_USE eif_span eif_arriving_next(eif_arriving state, uint64_t length);
 
 /* The length of a plan's image. Refusals, in this order: 4, 5, 9 to 11 for each section, 12, 1. */

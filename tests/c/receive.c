@@ -34,8 +34,8 @@ static size_t receive(uint8_t *piece, size_t room) {
     return length;
 }
 
-/* Stores bytes of a section if it is a ramdisk; its own header has arrived before its data. Answers 0 if the storage has no
- * room for them. */
+/* Stores bytes of a section if it is a ramdisk; its own header has arrived before its data. Answers 0 if the storage
+ * has no room for them. */
 static int store(const eif_arriving *state, uint64_t place, const uint8_t *bytes, size_t length) {
     const uint8_t *header;
     if (place == EIF_NO_SECTION) {
@@ -53,8 +53,8 @@ static int store(const eif_arriving *state, uint64_t place, const uint8_t *bytes
     return 1;
 }
 
-/* Takes one piece of the file: stores, measures and fingerprints each part of it. Answers 0 if not all of it was taken, since the storage is
- * full. */
+/* Takes one piece of the file: stores, measures and fingerprints each part of it. Answers 0 if not all of it was taken,
+ * since the storage is full. */
 static int take(eif_measuring *measuring, eif_fingerprinting *fingerprinting, const uint8_t *piece, size_t length) {
     while (length > 0) {
         eif_span span = eif_arriving_next(measuring->arriving, length);
