@@ -1,6 +1,5 @@
 -- The numbers of the first two rules of a staged view that apply, by computation from their list: each answer of `staged/specs/Worked` with the rule
 -- that would apply next. Numbers are written out.
--- Assumes nothing.
 use mathlib.Core.Path.{_≡_, refl}
 use mathlib.Core.List.{[], _∷_}
 use Rattle.octets.specs.Bytes.{field, beValue}

@@ -1,6 +1,5 @@
 -- The verdicts of copies one after the other, by computation: of the worked image, whose stream has the two bytes 4b 61. So `all-accepted` is not
 -- about an empty list. Numbers are written out.
--- Assumes nothing.
 use Prim.Native.Nat.{ℕ, _+_}
 use mathlib.Core.Path.{_≡_, ap, _∙_}
 use mathlib.Core.List.{List, [], _∷_}
