@@ -3,7 +3,10 @@
 //! The images are of zeros that take no memory until they are written to, so that only the writer's output
 //! takes as much as it says.
 
-use eif::{Arriving, DataLength, Place, Plan, SectionType, MAX_IMAGE_LENGTH};
+use eif::{
+    Arriving, ArrivingFingerprint, ArrivingRegisters, DataLength, Digest, Place, Plan, SectionType,
+    MAX_IMAGE_LENGTH,
+};
 use eif_cases::{
     flags_record, put, record, zero_image, zero_image_start, Answer, RECORD_HEAD, SHORTEST,
 };
@@ -139,4 +142,64 @@ fn large_every_call() {
     let mut rng = Rng::of_input(30, 0);
     let longest = zero_image(MAX_IMAGE_LENGTH);
     compare_image(&mut rng, 0, &longest, &mut Tally::default());
+}
+
+/// A state of an arriving image, with the digests that it answers at the end.
+trait Arrives: Clone {
+    fn feed(&mut self, piece: &[u8], allowance: u64);
+    fn taken(&self) -> u64;
+    fn digests(self) -> Result<Vec<Digest>, eif::Refusal>;
+}
+
+macro_rules! arrives {
+    ($name:ident, $answer:ident, $digests:expr) => {
+        impl Arrives for $name {
+            fn feed(&mut self, piece: &[u8], allowance: u64) {
+                let count = self.feed_at_most(piece, allowance);
+                assert_eq!(count as u64, allowance.min(piece.len() as u64));
+            }
+
+            fn taken(&self) -> u64 {
+                $name::taken(self)
+            }
+
+            fn digests(mut self) -> Result<Vec<Digest>, eif::Refusal> {
+                self.finish().map(|$answer| $digests)
+            }
+        }
+    };
+}
+
+arrives!(Arriving, _answer, Vec::new());
+arrives!(ArrivingRegisters, answer, answer.1 .0.to_vec());
+arrives!(ArrivingFingerprint, answer, vec![answer.1 .0]);
+
+/// Feeds a state the longest image of zeros, then one byte more, then zeros until four GiB and more were taken.
+fn past_the_limit(mut state: impl Arrives, longest: &[u8], expected: Vec<Digest>) {
+    for piece in longest.chunks(1 << 16) {
+        state.feed(piece, u64::MAX);
+    }
+    assert_eq!(state.taken(), MAX_IMAGE_LENGTH as u64);
+    assert_eq!(state.clone().digests(), Ok(expected));
+    state.feed(&[0], 1);
+    assert_eq!(state.clone().digests().map_err(parts), Err(TOO_LONG));
+    let zeros = vec![0; 1 << 20];
+    let end = 4 * MAX_IMAGE_LENGTH as u64 + 1;
+    while state.taken() < end {
+        let left = end - state.taken();
+        state.feed(&zeros, left);
+    }
+    assert_eq!(state.digests().map_err(parts), Err(TOO_LONG));
+}
+
+/// The three states of an arriving image answer at the limit as the calls on the whole image do, and refuse all beyond.
+#[test]
+#[ignore = "a minute and 1 GiB: make test-large"]
+fn large_arriving_states_past_the_limit() {
+    let longest = zero_image(MAX_IMAGE_LENGTH);
+    past_the_limit(Arriving::new(), &longest, Vec::new());
+    let registers = eif::registers(&longest).unwrap().0.to_vec();
+    past_the_limit(ArrivingRegisters::new(), &longest, registers);
+    let fingerprint = eif::fingerprint(&longest).unwrap().0;
+    past_the_limit(ArrivingFingerprint::new(), &longest, vec![fingerprint]);
 }
