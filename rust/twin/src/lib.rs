@@ -28,8 +28,10 @@ mod rules;
 mod sha384;
 mod sign1;
 mod staged;
+mod staged_writing;
 mod stream;
 mod strict;
+mod writing;
 
 pub use arriving::{Arriving, Span};
 pub use assembler::Transfer;
@@ -47,5 +49,7 @@ pub use sign1::{read_sign1, write_sign1, Claim, Sign1};
 pub use staged::{
     staged_fingerprint, staged_image, staged_part, staged_registers, write_staged_roll, StagedPart,
 };
+pub use staged_writing::{StagedSection, StagedWriting};
 pub use stream::{copy_sections, copy_stream, stream_length, stream_sections, Stream};
 pub use strict::read_strict;
+pub use writing::{Step, Writing};

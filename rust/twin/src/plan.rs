@@ -75,25 +75,11 @@ pub fn write(plan: &Plan, data: &[u8], out: &mut [u8]) -> Result<usize, Refusal>
 
 /// Fills `image`, which is as long as the plan's image.
 fn write_image(plan: &Plan, places: &[Place], data: &[u8], image: &mut [u8]) {
-    image[..HEADER].fill(0);
-    image[..4].copy_from_slice(&MAGIC);
-    put(image, VERSION_AT, &plan.version.to_be_bytes());
-    put(image, FLAGS_AT, &plan.flags.to_be_bytes());
-    put(image, MEM_AT, &plan.default_mem.to_be_bytes());
-    put(image, CPUS_AT, &plan.default_cpus.to_be_bytes());
-    put(image, COUNT_AT, &plan.count.to_be_bytes());
+    put(image, 0, &header(plan));
     let mut offset = HEADER;
     let mut rest = data;
-    for (index, place) in places.iter().enumerate() {
-        put(
-            image,
-            OFFSETS_AT + 8 * index,
-            &(offset as u64).to_be_bytes(),
-        );
-        put(image, SIZES_AT + 8 * index, &place.length.to_be_bytes());
-        put(image, offset, &place.kind.to_be_bytes());
-        put(image, offset + 2, &place.flags.to_be_bytes());
-        put(image, offset + 4, &place.length.to_be_bytes());
+    for place in places {
+        put(image, offset, &section_header(place));
         let (section, others) = rest.split_at(place.length as usize);
         put(image, offset + SECTION_HEADER, section);
         offset += SECTION_HEADER + section.len();
@@ -103,6 +89,34 @@ fn write_image(plan: &Plan, places: &[Place], data: &[u8], image: &mut [u8]) {
     put(image, CHECKSUM_AT, &checksum.to_be_bytes());
 }
 
-fn put(out: &mut [u8], at: usize, bytes: &[u8]) {
+/// The header of an accepted plan's image, with zero in the checksum field.
+pub(crate) fn header(plan: &Plan) -> [u8; HEADER] {
+    let mut header = [0; HEADER];
+    put(&mut header, 0, &MAGIC);
+    put(&mut header, VERSION_AT, &plan.version.to_be_bytes());
+    put(&mut header, FLAGS_AT, &plan.flags.to_be_bytes());
+    put(&mut header, MEM_AT, &plan.default_mem.to_be_bytes());
+    put(&mut header, CPUS_AT, &plan.default_cpus.to_be_bytes());
+    put(&mut header, COUNT_AT, &plan.count.to_be_bytes());
+    let mut offset = HEADER as u64;
+    for (index, place) in plan.places[..usize::from(plan.count)].iter().enumerate() {
+        put(&mut header, OFFSETS_AT + 8 * index, &offset.to_be_bytes());
+        let size = place.length.to_be_bytes();
+        put(&mut header, SIZES_AT + 8 * index, &size);
+        offset += SECTION_HEADER as u64 + place.length;
+    }
+    header
+}
+
+/// The own header of a section.
+pub(crate) fn section_header(place: &Place) -> [u8; SECTION_HEADER] {
+    let mut header = [0; SECTION_HEADER];
+    put(&mut header, 0, &place.kind.to_be_bytes());
+    put(&mut header, 2, &place.flags.to_be_bytes());
+    put(&mut header, 4, &place.length.to_be_bytes());
+    header
+}
+
+pub(crate) fn put(out: &mut [u8], at: usize, bytes: &[u8]) {
     out[at..at + bytes.len()].copy_from_slice(bytes);
 }

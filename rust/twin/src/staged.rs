@@ -20,7 +20,7 @@ pub struct StagedPart {
 
 /// The base's reading, and the plan of the image written afresh with section `replaced` having `size` bytes.
 /// Refused as every call here is: by the base's refusal; by 27 for either number; by 1.
-fn staged_plan(
+pub(crate) fn staged_plan(
     base: &[u8],
     size: u64,
     replaced: u64,
