@@ -1,8 +1,8 @@
 /* SPDX-License-Identifier: Apache-2.0 */
 /*
- * Enclave image files (EIF): reading them, whole or as they arrive, and writing them; measured streams,
- * registers, boot rolls and fingerprints; assembling an image from pieces in any order; staging one with a section
- * replaced; what signatures claim; JSON texts, as metadata should be.
+ * Enclave image files (EIF): reading them, whole or as they arrive, and writing them, whole or in pieces; measured
+ * streams, registers, boot rolls and fingerprints; assembling an image from pieces in any order; staging one with a
+ * section replaced; what signatures claim; JSON texts, as metadata should be.
  *
  * The C interface to a static library, libeif_c.a, whose every function is proved to meet the rules
  * of docs/FORMAT.md, which is cited below by section. It links into x86-64 programs. Of other
@@ -19,8 +19,8 @@
  *     the other.
  *
  * The answer of a call that can refuse begins with a number (eif_arriving_finish's has it in its
- * reading): 0 where the call is accepted, and otherwise the first of the numbers below that applies, in
- * the order that FORMAT.md gives for the call. Beside a refusal
+ * reading, that of a call that begins to write in its answer): 0 where the call is accepted, and otherwise the
+ * first of the numbers below that applies, in the order that FORMAT.md gives for the call. Beside a refusal
  *   - no byte of the output buffer has changed, nor of an assembler's two buffers;
  *   - index is the index of the section or record for 6 to 11, 16, 17, 21 and, where a section is
  *     not packed, 20; and 0 for the others;
@@ -28,11 +28,13 @@
  *     image or, where a roll was read, of the roll: a header field, the table's offset entry of the
  *     section, its own header, its data for 21, the record's start, or the first byte too many; and 0
  *     for the numbers that have no place there, and for every refusal of a plan;
- *   - all else in the answer is 0, but first_ramdisk, which is EIF_NO_RAMDISK, and the states that
- *     eif_sha384_update, eif_arriving_finish and eif_assembler_step answer.
+ *   - all else in the answer is 0, but first_ramdisk, which is EIF_NO_RAMDISK, header_written of an
+ *     eif_writing, which is EIF_HEADER_LENGTH, and the states that eif_sha384_update, eif_arriving_finish and
+ *     eif_assembler_step answer.
  * A call that reads an image first hands that refusal on as it is, position too.
  *
- * Answers have no padding, and their reserved fields are 0: equal answers are equal by memcmp.
+ * Answers have no padding, and their reserved fields are 0: equal answers are equal by memcmp. The exception is
+ * eif_writing, whose places have padding as those of a plan do.
  *
  * Each stream, register, roll or fingerprint call on an image reads the whole image again, checksum included. To
  * copy a stream in pieces, read the image once and take eif_copy_sections, which reads only what it
@@ -72,6 +74,9 @@ extern "C" {
  * EIF_SECTION_HEADER_LENGTH bytes and its data. */
 #define EIF_HEADER_LENGTH 548
 #define EIF_SECTION_HEADER_LENGTH 12
+
+/* Where the checksum stands in the header: four bytes, big-endian. */
+#define EIF_CHECKSUM_POSITION 544
 
 /* Length of a roll record's head, which stands before its data, and of the flags record, a roll's first.
  * A roll has the flags record, a head and the data for each section of type 1, 2 or 3, and one head more,
@@ -370,6 +375,53 @@ typedef struct eif_answer {
     uint64_t length;   /* 0 beside a refusal */
 } eif_answer;
 
+/* An image that is written in pieces: a value that can be kept and copied. Any value is a state; a fresh one comes from
+ * eif_writing_begin. It has 1,104 bytes. */
+typedef struct eif_writing {
+    uint64_t header_written; /* how many bytes of the image's header were written */
+    uint64_t sections_begun; /* how many sections' own headers were written */
+    uint64_t section_left;   /* how many bytes of data the section begun last still needs */
+    uint64_t data_left;      /* how many bytes of data all sections together still need */
+    uint64_t count;          /* that of the plan; above EIF_MAX_SECTIONS it counts as that */
+    eif_place places[EIF_MAX_SECTIONS]; /* those of the plan */
+    uint8_t header[EIF_HEADER_LENGTH];  /* the image's header, with the given number as its checksum */
+    uint32_t checksum; /* CRC-32 of the header's first 544 bytes and of all bytes written after the header, before the
+                        * last inversion */
+} eif_writing;
+
+/* The answer to a plan that is to be written in pieces. */
+typedef struct eif_writing_begun {
+    eif_writing state; /* before the first byte; beside a refusal one that writes nothing */
+    eif_answer answer; /* its length is the image's */
+} eif_writing_begun;
+
+/* The answer to a step of writing. */
+typedef struct eif_writing_stepped {
+    eif_writing state; /* after the step */
+    uint64_t taken;    /* how many bytes of the data were taken */
+    uint64_t written;  /* how many bytes were written over the start of out */
+} eif_writing_stepped;
+
+/* An image with one section replaced that is written in pieces: a value that can be kept and copied. Any value is a
+ * state; a fresh one comes from eif_staged_writing_begin. It has 1,872 bytes. */
+typedef struct eif_staged_writing {
+    eif_writing writing;                    /* what is still to be written */
+    eif_section sections[EIF_MAX_SECTIONS]; /* where each section's data lies: in the base or, as if the replacement
+                                             * followed the base, in the replacement; then zeros */
+} eif_staged_writing;
+
+/* The answer to a base and a replacement whose image is to be written in pieces. */
+typedef struct eif_staged_writing_begun {
+    eif_staged_writing state; /* before the first byte; beside a refusal one that writes nothing */
+    eif_answer answer;        /* its length is that of the image written afresh */
+} eif_staged_writing_begun;
+
+/* The answer to a step of writing from base and replacement. */
+typedef struct eif_staged_writing_stepped {
+    eif_staged_writing state; /* after the step */
+    uint64_t written;         /* how many bytes were written over the start of out */
+} eif_staged_writing_stepped;
+
 /* The sections of a stream, in its order. */
 typedef struct eif_stream_sections {
     uint64_t count;                         /* above EIF_MAX_SECTIONS it stands for that */
@@ -561,9 +613,9 @@ EIF_MUST_USE eif_arriving_finished eif_arriving_finish(eif_arriving state);
  * span.length is at most length, and at least 1 if length is. After eif_arriving_finish the answer is the same, but
  * eif_arriving_feed takes nothing. A section with no data has no bytes here; the reading at the end lists it. The type
  * of section i, if i is less than span.begun, is the big-endian number in state.section_headers[12 * i] and
- * [12 * i + 1]. If the file is accepted at its end, the bytes of place i, joined, are the data of section i, however the
- * file was cut. Until then no rule is checked, so what was stored must not be used before eif_arriving_finish accepts
- * the file. The call takes any state and any length. */
+ * [12 * i + 1]. If the file is accepted at its end, the bytes of place i, joined, are the data of section i, however
+ * the file was cut. Until then no rule is checked, so what was stored must not be used before eif_arriving_finish
+ * accepts the file. The call takes any state and any length. */
 EIF_MUST_USE eif_span eif_arriving_next(eif_arriving state, uint64_t length);
 
 /* The length of a plan's image. Refusals, in this order: 4, 5, 9 to 11 for each section, 12, 1. */
@@ -574,6 +626,33 @@ EIF_MUST_USE eif_answer eif_plan_length(eif_plan plan);
  * image stay. Refusals: those of eif_plan_length, then 15, 14. */
 EIF_MUST_USE eif_answer eif_write(eif_plan plan, const uint8_t *data, size_t data_length,
                                   uint8_t *out, size_t out_length);
+
+/* Writes the plain image of a plan in pieces, with no room for the image or its data (FORMAT.md, Writing in pieces):
+ *
+ *     eif_writing_begun begun = eif_writing_begin(plan, 0);
+ *     ... refused where begun.answer.number is not 0; else the image has begun.answer.length bytes ...
+ *     eif_writing state = begun.state;
+ *     ... until as many bytes were written: have data, if any is left, and an empty out ...
+ *         eif_writing_stepped done = eif_writing_step(state, data, data_length, out, out_length);
+ *         state = done.state;
+ *         ... the first done.written bytes of out are the image's next; data begins done.taken bytes further on ...
+ *     eif_answer sum = eif_writing_finish(state);
+ *     ... where sum.number is 0, sum.length is the checksum: put it, big-endian, at EIF_CHECKSUM_POSITION of the file ...
+ *
+ * data is the sections' data joined in the plan's order, cut as the caller likes; a step takes data of one section at
+ * most, and data past the plan's sum of lengths is never taken. Bytes of out past those written stay. A section's own
+ * header is written whole or not at all, so out must have room for EIF_SECTION_HEADER_LENGTH bytes: then a step writes
+ * something until the image is complete, except where data is needed and data_length is 0. All calls take any state.
+ *
+ * checksum is the number for the checksum field. Where nothing can be put afterwards, as on a radio, pass the data
+ * twice: begin with 0 and use no byte of out, then begin with the checksum that eif_writing_finish has answered.
+ *
+ * Refusals of eif_writing_begin: those of eif_plan_length. Refusal of eif_writing_finish: 15 where data is missing, and
+ * where the plan was refused. */
+EIF_MUST_USE eif_writing_begun eif_writing_begin(eif_plan plan, uint32_t checksum);
+EIF_MUST_USE eif_writing_stepped eif_writing_step(eif_writing state, const uint8_t *data, size_t data_length,
+                                                  uint8_t *out, size_t out_length);
+EIF_MUST_USE eif_answer eif_writing_finish(eif_writing state);
 
 /* The number of bytes of a measured stream (FORMAT.md, Measured streams): the data of these sections,
  * joined in file order. Refusals: the image's own.
@@ -676,9 +755,9 @@ EIF_MUST_USE eif_fingerprint eif_image_fingerprint(const uint8_t *image, size_t 
  *     ... continue with fed.state and with what was not taken of the piece, then with the next piece ...
  *     eif_fingerprinting_finished end = eif_fingerprinting_finish(fed.state);
  *
- * Bytes are taken and counted as by eif_arriving_feed, so fed.state.arriving is what eif_arriving_feed makes of the same
- * pieces. To store sections or compute registers in the same pass, ask eif_arriving_next with state.arriving, and hand
- * the same bytes to eif_measuring_feed too. However the file was cut, the answer is that of eif_read and of
+ * Bytes are taken and counted as by eif_arriving_feed, so fed.state.arriving is what eif_arriving_feed makes of the
+ * same pieces. To store sections or compute registers in the same pass, ask eif_arriving_next with state.arriving, and
+ * hand the same bytes to eif_measuring_feed too. However the file was cut, the answer is that of eif_read and of
  * eif_image_fingerprint on the bytes taken. Finishing again gives the same. */
 EIF_MUST_USE eif_fingerprinting eif_fingerprinting_begin(void);
 EIF_MUST_USE eif_fingerprinting_fed eif_fingerprinting_feed(eif_fingerprinting state, const uint8_t *piece,
@@ -730,6 +809,32 @@ EIF_MUST_USE eif_fingerprint eif_staged_fingerprint(const uint8_t *base, size_t 
                                                     const uint8_t *replacement,
                                                     size_t replacement_length,
                                                     uint64_t replaced);
+
+/* Writes the image written afresh in pieces, from base and replacement, with no room for it (FORMAT.md, Writing in
+ * pieces):
+ *
+ *     eif_staged_writing_begun begun =
+ *         eif_staged_writing_begin(base, base_length, replacement, replacement_length, replaced, checksum);
+ *     eif_staged_writing state = begun.state;
+ *     ... until begun.answer.length bytes were written ...
+ *         eif_staged_writing_stepped done =
+ *             eif_staged_writing_step(state, base, base_length, replacement, replacement_length, out, out_length);
+ *         state = done.state;
+ *         ... the first done.written bytes of out are the image's next ...
+ *     eif_answer sum = eif_staged_writing_finish(state);
+ *
+ * out and checksum are as for eif_writing_step and eif_writing_begin. Only eif_staged_writing_begin reads the base and
+ * its checksum; base and replacement must stay the same until the image is complete. Refusals of
+ * eif_staged_writing_begin: those above. Refusal of eif_staged_writing_finish: 15, as of eif_writing_finish. */
+EIF_MUST_USE eif_staged_writing_begun eif_staged_writing_begin(const uint8_t *base, size_t base_length,
+                                                               const uint8_t *replacement,
+                                                               size_t replacement_length, uint64_t replaced,
+                                                               uint32_t checksum);
+EIF_MUST_USE eif_staged_writing_stepped eif_staged_writing_step(eif_staged_writing state, const uint8_t *base,
+                                                                size_t base_length, const uint8_t *replacement,
+                                                                size_t replacement_length, uint8_t *out,
+                                                                size_t out_length);
+EIF_MUST_USE eif_answer eif_staged_writing_finish(eif_staged_writing state);
 
 /* Puts an image together from pieces that come in any order, some of them twice (FORMAT.md, Pieces out of
  * order). Records are handed over one a call, each exactly its bytes, with the image buffer and the mark

@@ -11,6 +11,7 @@
 //! | [`Arriving::next`], [`Arriving::parts`] | which section the bytes that arrive belong to |
 //! | [`read_strict`], [`json::check`] | reads an image whose metadata must be JSON; says whether bytes are one JSON text |
 //! | [`write()`], [`plan_length`], [`write_to_vec`] | the plain image of a [`Plan`] |
+//! | [`ImageWriter`], [`Writing`] | the same in pieces, with no memory for the image or its data |
 //! | [`copy_stream`], [`stream_length`], [`stream_to_vec`] | the three measured streams |
 //! | [`Image::stream_sections`], [`Image::stream_reader`], [`Image::copy_stream`] | the same of an image that was read, without reading it again |
 //! | [`registers()`] | registers 0, 1 and 2, as the platform measures the image |
@@ -22,6 +23,7 @@
 //! | [`Assembler`], [`assembler::records`] | an image from pieces that come in any order, some of them twice; its records |
 //! | [`sign1::read`], [`sign1::write`], [`sign1::to_vec`] | what a signature claims, not verified |
 //! | [`staged::section`], [`staged::roll_to_vec`], [`staged::registers`], [`staged::fingerprint`] | an image with one section replaced, and no second image: a section's data, the boot roll, the registers, the fingerprint |
+//! | [`staged::Reader`], [`staged::Writing`] | the bytes of that image, in pieces |
 //!
 //! Every call takes any bytes and any numbers, and none panics. A [`Refusal`] has the first answer number that
 //! applies, in the order that FORMAT.md gives for the call, and says where; then no byte of an output buffer has
@@ -123,8 +125,10 @@ mod roll;
 mod sha384;
 pub mod sign1;
 pub mod staged;
+mod staged_writing;
 mod state;
 mod stream;
+mod writing;
 
 pub use arriving::{Arriving, Parts, Span};
 pub use assembler::Assembler;
@@ -141,6 +145,7 @@ pub use registers::{registers, Registers};
 pub use roll::{read_roll, roll_length, roll_to_vec, write_roll, Roll, RollRecord};
 pub use sha384::{Digest, Sha384};
 pub use stream::{copy_stream, stream_length, stream_to_vec, Stream, StreamReader, StreamSections};
+pub use writing::{ImageWriter, Step, Writing};
 
 /// The longest image, in bytes. A buffer of this length takes any image, roll or stream.
 pub const MAX_IMAGE_LENGTH: usize = 1_073_741_824;
@@ -151,6 +156,9 @@ pub const MAX_SECTIONS: usize = 32;
 
 /// The length of an image's header.
 pub const HEADER_LENGTH: usize = 548;
+
+/// Where the checksum stands in the header: four bytes, big-endian.
+pub const CHECKSUM_POSITION: usize = 544;
 
 /// The length of a section's header, which stands before its data.
 pub const SECTION_HEADER_LENGTH: usize = 12;

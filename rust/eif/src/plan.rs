@@ -41,7 +41,7 @@ pub struct Plan {
 }
 
 impl Plan {
-    fn to_raw(&self) -> raw::Plan {
+    pub(crate) fn to_raw(&self) -> raw::Plan {
         let mut places = [Place::default(); MAX_SECTIONS];
         for (to, from) in places.iter_mut().zip(&self.places) {
             *to = *from;

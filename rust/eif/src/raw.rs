@@ -15,8 +15,9 @@ pub mod assembler;
 pub mod fingerprint;
 pub mod measuring;
 pub mod sign1;
-
 pub mod staged;
+pub mod staged_writing;
+pub mod writing;
 
 /// What [`Reading::first_ramdisk`] is where there is no ramdisk, and beside a refusal.
 pub const NO_RAMDISK: u32 = 32;

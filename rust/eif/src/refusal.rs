@@ -2,6 +2,7 @@
 
 use std::error::Error;
 use std::fmt;
+use std::io;
 
 /// The table of answer numbers: number, name, meaning, what to do about it. The words stand here and
 /// nowhere else in the Rust code; a test of the command holds `eif.h` and the manual to them.
@@ -199,6 +200,21 @@ impl fmt::Display for Refusal {
 }
 
 impl Error for Refusal {}
+
+/// An error of kind [`InvalidData`](io::ErrorKind::InvalidData) that holds the refusal:
+///
+/// ```
+/// let refusal = eif::read(b"short").unwrap_err();
+/// let error = std::io::Error::from(refusal);
+/// assert_eq!(error.to_string(), refusal.to_string());
+/// let held = error.get_ref().and_then(|held| held.downcast_ref::<eif::Refusal>());
+/// assert_eq!(held, Some(&refusal));
+/// ```
+impl From<Refusal> for io::Error {
+    fn from(refusal: Refusal) -> Self {
+        io::Error::new(io::ErrorKind::InvalidData, refusal)
+    }
+}
 
 #[cfg(test)]
 mod tests {

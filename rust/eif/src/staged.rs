@@ -2,7 +2,8 @@
 //!
 //! A base is an image, and a replacement stands for the data of one of its sections, named by its number.
 //! What is answered is that of the image written afresh: the plain image of the base's reading with the
-//! replacement in the section's place. That image is not built, but by [`write_to_vec`].
+//! replacement in the section's place. That image is not built, but by [`write_to_vec`]. [`Reader`] gives its bytes in
+//! pieces.
 //!
 //! ```
 //! use eif::{staged, DataLength, Place, Plan, SectionType};
@@ -37,6 +38,8 @@
 use crate::image::part_of;
 use crate::raw::staged as raw;
 use crate::{DataLength, Fingerprint, Refusal, Registers};
+
+pub use crate::staged_writing::{Reader, Writing};
 
 /// The data of section `shown` of `base` with section `replaced` replaced: a part of one of the two slices,
 /// never a copy. The base is read for it.
@@ -131,7 +134,7 @@ pub fn fingerprint(
 }
 
 /// The image written afresh, by [`write()`](crate::write()). It is a second image, with the joined data
-/// beside it while it is written.
+/// beside it while it is written. [`Reader`] needs memory for neither.
 ///
 /// # Errors
 ///

@@ -1,15 +1,8 @@
 //! Values over a state of the C interface.
 
-/// What a type of one field, a state, has beside its calls: a new one by default, any state to go on from,
-/// and the state to be kept.
-macro_rules! over_state {
+/// What a type of one field, a state, has beside its calls: any state to go on from, and the state to be kept.
+macro_rules! kept_state {
     ($name:ident, $state:ty) => {
-        impl Default for $name {
-            fn default() -> Self {
-                Self::new()
-            }
-        }
-
         /// Any state can be gone on from.
         impl From<$state> for $name {
             fn from(state: $state) -> Self {
@@ -23,6 +16,21 @@ macro_rules! over_state {
                 value.0
             }
         }
+    };
+}
+
+pub(crate) use kept_state;
+
+/// What such a type has if it begins without an input: the same, and a new one by default.
+macro_rules! over_state {
+    ($name:ident, $state:ty) => {
+        impl Default for $name {
+            fn default() -> Self {
+                Self::new()
+            }
+        }
+
+        $crate::state::kept_state!($name, $state);
     };
 }
 
