@@ -17,7 +17,7 @@ CXX := g++
 endif
 C_WARNINGS := -Wall -Wextra -Werror -pedantic
 # The tests in C that compile as C++ too.
-C_TESTS := worked boundary sign1 staged assembler
+C_TESTS := worked boundary sign1 staged writing assembler
 VERSION := $(shell sed -n 's/^#define EIF_VERSION "\(.*\)"/\1/p' include/eif.h)
 
 # With EIF_LIB_DIR set, the archive in that folder is taken as it is. It is not exported: a make within this one would take it as set, and
@@ -104,7 +104,7 @@ c-test: $(archive)
 	tests/header.sh $(CC)
 	tests/archive.sh $(EIF_LIB_DIR)/libeif_c.a include/eif.h
 	mkdir -p target/c-test
-	for name in $(C_TESTS) stack station receive; do \
+	for name in $(C_TESTS) stack station receive send; do \
 	    $(CC) -std=c99 $(C_WARNINGS) -Iinclude tests/c/$$name.c $(EIF_LIB_DIR)/libeif_c.a -o target/c-test/$$name-c && \
 	    target/c-test/$$name-c || exit 1; \
 	done

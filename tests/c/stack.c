@@ -50,6 +50,12 @@ static uint8_t sign1[EIF_MAX_SIGN1_LENGTH];
 static eif_staged_part_answer staged_part;
 static eif_registers_answer staged_registers;
 static eif_fingerprint staged_fingerprint;
+static eif_writing_begun writing_begun;
+static eif_writing_stepped writing_stepped, short_written;
+static eif_answer writing_sum;
+static eif_staged_writing_begun staged_begun;
+static eif_staged_writing_stepped staged_stepped;
+static eif_answer staged_sum;
 static eif_assembler assembler;
 static eif_assembler_stepped stepped;
 /* An open record for an image of two pieces, the first of them, and room for both. */
@@ -139,6 +145,33 @@ static void call_staged_fingerprint(void) {
     staged_fingerprint = eif_staged_fingerprint(image, image_length, data, data_length, SECTIONS - 1);
 }
 
+static void call_writing_begin(void) { writing_begun = eif_writing_begin(plan, 0); }
+/* The image's header, the own header of one section that has all the data, and its data. */
+static void call_writing_step(void) {
+    writing_stepped = eif_writing_step(writing_stepped.state, data, data_length, out, sizeof out);
+}
+/* EIF_SHORT_LENGTH bytes of data of a longer section. */
+static void call_writing_short(void) {
+    short_written = eif_writing_step(short_written.state, data, EIF_SHORT_LENGTH, out, EIF_SHORT_LENGTH);
+}
+/* No section is begun, and no data is missing. */
+static void call_writing_finish(void) {
+    writing_begun.state.data_left = 0;
+    writing_sum = eif_writing_finish(writing_begun.state);
+}
+static void call_staged_writing_begin(void) {
+    staged_begun = eif_staged_writing_begin(image, image_length, data, data_length, SECTIONS - 1, 0);
+}
+/* The image's header, then the replaced section, which is the last, with its own header and its data. */
+static void call_staged_writing_step(void) {
+    staged_stepped =
+        eif_staged_writing_step(staged_stepped.state, image, image_length, data, data_length, out, sizeof out);
+}
+static void call_staged_writing_finish(void) {
+    staged_begun.state.writing.data_left = 0;
+    staged_sum = eif_staged_writing_finish(staged_begun.state);
+}
+
 static void call_assembler_new(void) { assembler = eif_assembler_new(); }
 static void call_assembler_open(void) {
     stepped = eif_assembler_step(assembler, open_record, sizeof open_record, assembled,
@@ -147,6 +180,19 @@ static void call_assembler_open(void) {
 static void call_assembler_piece(void) {
     stepped = eif_assembler_step(stepped.state, piece_record, sizeof piece_record, assembled,
                                  sizeof assembled, marks, sizeof marks);
+}
+
+/* States before the steps that are tried: of one section with all the data, and of the replaced section. */
+static int prepare_writing(void) {
+    eif_plan one = begin_plan(2, 0, 2);
+    put_place(&one, 0, EIF_KERNEL, data_length);
+    put_place(&one, 1, EIF_COMMAND_LINE, 0);
+    writing_begun = eif_writing_begin(one, 0);
+    writing_stepped.state = writing_begun.state;
+    staged_begun = eif_staged_writing_begin(image, image_length, data, data_length, SECTIONS - 1, 0);
+    staged_stepped.state = staged_begun.state;
+    staged_stepped.state.writing.sections_begun = SECTIONS - 1;
+    return writing_begun.answer.number == EIF_ACCEPTED && staged_begun.answer.number == EIF_ACCEPTED;
 }
 
 /* An image of as many sections as one can have: kernel, command line, metadata and ramdisks, each of so many
@@ -168,7 +214,7 @@ static int prepare(size_t section) {
     }
     answer = eif_roll_write(image, image_length, roll, sizeof roll);
     roll_length = (size_t)answer.length;
-    return answer.number == EIF_ACCEPTED;
+    return answer.number == EIF_ACCEPTED && prepare_writing();
 }
 
 static const struct {
@@ -215,6 +261,16 @@ static const struct {
     {"eif_staged_roll_write", call_staged_roll_write},
     {"eif_staged_registers", call_staged_registers},
     {"eif_staged_fingerprint", call_staged_fingerprint},
+    {"eif_writing_begin", call_writing_begin},
+    {"eif_writing_step header", call_writing_step},
+    {"eif_writing_step section", call_writing_step},
+    {"eif_writing_step data", call_writing_step},
+    {"eif_writing_finish", call_writing_finish},
+    {"eif_staged_writing_begin", call_staged_writing_begin},
+    {"eif_staged_writing_step 1", call_staged_writing_step},
+    {"eif_staged_writing_step 2", call_staged_writing_step},
+    {"eif_staged_writing_step 3", call_staged_writing_step},
+    {"eif_staged_writing_finish", call_staged_writing_finish},
     {"eif_assembler_new", call_assembler_new},
     {"eif_assembler_step 1", call_assembler_open},
     {"eif_assembler_step 2", call_assembler_piece},
@@ -240,6 +296,8 @@ static void try_calls(size_t section, size_t kib) {
     check(fingerprint.number == 0 && memcmp(&fingerprinted.digest, &fingerprint.digest, sizeof fingerprint.digest) == 0,
           "the fingerprint");
     check(span.place == EIF_NO_SECTION && span.begun == SECTIONS, "the span after the last section");
+    check(writing_stepped.taken == data_length && staged_stepped.written == data_length, "data is written");
+    check(writing_sum.number == EIF_ACCEPTED && staged_sum.number == EIF_ACCEPTED, "the checksums");
     check(json.is_text == 1 && marks[0] == 1 && marks[1] == 0, "the text and the marks");
 }
 
@@ -257,6 +315,10 @@ static void try_short_pieces(void) {
     try_short("eif_fingerprinting_feed", call_fingerprinting_short);
     check(short_fed.count == EIF_SHORT_LENGTH && short_fingerprinting.count == EIF_SHORT_LENGTH,
           "a short piece is taken");
+    short_written.state = writing_stepped.state;
+    short_written.state.section_left = EIF_SHORT_LENGTH + 1;
+    try_short("eif_writing_step", call_writing_short);
+    check(short_written.taken == EIF_SHORT_LENGTH, "short data is taken");
 }
 
 int main(void) {
