@@ -79,7 +79,7 @@ pub(crate) fn in_rust<T>(value: T, numbers: Parts) -> Result<T, Parts> {
     }
 }
 
-fn twin_answer(answer: Result<u64, twin::Refusal>) -> Answer {
+pub(crate) fn twin_answer(answer: Result<u64, twin::Refusal>) -> Answer {
     match answer.map_err(twin_parts) {
         Ok(length) => Answer {
             length,
@@ -532,7 +532,7 @@ pub fn compare_reading(rng: &mut Rng, ordinal: u64, given: &ReadingInput, tally:
     compare_list(rng, input, &given.list, tally);
 }
 
-fn twin_plan(plan: &raw::Plan) -> twin::Plan {
+pub(crate) fn twin_plan(plan: &raw::Plan) -> twin::Plan {
     let place = |place: eif::Place| twin::Place {
         kind: place.section_type.0,
         flags: place.flags,

@@ -25,6 +25,7 @@ mod staged;
 mod strict;
 mod tally;
 mod texts;
+mod writing;
 
 pub use arriving::{compare_arriving, compare_arriving_state, compare_parts, state_of, LENGTHS};
 pub use assembler::{compare_transfer, compare_transfer_call, TransferBuffers};
@@ -48,3 +49,6 @@ pub use staged::{any_staged, compare_staged, compare_staged_part, is_part, Stage
 pub use strict::compare_text;
 pub use tally::{Call, Tally};
 pub use texts::{any_text, json_text};
+pub use writing::{
+    compare_staged_writing, compare_staged_writing_state, compare_writing, compare_writing_state,
+};

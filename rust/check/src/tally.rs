@@ -4,7 +4,7 @@ use std::fmt;
 use std::ops::AddAssign;
 
 /// How many kinds of call there are.
-const CALLS: usize = 24;
+const CALLS: usize = 28;
 
 /// Answer numbers are below this.
 const NUMBERS: usize = 30;
@@ -60,6 +60,14 @@ pub enum Call {
     StagedFingerprint,
     /// A record of a transfer.
     Assemble,
+    /// Beginning to write an image in pieces.
+    WritingBegin,
+    /// The checksum of an image written in pieces.
+    WritingFinish,
+    /// Beginning to write in pieces an image with one section replaced.
+    StagedWritingBegin,
+    /// The checksum of such an image.
+    StagedWritingFinish,
 }
 
 impl Call {
@@ -89,6 +97,10 @@ impl Call {
         Call::StagedRegisters,
         Call::StagedFingerprint,
         Call::Assemble,
+        Call::WritingBegin,
+        Call::WritingFinish,
+        Call::StagedWritingBegin,
+        Call::StagedWritingFinish,
     ];
 
     /// The numbers that FORMAT.md lets this call answer.
@@ -104,7 +116,7 @@ impl Call {
             | Call::Fingerprint
             | Call::FingerprintArriving => image.collect(),
             Call::ReadStrict => image.chain([21]).collect(),
-            Call::PlanLength => vec![0, 1, 4, 5, 9, 10, 11, 12],
+            Call::PlanLength | Call::WritingBegin => vec![0, 1, 4, 5, 9, 10, 11, 12],
             Call::Write => vec![0, 1, 4, 5, 9, 10, 11, 12, 14, 15],
             Call::Copy => image.chain([19]).collect(),
             Call::CopyListed => vec![0, 19],
@@ -116,9 +128,11 @@ impl Call {
             Call::StagedPart
             | Call::StagedRollLength
             | Call::StagedRegisters
-            | Call::StagedFingerprint => image.chain([27]).collect(),
+            | Call::StagedFingerprint
+            | Call::StagedWritingBegin => image.chain([27]).collect(),
             Call::StagedRollWrite => image.chain([14, 27]).collect(),
             Call::Assemble => vec![0, 1, 22, 23, 24, 25, 26],
+            Call::WritingFinish | Call::StagedWritingFinish => vec![0, 15],
         };
         numbers.sort();
         numbers

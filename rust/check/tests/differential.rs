@@ -18,7 +18,7 @@ fn say(line: &str) {
 type Compare = fn(&mut Rng, u64, &mut Tally);
 
 /// Of each kind of input: how many there are, their seed, and what makes and compares one.
-fn kinds(seed: u64) -> [(u64, u64, Compare); 16] {
+fn kinds(seed: u64) -> [(u64, u64, Compare); 20] {
     [
         (100_000, seed, |rng, ordinal, tally| {
             let image = any_image(rng);
@@ -77,6 +77,16 @@ fn kinds(seed: u64) -> [(u64, u64, Compare); 16] {
             compare_staged(rng, ordinal, &given, tally);
         }),
         (40_000, seed.rotate_left(40), compare_transfer),
+        (10_000, seed.rotate_left(12), |rng, ordinal, tally| {
+            let plan = any_plan(rng);
+            compare_writing(rng, ordinal, &plan, tally);
+        }),
+        (40_000, !seed.rotate_left(12), compare_writing_state),
+        (10_000, seed.rotate_left(20), |rng, ordinal, tally| {
+            let given = any_staged(rng);
+            compare_staged_writing(rng, ordinal, &given, tally);
+        }),
+        (40_000, !seed.rotate_left(20), compare_staged_writing_state),
     ]
 }
 
@@ -104,6 +114,7 @@ fn long_replacements(seed: u64, tally: &mut Tally) {
             shown: rng.below(count) as u64,
         };
         compare_staged(&mut rng, ordinal, &given, tally);
+        compare_staged_writing(&mut rng, ordinal, &given, tally);
     }
 }
 

@@ -1,0 +1,430 @@
+//! Images written in pieces, from a plan and from a base with one section replaced, and states that no run reaches: the
+//! library held to the twin.
+
+use crate::compare::{same, twin_answer, twin_plan, Input};
+use crate::{any_plan, any_staged, Call, Output, PlanInput, Rng, StagedInput, Tally};
+use eif::raw::staged_writing::{self as staged, StagedWriting};
+use eif::raw::writing::{self as raw, Writing};
+use eif::raw::{Answer, Plan, Section};
+use eif::{DataLength, FilePosition, Place, SectionType};
+use eif_cases::{CHECKSUM_AT, HEADER, MAX_SECTIONS, SECTION_HEADER};
+use eif_twin as twin;
+
+/// A run ends after this many steps where the image is not complete then.
+const MOST_STEPS: usize = 120;
+
+/// The twin's form of a state.
+fn twin_writing(state: &Writing) -> twin::Writing {
+    let place = |place: Place| twin::Place {
+        kind: place.section_type.0,
+        flags: place.flags,
+        length: place.length.0,
+    };
+    twin::Writing {
+        header_written: state.header_written,
+        sections_begun: state.sections_begun,
+        section_left: state.section_left,
+        data_left: state.data_left,
+        count: state.count,
+        places: state.places.map(place),
+        header: state.header,
+        checksum: state.checksum,
+    }
+}
+
+/// The twin's form of a state over a staged view.
+fn twin_staged(state: &StagedWriting) -> twin::StagedWriting {
+    let section = |section: Section| twin::StagedSection {
+        kind: section.section_type.0,
+        flags: section.flags,
+        position: section.position.0,
+        length: section.length.0,
+    };
+    twin::StagedWriting {
+        writing: twin_writing(&state.writing),
+        sections: state.sections.map(section),
+    }
+}
+
+/// The room of an output buffer: about a header's and a section header's length, or any.
+fn any_room(rng: &mut Rng) -> usize {
+    let near = rng.pick(&[0, SECTION_HEADER, SECTION_HEADER, HEADER]);
+    match rng.below(5) {
+        0 => near.saturating_sub(1),
+        1 => near + 1,
+        2 => near,
+        _ => rng.below(700),
+    }
+}
+
+/// The number for the checksum field.
+fn any_checksum(rng: &mut Rng) -> u32 {
+    let any = rng.next() as u32;
+    rng.pick(&[0, 0, 1, u32::MAX, any])
+}
+
+/// A step of library and twin into buffers of this room: both write the same bytes and leave the others as they were.
+/// Answers what both answer, and the bytes written.
+fn compare_outputs<L, T>(
+    rng: &mut Rng,
+    input: &Input,
+    room: usize,
+    library: impl FnOnce(&mut [u8]) -> (L, u64),
+    twin: impl FnOnce(&mut [u8]) -> (T, u64),
+) -> (L, T, Vec<u8>) {
+    let salt = rng.next() as u8;
+    let [mut output, mut twin_output] = [(); 2].map(|()| Output::new(room, salt));
+    let (library, written) = library(output.lend());
+    let (twin, expected) = twin(twin_output.lend());
+    same(input, "written", written, expected);
+    let written = written as usize;
+    assert!(output == twin_output, "other output bytes, for {input}");
+    let rest_stays = output.only_start_changed(written);
+    assert!(rest_stays, "bytes past {written} changed, for {input}");
+    (library, twin, output.start(written).to_vec())
+}
+
+/// One step. Answers the state after it, how many bytes of the data it took, and the bytes written.
+fn compare_step(
+    rng: &mut Rng,
+    input: &Input,
+    state: Writing,
+    data: &[u8],
+    room: usize,
+) -> (Writing, u64, Vec<u8>) {
+    let mut after = twin_writing(&state);
+    let (stepped, taken, bytes) = compare_outputs(
+        rng,
+        input,
+        room,
+        |out| {
+            let stepped = raw::writing_step(state, data, out);
+            (stepped, stepped.written)
+        },
+        |out| {
+            let step = after.step(data, out);
+            (step.taken, step.written)
+        },
+    );
+    same(input, "taken", stepped.taken, taken);
+    let found = twin_writing(&stepped.state);
+    same(input, "state after a step", found, after);
+    (stepped.state, taken, bytes)
+}
+
+/// The same over a staged view.
+fn compare_staged_step(
+    rng: &mut Rng,
+    input: &Input,
+    state: StagedWriting,
+    (base, replacement): (&[u8], &[u8]),
+    room: usize,
+) -> (StagedWriting, Vec<u8>) {
+    let mut after = twin_staged(&state);
+    let (stepped, (), bytes) = compare_outputs(
+        rng,
+        input,
+        room,
+        |out| {
+            let stepped = staged::staged_writing_step(state, base, replacement, out);
+            (stepped, stepped.written)
+        },
+        |out| ((), after.step(base, replacement, out)),
+    );
+    let found = twin_staged(&stepped.state);
+    same(input, "state after a step", found, after);
+    let sections = stepped.state.sections;
+    same(input, "sections after a step", sections, state.sections);
+    (stepped.state, bytes)
+}
+
+/// The checksum of a state, or 15.
+fn compare_finish(input: &Input, state: &Writing, tally: &mut Tally) -> Answer {
+    let answer = raw::writing_finish(*state);
+    let expected = twin_writing(state).finish().map(u64::from);
+    same(input, "finish", answer, twin_answer(expected));
+    tally.add(Call::WritingFinish, answer.number);
+    answer
+}
+
+/// The same over a staged view.
+fn compare_staged_finish(input: &Input, state: &StagedWriting, tally: &mut Tally) -> Answer {
+    let answer = staged::staged_writing_finish(*state);
+    let expected = twin_staged(state).finish().map(u64::from);
+    same(input, "finish", answer, twin_answer(expected));
+    tally.add(Call::StagedWritingFinish, answer.number);
+    answer
+}
+
+/// The bytes of a complete run are the image, but for the number in the checksum field, which is the one given to begin.
+/// The checksum is the image's.
+fn compare_complete(input: &Input, found: &[u8], image: &[u8], given: u32, finish: Answer) {
+    let mut expected = image.to_vec();
+    expected[CHECKSUM_AT..HEADER].copy_from_slice(&given.to_be_bytes());
+    same(input, "bytes joined", found, &expected[..]);
+    let right = image[CHECKSUM_AT..HEADER]
+        .iter()
+        .fold(0, |number, &byte| number << 8 | u64::from(byte));
+    same(
+        input,
+        "checksum",
+        (finish.number, finish.length),
+        (0, right),
+    );
+}
+
+/// Begins with a plan. Answers the state and the image's length.
+fn compare_begin(
+    input: &Input,
+    plan: &Plan,
+    checksum: u32,
+    tally: &mut Tally,
+) -> (Writing, Result<usize, twin::Refusal>) {
+    let begun = raw::writing_begin(*plan, checksum);
+    let (state, length) = twin::Writing::begin(&twin_plan(plan), checksum);
+    same(input, "state begun", twin_writing(&begun.state), state);
+    let expected = twin_answer(length.map(|length| length as u64));
+    same(input, "begin", begun.answer, expected);
+    tally.add(Call::WritingBegin, begun.answer.number);
+    (begun.state, length)
+}
+
+/// Writes a plan in pieces. Data past the plan's sum is lent too, and never taken.
+pub fn compare_writing(rng: &mut Rng, ordinal: u64, given: &PlanInput, tally: &mut Tally) {
+    let checksum = any_checksum(rng);
+    let input = &Input {
+        kind: "plan in pieces",
+        ordinal,
+        bytes: &given.data,
+        other: Some(&(given.plan, checksum)),
+    };
+    tally.add_input();
+    let (mut state, length) = compare_begin(input, &given.plan, checksum, tally);
+    let more = rng.below(2);
+    let data = [&given.data[..], &rng.bytes(more)].concat();
+    let (mut rest, mut image) = (&data[..], Vec::new());
+    let most = rng.pick(&[3, usize::MAX, usize::MAX, usize::MAX]);
+    for _ in 0..MOST_STEPS {
+        let lent = &rest[..rng.below(rest.len() + 1).min(most)];
+        let room = any_room(rng);
+        let waits = room < SECTION_HEADER || state.section_left != 0 && lent.is_empty();
+        let (after, taken, bytes) = compare_step(rng, input, state, lent, room);
+        let progress = !bytes.is_empty() || image.len() >= length.unwrap_or(0);
+        assert!(waits || progress, "no progress, for {input}");
+        (state, rest) = (after, &rest[taken as usize..]);
+        image.extend(bytes);
+        if rng.once_in(8) {
+            compare_finish(input, &state, tally);
+        }
+    }
+    let finish = compare_finish(input, &state, tally);
+    if Ok(image.len()) == length {
+        let mut whole = vec![0; image.len()];
+        let taken = &data[..data.len() - rest.len()];
+        let written = twin::write(&twin_plan(&given.plan), taken, &mut whole);
+        same(input, "whole image", written, length);
+        compare_complete(input, &image, &whole, checksum, finish);
+    }
+}
+
+/// Begins with a base and a replacement. Answers the state and the length of the image written afresh.
+fn compare_staged_begin(
+    input: &Input,
+    given: &StagedInput,
+    checksum: u32,
+    tally: &mut Tally,
+) -> (StagedWriting, Result<usize, twin::Refusal>) {
+    let (base, replacement) = (&given.base[..], &given.replacement[..]);
+    let replaced = given.replaced;
+    let begun = staged::staged_writing_begin(base, replacement, replaced, checksum);
+    let (state, length) = twin::StagedWriting::begin(base, replacement, replaced, checksum);
+    same(input, "state begun", twin_staged(&begun.state), state);
+    let reserved = begun.state.sections.map(|section| section.reserved);
+    same(input, "reserved", reserved, [0; MAX_SECTIONS]);
+    let expected = twin_answer(length.map(|length| length as u64));
+    same(input, "begin", begun.answer, expected);
+    tally.add(Call::StagedWritingBegin, begun.answer.number);
+    (begun.state, length)
+}
+
+/// Writes in pieces the image written afresh.
+pub fn compare_staged_writing(rng: &mut Rng, ordinal: u64, given: &StagedInput, tally: &mut Tally) {
+    let checksum = any_checksum(rng);
+    let lent = (&given.base[..], &given.replacement[..]);
+    let input = &Input {
+        kind: "staged base in pieces",
+        ordinal,
+        bytes: lent.0,
+        other: Some(&(lent.1, given.replaced, checksum)),
+    };
+    tally.add_input();
+    let (mut state, length) = compare_staged_begin(input, given, checksum, tally);
+    let mut image = Vec::new();
+    for _ in 0..MOST_STEPS {
+        let room = any_room(rng);
+        let (after, bytes) = compare_staged_step(rng, input, state, lent, room);
+        let progress = !bytes.is_empty() || image.len() >= length.unwrap_or(0);
+        let waits = room < SECTION_HEADER;
+        assert!(waits || progress, "no progress, for {input}");
+        state = after;
+        image.extend(bytes);
+        if rng.once_in(8) {
+            compare_staged_finish(input, &state, tally);
+        }
+    }
+    let finish = compare_staged_finish(input, &state, tally);
+    if Ok(image.len()) == length {
+        let afresh = twin::staged_image(lent.0, lent.1, given.replaced);
+        let afresh = afresh.unwrap_or_default();
+        compare_complete(input, &image, &afresh, checksum, finish);
+    }
+}
+
+/// Sets each number of a state, now and then, to one about its limit or to any.
+fn damage_numbers(rng: &mut Rng, state: &mut Writing, data: usize) {
+    let limits = [
+        (&mut state.header_written, [0, HEADER as u64]),
+        (
+            &mut state.sections_begun,
+            [state.count, MAX_SECTIONS as u64],
+        ),
+        (&mut state.section_left, [0, data as u64]),
+        (&mut state.data_left, [0, data as u64]),
+    ];
+    for (number, limits) in limits {
+        if rng.once_in(2) {
+            let near = rng.pick(&limits);
+            let hostile = rng.hostile(near);
+            let below = near.saturating_sub(1);
+            *number = rng.pick(&[near, near, below, near + 1, hostile, u64::MAX]);
+        }
+    }
+    if rng.once_in(3) {
+        let any = rng.next();
+        state.count = rng.pick(&[0, 1, 2, 31, 32, 33, 1 << 32, any, u64::MAX]);
+    }
+}
+
+/// Any state, reached or not. `data` is the length of the data that its step will be lent.
+fn any_writing(rng: &mut Rng, data: usize) -> Writing {
+    let given = any_plan(rng);
+    let mut state = raw::writing_begin(given.plan, rng.next() as u32).state;
+    for _ in 0..rng.below(8) {
+        let mut out = vec![0; any_room(rng)];
+        state = raw::writing_step(state, &given.data, &mut out).state;
+    }
+    damage_numbers(rng, &mut state, data);
+    if rng.once_in(3) {
+        state.places = std::array::from_fn(|_| Place {
+            section_type: SectionType(rng.next() as u16),
+            flags: rng.next() as u16,
+            length: DataLength(rng.hostile(data as u64)),
+        });
+    }
+    if rng.once_in(3) {
+        state.header = std::array::from_fn(|_| rng.next() as u8);
+    }
+    if rng.once_in(3) {
+        state.checksum = rng.next() as u32;
+    }
+    state
+}
+
+/// A few steps from any state, and the checksum after each.
+pub fn compare_writing_state(rng: &mut Rng, ordinal: u64, tally: &mut Tally) {
+    let length = rng.below(60);
+    let data = rng.bytes(length);
+    let mut state = any_writing(rng, length);
+    let input = &Input {
+        kind: "writing state",
+        ordinal,
+        bytes: &data,
+        other: Some(&{ state }),
+    };
+    tally.add_input();
+    compare_finish(input, &state, tally);
+    for _ in 0..4 {
+        let lent = rng.below(length + 1);
+        let room = any_room(rng);
+        let lent = rng.pick(&[0, 1.min(length), lent, length]);
+        state = compare_step(rng, input, state, &data[..lent], room).0;
+        compare_finish(input, &state, tally);
+    }
+}
+
+/// Where the data of a section lies in any state: in base and replacement, over their ends, or past them.
+fn any_section(rng: &mut Rng, base: u64, replacement: u64) -> Section {
+    let all = base + replacement;
+    let starts = [rng.below(all as usize + 1) as u64, base, all];
+    let near = rng.pick(&starts);
+    let hostile = rng.hostile(near);
+    let position = rng.pick(&[
+        near,
+        near,
+        near.saturating_sub(1),
+        near + 1,
+        hostile,
+        u64::MAX,
+    ]);
+    let rest = all.saturating_sub(position);
+    let hostile = rng.hostile(rest);
+    let few = rng.below(40) as u64;
+    Section {
+        section_type: SectionType(rng.next() as u16),
+        flags: rng.next() as u16,
+        position: FilePosition(position),
+        length: DataLength(rng.pick(&[0, few, few, rest, rest + 1, hostile, u64::MAX])),
+        ..Section::default()
+    }
+}
+
+/// Any state over a staged view, reached or not.
+fn any_staged_writing(
+    rng: &mut Rng,
+    base: &[u8],
+    replacement: &[u8],
+    replaced: u64,
+) -> StagedWriting {
+    let mut state = staged::staged_writing_begin(base, replacement, replaced, 0).state;
+    for _ in 0..rng.below(8) {
+        let mut out = vec![0; any_room(rng)];
+        state = staged::staged_writing_step(state, base, replacement, &mut out).state;
+    }
+    if rng.once_in(2) {
+        state.writing = any_writing(rng, replacement.len());
+    } else {
+        damage_numbers(rng, &mut state.writing, replacement.len());
+    }
+    if rng.once_in(2) {
+        let lengths = (base.len() as u64, replacement.len() as u64);
+        state.sections = std::array::from_fn(|_| any_section(rng, lengths.0, lengths.1));
+    }
+    state
+}
+
+/// A few steps from any state over a staged view, with base and replacement of any length, and the checksum after each.
+pub fn compare_staged_writing_state(rng: &mut Rng, ordinal: u64, tally: &mut Tally) {
+    let given = any_staged(rng);
+    let (base, replacement) = (&given.base[..], &given.replacement[..]);
+    let mut state = any_staged_writing(rng, base, replacement, given.replaced);
+    let input = &Input {
+        kind: "staged writing state",
+        ordinal,
+        bytes: base,
+        other: Some(&(replacement, state)),
+    };
+    tally.add_input();
+    compare_staged_finish(input, &state, tally);
+    for _ in 0..4 {
+        // Base and replacement need not be those that begin was lent.
+        let shorter = rng.below(base.len() + 1);
+        let base = if rng.once_in(4) {
+            &base[..shorter]
+        } else {
+            base
+        };
+        let room = any_room(rng);
+        state = compare_staged_step(rng, input, state, (base, replacement), room).0;
+        compare_staged_finish(input, &state, tally);
+    }
+}
