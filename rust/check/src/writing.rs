@@ -156,8 +156,8 @@ fn compare_staged_finish(input: &Input, state: &StagedWriting, tally: &mut Tally
     answer
 }
 
-/// The bytes of a complete run are the image, but for the number in the checksum field, which is the one given to begin.
-/// The checksum is the image's.
+/// The bytes of a complete run are the image, but for the number in the checksum field, which is the one that begin was
+/// given. The checksum is the image's.
 fn compare_complete(input: &Input, found: &[u8], image: &[u8], given: u32, finish: Answer) {
     let mut expected = image.to_vec();
     expected[CHECKSUM_AT..HEADER].copy_from_slice(&given.to_be_bytes());

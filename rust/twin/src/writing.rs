@@ -21,7 +21,7 @@ pub struct Writing {
     pub places: [Place; MAX_SECTIONS],
     /// The image's header, with the number that begin was given in its checksum field.
     pub header: [u8; HEADER],
-    /// CRC-32 over the header's first 544 bytes and over the bytes written after the header, before the final inversion.
+    /// CRC-32 over the header's first 544 bytes and the bytes written after the header, before the final inversion.
     pub checksum: u32,
 }
 

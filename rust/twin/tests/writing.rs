@@ -56,7 +56,8 @@ fn step(taken: u64, written: u64) -> Step {
     Step { taken, written }
 }
 
-/// A step with this much room: the state after it, its answer, and the bytes written. The rest of the buffer must be as it was.
+/// A step with this much room: the state after it, its answer, and the bytes written. The rest of the buffer must be
+/// as it was.
 fn stepped(mut state: Writing, data: &[u8], room: usize) -> (Writing, Step, Vec<u8>) {
     let mut out = vec![UNWRITTEN; room];
     let answer = state.step(data, &mut out);
@@ -65,7 +66,8 @@ fn stepped(mut state: Writing, data: &[u8], room: usize) -> (Writing, Step, Vec<
     (state, answer, out)
 }
 
-/// All steps of a plan, at most `cut` bytes of data and `room` bytes of buffer at a time: the bytes written and the checksum.
+/// All steps of a plan, at most `cut` bytes of data and `room` bytes of buffer at a time: the bytes written and the
+/// checksum.
 fn run(plan: &Plan, checksum: u32, data: &[u8], cut: usize, room: usize) -> (Vec<u8>, u32) {
     let (mut state, length) = Writing::begin(plan, checksum);
     let mut rest = data;
