@@ -16,6 +16,8 @@ typedef char layout_of_begun_answer[offsetof(eif_writing_begun, answer) == 1104 
 typedef char layout_of_stepped[sizeof(eif_writing_stepped) == 1120 ? 1 : -1];
 typedef char layout_of_taken[offsetof(eif_writing_stepped, taken) == 1104 ? 1 : -1];
 typedef char layout_of_written[offsetof(eif_writing_stepped, written) == 1112 ? 1 : -1];
+typedef char layout_of_staged_section[sizeof(eif_staged_section) == 24 ? 1 : -1];
+typedef char layout_of_staged_position[offsetof(eif_staged_section, position) == 8 ? 1 : -1];
 typedef char layout_of_staged[sizeof(eif_staged_writing) == 1872 ? 1 : -1];
 typedef char layout_of_staged_sections[offsetof(eif_staged_writing, sections) == 1104 ? 1 : -1];
 typedef char layout_of_staged_begun[sizeof(eif_staged_writing_begun) == 1904 ? 1 : -1];

@@ -3,9 +3,9 @@
 
 use crate::compare::{same, twin_answer, twin_plan, Input};
 use crate::{any_plan, any_staged, Call, Output, PlanInput, Rng, StagedInput, Tally};
-use eif::raw::staged_writing::{self as staged, StagedWriting};
+use eif::raw::staged_writing::{self as staged, StagedSection, StagedWriting};
 use eif::raw::writing::{self as raw, Writing};
-use eif::raw::{Answer, Plan, Section};
+use eif::raw::{Answer, Plan};
 use eif::{DataLength, FilePosition, Place, SectionType};
 use eif_cases::{CHECKSUM_AT, HEADER, MAX_SECTIONS, SECTION_HEADER};
 use eif_twin as twin;
@@ -34,7 +34,7 @@ fn twin_writing(state: &Writing) -> twin::Writing {
 
 /// The twin's form of a state over a staged view.
 fn twin_staged(state: &StagedWriting) -> twin::StagedWriting {
-    let section = |section: Section| twin::StagedSection {
+    let section = |section: StagedSection| twin::StagedSection {
         kind: section.section_type.0,
         flags: section.flags,
         position: section.position.0,
@@ -239,8 +239,6 @@ fn compare_staged_begin(
     let begun = staged::staged_writing_begin(base, replacement, replaced, checksum);
     let (state, length) = twin::StagedWriting::begin(base, replacement, replaced, checksum);
     same(input, "state begun", twin_staged(&begun.state), state);
-    let reserved = begun.state.sections.map(|section| section.reserved);
-    same(input, "reserved", reserved, [0; MAX_SECTIONS]);
     let expected = twin_answer(length.map(|length| length as u64));
     same(input, "begin", begun.answer, expected);
     tally.add(Call::StagedWritingBegin, begun.answer.number);
@@ -353,7 +351,7 @@ pub fn compare_writing_state(rng: &mut Rng, ordinal: u64, tally: &mut Tally) {
 }
 
 /// Where the data of a section lies in any state: in base and replacement, over their ends, or past them.
-fn any_section(rng: &mut Rng, base: u64, replacement: u64) -> Section {
+fn any_section(rng: &mut Rng, base: u64, replacement: u64) -> StagedSection {
     let all = base + replacement;
     let starts = [rng.below(all as usize + 1) as u64, base, all];
     let near = rng.pick(&starts);
@@ -369,12 +367,11 @@ fn any_section(rng: &mut Rng, base: u64, replacement: u64) -> Section {
     let rest = all.saturating_sub(position);
     let hostile = rng.hostile(rest);
     let few = rng.below(40) as u64;
-    Section {
+    StagedSection {
         section_type: SectionType(rng.next() as u16),
         flags: rng.next() as u16,
         position: FilePosition(position),
         length: DataLength(rng.pick(&[0, few, few, rest, rest + 1, hostile, u64::MAX])),
-        ..Section::default()
     }
 }
 
