@@ -38,7 +38,7 @@ help:
 	@echo 'make staticlib            the library for C and Rust: target/staticlib/libeif_c.a'
 	@echo 'make rust-lint doc        lints of the Rust code, its documentation'
 	@echo 'make test-large           the tests that keep images of 1 GiB in memory: minutes, 4 GiB'
-	@echo 'make bench                speed beside the plain Rust twin, zlib, libdeflate and OpenSSL, with plots; BENCH_LARGE=1: images of 1 GiB too; BENCH=checksum or BENCH=json: that part alone'
+	@echo 'make bench                speed beside the plain Rust twin, zlib, libdeflate and OpenSSL, with plots; BENCH_LARGE=1: images of 1 GiB too; BENCH=checksum, BENCH=writing or BENCH=json: that part alone'
 	@echo 'make map                  the map of the crates, docs/map.svg, and the table of definitions in README.md'
 	@echo 'make install PREFIX=dir   command, man page, C header, archive, pkg-config file'
 

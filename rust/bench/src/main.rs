@@ -2,7 +2,7 @@
 //! common programs where the machine has them: tables in Markdown, and plots.
 //!
 //! All that stand in one row are called on the same inputs in one run, in turn, and the one that goes first
-//! changes from round to round. The word `checksum` or `json` on the command line measures that alone.
+//! changes from round to round. The word `checksum`, `writing` or `json` on the command line measures that alone.
 
 mod arriving;
 mod checksum;
@@ -17,6 +17,7 @@ mod sample;
 mod scratch;
 mod table;
 mod timing;
+mod writing;
 
 use eif_cases::{HEADER, SHORTEST};
 use std::path::PathBuf;
@@ -84,6 +85,10 @@ fn main() -> io::Result<()> {
         checksum_alone();
         return Ok(());
     }
+    if asked_for("writing") {
+        writing_in_pieces();
+        return Ok(());
+    }
     if asked_for("json") {
         texts_beside_twin();
         texts_beside_programs();
@@ -104,6 +109,7 @@ fn main() -> io::Result<()> {
     reading::by_length(&reading_lengths(), &folder)?;
     checksum_alone();
     arriving_in_pieces();
+    writing_in_pieces();
     copying();
     hashing_beside_twin();
     pieces_beside_rereading();
@@ -160,6 +166,18 @@ fn arriving_in_pieces() {
     arriving::head();
     for length in lengths() {
         arriving::measure(length);
+    }
+}
+
+fn writing_in_pieces() {
+    println!();
+    println!(
+        "An image that is written in pieces, beside the call that writes it whole from all its data. {}",
+        writing::memory()
+    );
+    table::head("write");
+    for length in lengths() {
+        writing::measure(length);
     }
 }
 
