@@ -2,12 +2,13 @@
 //! code; here each call gets the numbers that an index, a slice or a sum would fail at.
 
 use eif::raw::fingerprint::Fingerprinting;
+use eif::raw::staged_writing::{StagedSection, StagedWriting};
 use eif::raw::{self, assembler::State, measuring::Measuring, staged::staged_part};
 use eif::sign1::{self, Algorithm, Claim};
 use eif::{
     assembler, json, staged, Architecture, Arriving, ArrivingFingerprint, ArrivingRegisters,
     Assembler, DataLength, Digest, FilePosition, Fingerprint, Place, Plan, Reason, Registers,
-    SectionType, Sha384, Stream, StreamPosition,
+    SectionType, Sha384, Stream, StreamPosition, Writing,
 };
 use eif_cases::{worked_image, Layout, Section};
 use eif_check::parts;
@@ -316,6 +317,50 @@ fn states() {
         let fits = number <= eif::MAX_MESSAGE_LENGTH - 300;
         assert_eq!(hash.update(&[0xff; 300]).is_ok(), fits);
         let _ = hash.finish();
+    }
+}
+
+/// States of writing with one number everywhere, alone and over a base and a replacement.
+#[test]
+fn states_of_writing() {
+    let base = worked_image();
+    for number in numbers() {
+        let place = Place {
+            section_type: SectionType(number as u16),
+            flags: number as u16,
+            length: DataLength(number),
+        };
+        let state = raw::writing::Writing {
+            header_written: number,
+            sections_begun: number,
+            section_left: number,
+            data_left: number,
+            count: number,
+            places: [place; 32],
+            header: [0xff; 548],
+            checksum: number as u32,
+        };
+        let section = StagedSection {
+            position: FilePosition(number),
+            length: DataLength(number),
+            ..StagedSection::default()
+        };
+        for room in [0, 1, 11, 12, 600] {
+            let mut writing = Writing::from(state);
+            let step = writing.step(&[0xff; 40], &mut vec![0; room]);
+            assert!(step.taken <= 40 && step.taken <= step.written && step.written <= room);
+            assert_eq!(
+                writing.finish().is_ok(),
+                number != 0 && writing.data_left() == 0
+            );
+            let mut staged = staged::Writing::from(StagedWriting {
+                writing: state,
+                sections: [section; 32],
+            });
+            let written = staged.step(&base, &[0xff; 40], &mut vec![0; room]);
+            assert!(written <= room);
+            let _ = staged.finish();
+        }
     }
 }
 

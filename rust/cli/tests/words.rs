@@ -101,6 +101,7 @@ fn the_header_has_the_same_limits() {
     for (name, value) in [
         ("EIF_MAX_IMAGE_LENGTH", eif::MAX_IMAGE_LENGTH),
         ("EIF_HEADER_LENGTH", eif::HEADER_LENGTH),
+        ("EIF_CHECKSUM_POSITION", eif::CHECKSUM_POSITION),
         ("EIF_SECTION_HEADER_LENGTH", eif::SECTION_HEADER_LENGTH),
         ("EIF_RECORD_HEAD_LENGTH", eif::RECORD_HEAD_LENGTH),
         ("EIF_FLAGS_RECORD_LENGTH", eif::FLAGS_RECORD_LENGTH),
