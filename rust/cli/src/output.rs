@@ -4,7 +4,7 @@ use crate::args::{Args, Options};
 use crate::status::Trouble;
 use std::ffi::{OsStr, OsString};
 use std::fs::{self, File, OpenOptions};
-use std::io::{self, Write};
+use std::io::{self, Read, Write};
 use std::path::{Path, PathBuf};
 use std::process;
 
@@ -18,22 +18,21 @@ pub const OPTIONS: Options = Options {
     values: &[VALUE],
 };
 
+/// What writes the bytes of an output.
+type Content<'a> = &'a mut dyn FnMut(&mut dyn Write) -> io::Result<()>;
+
 /// Writes to standard output.
 pub fn print(bytes: &[u8]) -> Result<(), Trouble> {
-    print_parts(&[bytes])
+    print_content(&mut |out| out.write_all(bytes))
 }
 
-fn print_parts(parts: &[&[u8]]) -> Result<(), Trouble> {
+fn print_content(content: Content) -> Result<(), Trouble> {
     let mut out = io::stdout().lock();
-    let written = write_all(&mut out, parts).and_then(|()| out.flush());
+    let written = content(&mut out).and_then(|()| out.flush());
     written.map_err(|error| match error.kind() {
         io::ErrorKind::BrokenPipe => Trouble::ClosedPipe,
         _ => Trouble::system(OsStr::new("standard output"), error),
     })
-}
-
-fn write_all(out: &mut impl Write, parts: &[&[u8]]) -> io::Result<()> {
-    parts.iter().try_for_each(|part| out.write_all(part))
 }
 
 /// Where an output goes.
@@ -70,11 +69,20 @@ impl Output {
 
     /// Writes the output, its parts one after the other.
     pub fn write(&self, parts: &[&[u8]]) -> Result<(), Trouble> {
+        self.write_content(&mut |out| parts.iter().try_for_each(|part| out.write_all(part)))
+    }
+
+    /// Writes an output that is read piece by piece.
+    pub fn copy(&self, from: &mut impl Read) -> Result<(), Trouble> {
+        self.write_content(&mut |mut out| io::copy(from, &mut out).map(|_| ()))
+    }
+
+    fn write_content(&self, content: Content) -> Result<(), Trouble> {
         match self {
-            Output::Standard => print_parts(parts),
+            Output::Standard => print_content(content),
             Output::File { name, force } => {
                 self.check_free()?;
-                write_file(name, parts, *force).map_err(|error| match error.kind() {
+                write_file(name, content, *force).map_err(|error| match error.kind() {
                     io::ErrorKind::AlreadyExists => Trouble::Exists(name.clone()),
                     _ => Trouble::system(name, error),
                 })
@@ -100,16 +108,16 @@ fn is_regular(name: &OsStr) -> bool {
     fs::metadata(name).is_ok_and(|found| found.is_file())
 }
 
-fn write_file(name: &OsStr, parts: &[&[u8]], force: bool) -> io::Result<()> {
+fn write_file(name: &OsStr, content: Content, force: bool) -> io::Result<()> {
     let path = Path::new(name);
     if path.exists() && !is_regular(name) {
         let mut device = OpenOptions::new().write(true).open(path)?;
-        return write_all(&mut device, parts);
+        return content(&mut device);
     }
     // A link to a file stays, and the file that it names is replaced.
     let target = fs::canonicalize(path).unwrap_or_else(|_| path.to_path_buf());
     let (temporary, file) = create_beside(&target)?;
-    let finished = fill(file, parts).and_then(|()| put_in_place(&temporary, &target, force));
+    let finished = fill(file, content).and_then(|()| put_in_place(&temporary, &target, force));
     if finished.is_err() {
         let _ = fs::remove_file(&temporary);
     }
@@ -136,8 +144,8 @@ fn create_beside(target: &Path) -> io::Result<(PathBuf, File)> {
     Err(io::ErrorKind::AlreadyExists.into())
 }
 
-fn fill(mut file: File, parts: &[&[u8]]) -> io::Result<()> {
-    write_all(&mut file, parts)?;
+fn fill(mut file: File, content: Content) -> io::Result<()> {
+    content(&mut file)?;
     file.sync_all()
 }
 

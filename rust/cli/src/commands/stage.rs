@@ -1,4 +1,4 @@
-//! `eif stage`: the roll's digest and the registers of an image with one section replaced, before that image
+//! `eif stage`: the fingerprint and the registers of an image with one section replaced, before that image
 //! is written.
 
 use super::Command;
@@ -7,7 +7,7 @@ use crate::input::{self, Input};
 use crate::output::{self, Output};
 use crate::status::{complain, Status, Trouble};
 use crate::{help, json, objects, words};
-use eif::{staged, Digest, Refusal, Registers, Sha384};
+use eif::{staged, Fingerprint, Refusal, Registers};
 use std::ffi::OsStr;
 
 pub const COMMAND: Command = Command {
@@ -48,11 +48,11 @@ struct Staged {
     replacement: Input,
 }
 
-/// What the image written afresh has, and is where it is asked for.
-struct Afresh {
-    roll: Digest,
+/// What the image written afresh has, and its bytes where they are asked for.
+struct Afresh<'a> {
+    fingerprint: Fingerprint,
     registers: Registers,
-    image: Option<Vec<u8>>,
+    image: Option<staged::Reader<'a>>,
 }
 
 fn run(args: Args) -> Result<Status, Trouble> {
@@ -67,15 +67,15 @@ fn run(args: Args) -> Result<Status, Trouble> {
         replacement: input::read(replacement)?,
     };
     let form = if args.has(json::FLAG) { object } else { lines };
-    let answer = afresh(&staged, named.is_some());
+    let mut answer = afresh(&staged, named.is_some());
     let text = form(&staged, &answer);
     let image_alone = named.is_some_and(|name| name == "-");
-    match &answer {
+    match &mut answer {
         Err(_) if image_alone => complain(&text),
         Err(_) => output::print(&text)?,
         Ok(afresh) => {
-            if let Some(image) = &afresh.image {
-                output.write(&[image])?;
+            if let Some(image) = &mut afresh.image {
+                output.copy(image)?;
             }
             if !image_alone {
                 output::print(&text)?;
@@ -85,26 +85,19 @@ fn run(args: Args) -> Result<Status, Trouble> {
     Ok(answer.map_or(Status::Refused, |_| Status::Fine))
 }
 
-fn afresh(staged: &Staged, with_image: bool) -> Result<Afresh, Refusal> {
+fn afresh(staged: &Staged, with_image: bool) -> Result<Afresh<'_>, Refusal> {
     let (base, replacement) = (&staged.base.bytes, &staged.replacement.bytes);
-    let registers = staged::registers(base, replacement, staged.index)?;
-    let mut roll = Sha384::new();
-    roll.update(&staged::roll_to_vec(base, replacement, staged.index)?)?;
-    let image = if with_image {
-        Some(staged::write_to_vec(base, replacement, staged.index)?)
-    } else {
-        None
-    };
+    let reader = || staged::Reader::new(base, replacement, staged.index);
     Ok(Afresh {
-        roll: roll.finish(),
-        registers,
-        image,
+        fingerprint: staged::fingerprint(base, replacement, staged.index)?,
+        registers: staged::registers(base, replacement, staged.index)?,
+        image: with_image.then(reader).transpose()?,
     })
 }
 
 fn lines(staged: &Staged, answer: &Result<Afresh, Refusal>) -> Vec<u8> {
     match answer {
-        Ok(afresh) => format!("roll {}\n{}\n", afresh.roll, afresh.registers).into_bytes(),
+        Ok(afresh) => format!("roll {}\n{}\n", afresh.fingerprint, afresh.registers).into_bytes(),
         Err(refusal) => refused(staged, refusal),
     }
 }
@@ -128,7 +121,7 @@ fn object(staged: &Staged, answer: &Result<Afresh, Refusal>) -> Vec<u8> {
             let object = objects::on_file(name, true)
                 .put("replaced", staged.index)
                 .put("replacement", json::string(&replacement))
-                .put("roll", json::string(&afresh.roll.to_string()));
+                .put("roll", json::string(&afresh.fingerprint.to_string()));
             objects::put_measurements(object, &afresh.registers)
         }
         Err(refusal) => objects::refused(name, refusal),
