@@ -19,7 +19,7 @@ pub const OPTIONS: Options = Options {
 };
 
 /// What writes the bytes of an output.
-type Content<'a> = &'a mut dyn FnMut(&mut dyn Write) -> io::Result<()>;
+pub type Content<'a> = &'a mut dyn FnMut(&mut dyn Write) -> io::Result<()>;
 
 /// Writes to standard output.
 pub fn print(bytes: &[u8]) -> Result<(), Trouble> {
@@ -77,7 +77,8 @@ impl Output {
         self.write_content(&mut |mut out| io::copy(from, &mut out).map(|_| ()))
     }
 
-    fn write_content(&self, content: Content) -> Result<(), Trouble> {
+    /// Writes what `content` writes.
+    pub fn write_content(&self, content: Content) -> Result<(), Trouble> {
         match self {
             Output::Standard => print_content(content),
             Output::File { name, force } => {

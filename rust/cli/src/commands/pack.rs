@@ -5,8 +5,9 @@ use crate::args::{Args, Options};
 use crate::output::{self, Output};
 use crate::status::{complain, Status, Trouble};
 use crate::{input, words};
-use eif::{Architecture, DataLength, Place, Plan, SectionType};
+use eif::{Architecture, DataLength, ImageWriter, Place, Plan, SectionType};
 use std::ffi::{OsStr, OsString};
+use std::io::{self, Write};
 use std::os::unix::ffi::OsStringExt;
 
 pub const COMMAND: Command = Command {
@@ -71,7 +72,6 @@ fn run(args: Args) -> Result<Status, Trouble> {
         complain(lines);
         Ok(Status::Refused)
     };
-    // The length is asked first, so that no parts are joined that are too long.
     if let Err(refusal) = eif::plan_length(&plan) {
         return refused(&words::about(&output_name, &format!("{refusal}\n")));
     }
@@ -80,11 +80,25 @@ fn run(args: Args) -> Result<Status, Trouble> {
             return refused(&lines);
         }
     }
-    let data: Vec<&[u8]> = sections.iter().map(|(_, data)| &data[..]).collect();
-    match eif::write_to_vec(&plan, &data.concat()) {
-        Ok(image) => output.write(&[&image]).map(|()| Status::Fine),
-        Err(refusal) => refused(&words::about(&output_name, &format!("{refusal}\n"))),
+    // The parts are passed twice: the first time for the checksum, which stands before them.
+    let checksum = write_image(&plan, &sections, &mut io::sink(), 0);
+    let checksum = checksum.map_err(|error| Trouble::system(&output_name, error))?;
+    let image = &mut |out: &mut dyn Write| write_image(&plan, &sections, out, checksum).map(|_| ());
+    output.write_content(image).map(|()| Status::Fine)
+}
+
+/// Writes the image with this number in its checksum field, and answers the right one.
+fn write_image(
+    plan: &Plan,
+    sections: &[(SectionType, Vec<u8>)],
+    out: &mut dyn Write,
+    checksum: u32,
+) -> io::Result<u32> {
+    let mut writer = ImageWriter::with_checksum(out, plan, checksum)?;
+    for (_, data) in sections {
+        writer.write_all(data)?;
     }
+    writer.finish()
 }
 
 /// What is wrong with metadata that is no JSON text.
