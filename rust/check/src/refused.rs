@@ -57,6 +57,14 @@ fn every_answer(image: &[u8], out: &mut [u8]) -> Vec<(&'static str, Result<(), R
             "staged image",
             staged::write_to_vec(image, b"new", past).map(|_| ()),
         ),
+        (
+            "staged image in pieces",
+            staged::Writing::begin(image, b"new", past, 7).map(|_| ()),
+        ),
+        (
+            "staged image, read",
+            staged::Reader::new(image, b"new", past).map(|_| ()),
+        ),
     ];
     for stream in Stream::ALL {
         let length = eif::stream_length(image, stream);
@@ -92,8 +100,9 @@ fn check_raw(name: &str, image: &[u8], answer: Answer, out: &mut [u8]) {
         raw::roll_write(image, out),
         raw::staged::staged_roll_length(image, b"new", most),
         raw::staged::staged_roll_write(image, b"new", most, out),
+        raw::staged_writing::staged_writing_begin(image, b"new", most, 7).answer,
     ];
-    assert_eq!(lengths, [length; 4], "{name}");
+    assert_eq!(lengths, [length; 5], "{name}");
     for stream in Stream::ALL {
         let copied = raw::copy_stream(image, stream, StreamPosition(most), out);
         let lengths = [raw::stream_length(image, stream), copied];

@@ -1,5 +1,6 @@
 //! Inputs to which two rules of an order apply, through every call: the first rule's refusal is the answer.
 
+use eif::raw::staged_writing::staged_writing_begin;
 use eif::raw::{self, assembler, sign1, staged};
 use eif::{Assembler, DataLength, Digest, Place, Plan, SectionType};
 use eif_cases::{
@@ -25,7 +26,7 @@ fn calls(order: &str) -> &'static [Call] {
         "stricter reading" => &[Call::ReadStrict],
         "copying from a stream" => &[Call::Copy],
         "writing a roll" => &[Call::RollWrite],
-        "the length of a plan" => &[Call::PlanLength],
+        "the length of a plan" => &[Call::PlanLength, Call::WritingBegin],
         "writing an image" => &[Call::Write],
         "reading a roll" => &[Call::RollRead],
         "a transfer's record" => &[Call::Assemble],
@@ -34,6 +35,7 @@ fn calls(order: &str) -> &'static [Call] {
             Call::StagedRollLength,
             Call::StagedRegisters,
             Call::StagedFingerprint,
+            Call::StagedWritingBegin,
         ],
         "writing a staged roll" => &[Call::StagedRollWrite],
         "writing a COSE_Sign1" => &[Call::Sign1Write],
@@ -109,13 +111,17 @@ fn plans() {
         let written = raw::write(raw_plan, &data, &mut out);
         assert_eq!(written, refused, "{:?}", case.rules);
         assert!(out.iter().all(|&byte| byte == 0xaa), "{:?}", case.rules);
-        // The length alone has the same order without 15 and 14.
+        // The length alone, and the first call of writing in pieces, have the same order without 15 and 14.
         let length = eif::plan_length(&plan).map_err(parts);
+        let begun = eif::Writing::begin(&plan, 0).map(|(_, length)| length);
+        assert_eq!(begun.map_err(parts), length, "{:?}", case.rules);
         if case.answer.0 == 15 {
             assert_eq!(length, Ok(574), "{:?}", case.rules);
         } else {
             assert_eq!(length, Err(case.answer), "{:?}", case.rules);
             assert_eq!(raw::plan_length(raw_plan), refused, "{:?}", case.rules);
+            let begun = raw::writing::writing_begin(raw_plan, 7);
+            assert_eq!(begun.answer, refused, "{:?}", case.rules);
         }
     }
 }
@@ -164,6 +170,17 @@ fn check_view(base: &[u8], replacement: &[u8], case: &OrderCase<Replacement>) {
     assert_eq!(part, refused, "{:?}", case.rules);
 }
 
+/// The first call of writing in pieces gives the case's answer.
+fn check_begun(base: &[u8], replacement: &[u8], case: &OrderCase<Replacement>) {
+    let replaced = case.input.replaced;
+    let begun = eif::staged::Writing::begin(base, replacement, replaced as usize, 7);
+    let begun = begun.map(|_| ()).map_err(parts);
+    assert_eq!(begun, Err(case.answer), "{:?}", case.rules);
+    let begun = staged_writing_begin(base, replacement, replaced, 7);
+    let refused = refused!(raw::Answer, case.answer);
+    assert_eq!(begun.answer, refused, "{:?}", case.rules);
+}
+
 /// The replacement's zeros take no memory, since none of them is read.
 #[test]
 fn replacements() {
@@ -176,6 +193,7 @@ fn replacements() {
         let (replacement, mut out) = (vec![0; input.size], vec![0xaa; input.room]);
         let replaced = input.replaced as usize;
         check_view(&base, &replacement, &case);
+        check_begun(&base, &replacement, &case);
         let roll = eif::staged::write_roll(&base, &replacement, replaced, &mut out);
         assert_eq!(
             roll.map(|_| ()).map_err(parts),
