@@ -4,7 +4,7 @@ use crate::rules::*;
 use crate::staged::staged_plan;
 use crate::writing::Writing;
 
-/// A section, and where its data lies in the base with the replacement joined to its end.
+/// A section, and where its data lies: in the base, or in the replacement as if that followed the base.
 #[derive(Clone, Copy, Debug, Default, PartialEq, Eq)]
 pub struct StagedSection {
     /// Its type.
@@ -18,12 +18,15 @@ pub struct StagedSection {
 }
 
 impl StagedSection {
-    /// Its data, as far as it lies in the base and the replacement.
-    fn data(&self, base: &[u8], replacement: &[u8]) -> Vec<u8> {
-        let joined = [base, replacement].concat();
-        let end = u128::from(self.position) + u128::from(self.length);
-        let inside = |at: u128| at.min(joined.len() as u128) as usize;
-        joined[inside(self.position.into())..inside(end)].to_vec()
+    /// Its data: in the base if it begins there, and otherwise in the replacement. It ends where that ends.
+    fn data<'a>(&self, base: &'a [u8], replacement: &'a [u8]) -> &'a [u8] {
+        let start = base.len() as u64;
+        let (held, from) = match self.position.checked_sub(start) {
+            None => (base, self.position),
+            Some(from) => (replacement, from),
+        };
+        let rest = &held[from.min(held.len() as u64) as usize..];
+        &rest[..self.length.min(rest.len() as u64) as usize]
     }
 }
 
@@ -70,19 +73,18 @@ impl StagedWriting {
 
     /// Writes over the start of `out`. Answers how many bytes.
     pub fn step(&mut self, base: &[u8], replacement: &[u8], out: &mut [u8]) -> u64 {
-        let data = match self.last_begun() {
-            Some(section) => section.data(base, replacement),
-            None => Vec::new(),
-        };
+        let data = self.last_begun().data(base, replacement);
         let left = self.writing.section_left.min(data.len() as u64) as usize;
         let lent = &data[data.len() - left..];
         self.writing.step(lent, out).written
     }
 
-    /// The section begun last. A number above 32 counts as 32.
-    fn last_begun(&self) -> Option<&StagedSection> {
-        let begun = self.writing.sections_begun.min(MAX_SECTIONS as u64) as usize;
-        self.sections[..begun].last()
+    /// The section begun last: that at place 0 if none is begun, and one without data at a place past 31.
+    fn last_begun(&self) -> StagedSection {
+        let index = self.writing.sections_begun.saturating_sub(1);
+        let place = usize::try_from(index).ok();
+        let section = place.and_then(|place| self.sections.get(place));
+        section.copied().unwrap_or_default()
     }
 
     /// The checksum of the image written afresh, or 15 where data is missing.

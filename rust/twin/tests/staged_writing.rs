@@ -120,8 +120,10 @@ fn data_of_any_state() {
     assert_eq!(first(1, 3, most), b"123");
     assert_eq!(first(5, 5, 5), b"abcde");
     assert_eq!(first(5, 5, 2), b"de");
-    // Over the end of the base, past the end of the replacement, and sums above 2 to the 64.
-    assert_eq!(first(3, 4, 4), b"34ab");
+    // Past the end of the base or of the replacement, and sums above 2 to the 64.
+    assert_eq!(first(3, 4, 4), b"34");
+    assert_eq!(first(3, 4, 1), b"4");
+    assert_eq!(first(0, most, most), b"01234");
     assert_eq!(first(8, 4, 4), b"de");
     assert_eq!(first(8, 4, 1), b"e");
     assert_eq!(first(10, 4, 4), b"");
@@ -132,11 +134,16 @@ fn data_of_any_state() {
 
 #[test]
 fn the_section_begun_last_of_any_state() {
-    let all = section(1, 0, 10);
-    assert_eq!(data_written(0, 10, all, 0), b"");
-    assert_eq!(data_written(2, 10, all, 0), b"");
-    assert_eq!(data_written(2, 10, all, 1), b"01234abcde");
-    for begun in [32, 33, u64::MAX] {
-        assert_eq!(data_written(begun, 10, all, 31), b"01234abcde");
+    let whole = section(1, 5, 5);
+    // None is begun: place 0.
+    assert_eq!(data_written(0, 10, whole, 0), b"abcde");
+    assert_eq!(data_written(2, 10, whole, 0), b"");
+    assert_eq!(data_written(2, 10, whole, 1), b"abcde");
+    assert_eq!(data_written(32, 10, whole, 31), b"abcde");
+    // A place past 31 has no data.
+    for begun in [33, 34, u64::MAX] {
+        for place in [0, 31] {
+            assert_eq!(data_written(begun, 10, whole, place), b"");
+        }
     }
 }
