@@ -5,41 +5,36 @@ use mathlib.Core.Path.{_≡_, refl, sym, ap, ap₂, _∙_}
 use mathlib.Core.List.{List, [], _∷_, _++_, append-assoc, append-nil}
 use mathlib.Core.Logic.{⊎-elim}
 use native.Mathlib.Omega.{arith}
-use lib.ListN.{length, replicate, take, drop, length-append, length-take, length-drop}
+use lib.ListN.{length, take, drop, length-append, length-take, length-drop}
 use lib.Seq.{take-nil, drop-nil, take-add, take-take, take-all, drop-length, drop-drop}
 use Rattle.octets.specs.Bytes.{beBytes}
 use Rattle.octets.specs.Over.{over}
-use Rattle.octets.proofs.Logic.{le-or-lt}
+use Rattle.octets.proofs.Logic.{equal-or-not, le-or-lt}
 use Rattle.octets.proofs.Lists.{take-min}
 use Rattle.eif.specs.Numbers.{placeCount}
 use Rattle.eif.specs.Answers.{beside}
-use Rattle.eif.specs.Layout.{checksumAt, countOf, sectionHeaderSize}
-use Rattle.eif.specs.Reading.{blankSection, readImage, sectionIn}
-use Rattle.eif.specs.Table.{filled}
+use Rattle.eif.specs.Layout.{checksumAt, countOf, offsetAt, sectionHeaderSize}
+use Rattle.eif.specs.Output.{writtenFor}
+use Rattle.eif.specs.Reading.{sectionAt, ownData}
 use Rattle.eif.specs.Plan.{plannedSize, dataBefore, plainSize, pieceAt, plainImage, planLength}
 use Rattle.eif.specs.declared.Place.{Place}
 use Rattle.eif.specs.declared.Plan.{Plan}
-use Rattle.eif.specs.declared.Section.{Section}
 use Rattle.eif.specs.declared.Verdict.{Verdict}
 use Rattle.eif.specs.declared.Verdict.the-variants.{Accepted}
-use Rattle.eif_lemmas.proofs.Table.{filled-at}
 use Rattle.plain_laws.proofs.Joined.{piece-is, length-joined}
 use Rattle.plain_laws.proofs.PlanRules.{planned→}
 use Rattle.plain_laws.proofs.Shape.{before-le, before-suc, before-zero}
-use Rattle.plain_laws.proofs.WriteBack.{sound-head}
 use Rattle.staged.specs.Staged.{stagedPlan, stagedJoined, stagedVerdict, afresh}
-use Rattle.staged.specs.View.{stagedSections, stagedView, heldBy}
 use Rattle.staged.proofs.Accept.{Stages, staged→}
-use Rattle.staged.proofs.Afresh.{partAt, changedPlan, plan-is, parts-are, size-kept}
-use Rattle.staged.proofs.Held.{stagedAt, held-is, sections-are}
+use Rattle.staged.proofs.Afresh.{partAt, changedPlan, plan-is, parts-are, part-replaced, part-kept, size-kept}
 use Rattle.writing.specs.Writing.{startWriting, emptyWriting, writingBegun, writingStepped, stepBytes, writingSummed}
 use Rattle.writing.specs.declared.Writing.{Writing}
 use Rattle.writing_laws.specs.Runs.{WriteStep, afterSteps, dataTaken, bytesWritten}
 use Rattle.writing_laws.proofs.Runs.{bytes-bounded, complete-data, finish-accepts, checksum-put, moves}
 use Rattle.writing_laws.proofs.Reached.{Reached, reached-start, reached-step}
-use Rattle.staged_writing.specs.StagedWriting.{stagedBegun, dueData, stagedStepped}
+use Rattle.staged_writing.specs.StagedWriting.{begunWith, refusedBegun, stagedBegun, baseData, wholeData, dueData, stagedStepped}
 use Rattle.staged_writing.specs.declared.StagedWriting.{StagedWriting}
-use Rattle.staged_writing.proofs.Begun.{plan-accepted}
+use Rattle.staged_writing.proofs.Begun.{plan-accepted, base-some, whole-replaced, whole-kept}
 use Rattle.staged_writing_laws.specs.StagedRuns.{stagedBytesOf, afterStagedSteps, stagedBytesWritten, stagedSteps}
 
 -- ---- the first bytes of a list
@@ -53,6 +48,10 @@ first-bytes n m x =
     sym (take-min n (take m x)) ∙ ap (λ (j : ℕ). take j (take m x)) (ap (min n) (length-take m x)) ∙ take-take (min n (min m (length x))) m x (omega arith)
     ∙ ap (λ (j : ℕ). take j x) (let z : min n (min m (length x)) ≡ min k (length x) = omega arith in z) ∙ take-min k x in
     e ∙ sym (take-min k x) ∙ ap (λ (j : ℕ). take j x) (let z : min k (length x) ≡ length (take n (take m x)) = omega arith in z)
+
+-- as many as there are of the first n
+own-length : (n : ℕ) (x : List ℕ) → take (length (take n x)) x ≡ take n x
+own-length n x = ap (λ (m : ℕ). take m x) (length-take n x) ∙ take-min n x
 
 -- what follows the first a of a + c elements
 drop-first : (a c : ℕ) (x : List ℕ) → drop a (take (a + c) x) ≡ take c (drop a x)
@@ -70,9 +69,6 @@ module _ (s r : List ℕ) (k field : ℕ) (ok : stagedVerdict s (length r) k k �
   -- the data of all sections of the image written afresh
   abbrev freshData : List ℕ
   freshData = stagedJoined s r k
-
-  abbrev viewSections : List Section
-  viewSections = stagedView s (length r) k k .sections
 
   stages : Stages s (length r) k k
   stages = staged→ s (length r) k k ok
@@ -104,21 +100,31 @@ module _ (s r : List ℕ) (k field : ℕ) (ok : stagedVerdict s (length r) k k �
       ap₂ (λ (p : Plan) (d : List ℕ). pieceAt (p .places) d i) plan-same (parts-are s r k (stages .accepted))
       ∙ piece-is (base-plan .places) (countOf s) (partAt s r k (stages .accepted)) sizes i (omega arith)
 
-  sections-listed : viewSections ≡ filled (stagedAt s r k) blankSection placeCount (countOf s)
-  unfolding stagedView
-  sections-listed =
-      ap (λ (v : Verdict). beside v (stagedSections (readImage s .sections) k (length s) (length r)) (replicate placeCount blankSection)) ok
-      ∙ sections-are s r k (stages .accepted) (stages .replaced)
-
-  -- the data of section i is what the plan takes of the joined data
-  held-piece : (i : ℕ) → i < planAfresh .count → heldBy s r (sectionIn viewSections i) ≡ pieceAt places freshData i
-  held-piece i h =
+  -- the data of place i of the base, other than the replaced one, is what the plan takes of the data of all sections
+  base-piece : (i : ℕ) → i < planAfresh .count → (i ≡ k → ⊥) → baseData s places i ≡ pieceAt places freshData i
+  base-piece i h n =
       let c = count-same in
-      let f = sound-head s (stages .accepted) .fields .few in
+      let f = few in
       let q : i < countOf s = omega arith in
-      ap (λ (l : List Section). heldBy s r (sectionIn l i)) sections-listed
-      ∙ ap (heldBy s r) (filled-at (stagedAt s r k) blankSection blankSection placeCount (countOf s) i q f)
-      ∙ held-is s r k (stages .accepted) i q ∙ sym (piece-part i h)
+      let rest = drop (offsetAt s i + sectionHeaderSize) s in
+      let own = part-kept s r k (stages .accepted) i n in
+      let size : plannedSize places i ≡ length (ownData s i) =
+      ap (λ (p : Plan). plannedSize (p .places) i) plan-same ∙ sym (sizes i q) ∙ ap length own in
+      sym (base-some s places i (omega arith))
+      ∙ ap₂ (λ (m : ℕ) (l : List ℕ). take m l) size (drop-drop sectionHeaderSize (offsetAt s i) s)
+      ∙ own-length (sectionAt s i .length .0) rest
+      ∙ sym (piece-part i h ∙ own)
+
+  -- the data of the section begun last
+  whole-piece : (a : StagedWriting) → a .replaced ≡ k → a .writing .places ≡ places → (i : ℕ) → i < planAfresh .count → a .writing .«sections_begun» - 1 ≡ i
+      → wholeData a s r ≡ pieceAt places freshData i
+  whole-piece a e l i h z =
+      ⊎-elim
+      (λ (q : i ≡ k).
+      sym (whole-replaced a s r (z ∙ q ∙ sym e)) ∙ sym (piece-part i h ∙ ap (partAt s r k (stages .accepted)) q ∙ part-replaced s r k (stages .accepted)))
+      (λ (n : i ≡ k → ⊥).
+      sym (whole-kept a s r (λ q. n (sym z ∙ q ∙ e))) ∙ ap₂ (λ (m : List Place) (j : ℕ). baseData s m j) l z ∙ base-piece i h n)
+      (equal-or-not i k)
 
   piece-long : (i : ℕ) → i < planAfresh .count → length (pieceAt places freshData i) ≡ plannedSize places i
   piece-long i h =
@@ -135,7 +141,7 @@ module _ (s r : List ℕ) (k field : ℕ) (ok : stagedVerdict s (length r) k k �
   -- the state a after data d was taken and bytes g were written: d is the first of the joined data
   record StagedReached (d g : List ℕ) (a : StagedWriting) : Type 0 where
     reached : Reached planAfresh field few d g (a .writing)
-    sections-stay : a .sections ≡ viewSections
+    replaced-stays : a .replaced ≡ k
     data-first : d ≡ take (length d) freshData
 
   module _ (d g : List ℕ) (a : StagedWriting) (x : StagedReached d g a) where
@@ -149,7 +155,7 @@ module _ (s r : List ℕ) (k field : ℕ) (ok : stagedVerdict s (length r) k k �
     due-none : left ≡ 0 → dueData a s r ≡ take left (drop (length d) freshData)
     unfolding dueData
     due-none e =
-        let whole = heldBy s r (sectionIn (a .sections) (lastBegun - 1)) in
+        let whole = wholeData a s r in
         let n : length whole - left ≡ length whole = omega arith in
         ap (λ (m : ℕ). drop m whole) n ∙ drop-length whole ∙ ap (λ (m : ℕ). take m (drop (length d) freshData)) (sym e)
 
@@ -165,8 +171,8 @@ module _ (s r : List ℕ) (k field : ℕ) (ok : stagedVerdict s (length r) k k �
         let q = ap (dataBefore places) z in
         let size = plannedSize places m in
         let rest = size - left in
-        let whole : heldBy s r (sectionIn (a .sections) (lastBegun - 1)) ≡ take (rest + left) (drop (dataBefore places m) freshData) =
-        ap₂ (λ (l : List Section) (i : ℕ). heldBy s r (sectionIn l i)) (x .sections-stay) z ∙ held-piece m (omega arith)
+        let whole : wholeData a s r ≡ take (rest + left) (drop (dataBefore places m) freshData) =
+        whole-piece a (x .replaced-stays) (y .places-are) m (omega arith) z
         ∙ ap (λ (n : ℕ). take n (drop (dataBefore places m) freshData)) (let n : size ≡ rest + left = omega arith in n) in
         let long : length (take (rest + left) (drop (dataBefore places m) freshData)) - left ≡ rest =
         let l = piece-long m (omega arith) in
@@ -199,7 +205,7 @@ module _ (s r : List ℕ) (k field : ℕ) (ok : stagedVerdict s (length r) k k �
         let some : y ≡ take (length y) rest = ap (take n) due-is ∙ first-bytes n left rest ∙ ap (λ (l : List ℕ). take (length (take n l)) rest) (sym due-is) in
         record {
           reached = reached-step planAfresh field few d g (a .writing) (x .reached) (dueData a s r) room;
-          sections-stay = x .sections-stay;
+          replaced-stays = x .replaced-stays;
           data-first = ap₂ (λ (u v : List ℕ). u ++ v) (x .data-first) some ∙ sym (take-add (length d) (length y) freshData) ∙ ap (λ (m : ℕ). take m freshData) (sym (length-append d y));
         }
 
@@ -243,18 +249,18 @@ module _ (s r : List ℕ) (k field : ℕ) (ok : stagedVerdict s (length r) k k �
 
     first-start : first .writing ≡ startWriting planAfresh field
     unfolding stagedBegun
-    first-start = ap (λ (v : Verdict). beside v (startWriting planAfresh field) emptyWriting) ok
+    first-start = ap (λ (v : Verdict). beside v (begunWith (startWriting planAfresh field) k (writtenFor v (plainSize planAfresh))) (refusedBegun v) .state .writing) ok
 
     first-same : first .writing ≡ planStart
     unfolding writingBegun
     first-same = first-start ∙ sym (ap (λ (v : Verdict). beside v (startWriting planAfresh field) emptyWriting) plan-ok)
 
-    first-sections : first .sections ≡ viewSections
+    first-replaced : first .replaced ≡ k
     unfolding stagedBegun
-    first-sections = refl
+    first-replaced = ap (λ (v : Verdict). beside v (begunWith (startWriting planAfresh field) k (writtenFor v (plainSize planAfresh))) (refusedBegun v) .state .replaced) ok
 
     whole-run : StagedReached (dataTaken (first .writing) steps) written last
-    whole-run = staged-run rooms [] [] first (record { reached = rw first-start (reached-start planAfresh field few); sections-stay = first-sections; data-first = refl })
+    whole-run = staged-run rooms [] [] first (record { reached = rw first-start (reached-start planAfresh field few); replaced-stays = first-replaced; data-first = refl })
 
     written-same : written ≡ bytesWritten planStart steps
     written-same = steps-same rooms first .1 ∙ ap (λ (a : Writing). bytesWritten a steps) first-same

@@ -1,43 +1,30 @@
 -- `staged_writing::begin_listed` meets its contract: the view's refusal, or the plan's own answer.
-use mathlib.Core.Path.{sym, ap, ap₂, _∙_}
-use mathlib.Core.List.{List}
-use borrow.Author.Needs.{needs}
+use mathlib.Core.Path.{sym, ap, _∙_}
 use Rattle.eif.specs.declared.Plan.{Plan}
-use Rattle.eif.specs.declared.Section.{Section}
-use Rattle.eif.specs.declared.Verdict.{Verdict}
-use Rattle.staged.specs.declared.Staged.{Staged}
-use Rattle.writing.specs.Writing.{emptyWriting, writingBegun}
+use Rattle.writing.specs.Writing.{writingBegun}
 use Rattle.writing.specs.declared.Begun.{Begun}
-use Rattle.writing.specs.declared.Writing.{Writing}
-use Rattle.staged_writing.specs.StagedWriting.{begunWith}
-use Rattle.staged_writing.proofs.Begun.{listed-verdict, begun-refused, begun-listed}
+use Rattle.staged_writing.specs.StagedWriting.{begunWith, refusedBegun}
+use Rattle.staged_writing.proofs.Begun.{begun-refused, begun-listed}
+use borrow.Author.Needs.{needs}
 use Rattle.staged_writing.proofs.begin_listed.Statement.{statement}
 use Rattle.staged_writing.proofs.begin_listed.Tie as tie
 
 returns : tie.Need-returns
 returns c =
     let t = c .before .enum-told2 .given in
-    let j = c .before .before .before .before in
-    let a = j .before .args in
-    let view = j .judge-listed .result in
-    let e = j .judge-listed .ensures in
-    let refused = sym (listed-verdict (a .reading) (a .end) (a .size) (a .replaced) (a .checksum)) ∙ ap (λ (v : Staged). v .verdict) (sym e) ∙ t .1 in
-    ap (λ (w : Writing). begunWith w (view .sections) (record { verdict = view .verdict; length = 0 })) (c .empty .ensures)
-    ∙ ap₂ (λ (l : List Section) (v : Verdict). begunWith emptyWriting l (record { verdict = v; length = 0 })) (ap (λ (v : Staged). v .sections) e) (t .1)
-    ∙ begun-refused (a .reading) (a .end) (a .size) (a .replaced) (a .checksum) (t .0 .0) refused
+    let v = c .before .before .before in
+    let a = v .before .args in
+    c .refused .ensures ∙ ap refusedBegun (t .1) ∙ begun-refused (a .reading) (a .size) (a .replaced) (a .checksum) (t .0 .0) (sym (v .verdict-listed .ensures) ∙ t .1)
 
 returns-2 : tie.Need-returns-2
 returns-2 c =
     let b = c .before .before in
     let p = b .before in
     let t = p .before .enum-told .given in
-    let j = p .before .before .before .before in
-    let a = j .before .args in
-    let e = j .judge-listed .ensures in
-    let accepted = sym (listed-verdict (a .reading) (a .end) (a .size) (a .replaced) (a .checksum)) ∙ ap (λ (v : Staged). v .verdict) (sym e) ∙ t .1 in
-    ap₂ (λ (x : Begun) (v : Staged). begunWith (x .state) (v .sections) (x .written))
-    (b .begin .ensures ∙ ap (λ (q : Plan). writingBegun q (a .checksum)) (p .plan-listed .ensures)) e
-    ∙ begun-listed (a .reading) (a .end) (a .size) (a .replaced) (a .checksum) accepted
+    let v = p .before .before .before in
+    let a = v .before .args in
+    ap (λ (x : Begun). begunWith (x .state) (a .replaced) (x .written)) (b .begin .ensures ∙ ap (λ (q : Plan). writingBegun q (a .checksum)) (p .plan-listed .ensures))
+    ∙ begun-listed (a .reading) (a .size) (a .replaced) (a .checksum) (sym (v .verdict-listed .ensures) ∙ t .1)
 
 pub begin-listed-spec : {M : Type 1} → statement M
 begin-listed-spec =

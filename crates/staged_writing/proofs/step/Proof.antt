@@ -17,9 +17,9 @@ unfolding stagedStepped
 returns c =
     let t = c .before .before .before in
     let d = t .before .before in
-    let a = d .before .before .before .before .before .before .args in
+    let a = d .before .before .before .before .before .args in
     let room = length (now (a .out)) in (
-      ap (λ (x : Stepped). record { state = record { writing = x .state; sections = a .state .sections }; written = x .written })
+      ap (λ (x : Stepped). record { state = record { writing = x .state; replaced = a .state .replaced }; written = x .written })
           (t .step .ensures .0 ∙ ap (λ (l : List ℕ). writingStepped (a .state .writing) l room) (d .due .ensures)),
       t .step .ensures .1 ∙ ap (λ (l : List ℕ). over (now (a .out)) 0 (stepBytes (a .state .writing) l room)) (d .due .ensures),
     )
