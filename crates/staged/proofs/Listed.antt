@@ -1,29 +1,33 @@
 -- A staged view from a reading of the base: its answers case by case, and that with the base's own reading they are those of the base.
-use Prim.Native.Nat.{ℕ, _+_, _<_, _≤_, min}
-use mathlib.Core.Path.{_≡_, refl, sym, ap, _∙_}
+use Prim.Native.Nat.{ℕ, _+_, _-_, _<_, _≤_, min}
+use mathlib.Core.Path.{_≡_, refl, sym, ap, ap₂, _∙_}
 use mathlib.Core.Bool.{Bool, true, false}
 use mathlib.Core.List.{List, []}
+use mathlib.Core.Logic.{⊎-elim}
 use native.Mathlib.Omega.{arith}
 use borrow.Author.Tests.{leb-false, ltb-false, lt-leb, le-leb, lt-ltb, le-ltb, eq-eqb, ne-eqb}
 use lib.Dec.{ltb, eqb}
-use lib.ListN.{length}
+use lib.ListN.{length, take, drop, length-drop, drop-of-length-le}
+use lib.Seq.{take-all, take-length, take-nil}
 use Rattle.octets.specs.Logic.{choose}
-use Rattle.octets.proofs.Logic.{either-false}
+use Rattle.octets.proofs.Logic.{either-false, le-or-lt}
 use Rattle.eif.specs.Numbers.{sizeLimit, placeCount, wrongCount, imageTooLong, noSuchSection}
 use Rattle.eif.specs.Answers.{refuse, andThen, beside}
 use Rattle.eif.specs.Reading.{verdictOf, dataOf, readImage, sectionIn}
 use Rattle.eif.specs.Plan.{plainSize, planOf}
 use Rattle.eif.specs.declared.Reading.{Reading}
 use Rattle.eif.specs.declared.Refusal.{Refusal}
+use Rattle.eif.specs.declared.Section.{Section}
 use Rattle.eif.specs.declared.Verdict.{Verdict}
 use Rattle.eif.specs.declared.Verdict.the-variants.{Accepted, Refused}
-use Rattle.eif_lemmas.proofs.Reading.{reading-verdict}
+use Rattle.eif_lemmas.proofs.Accept.{sound-at}
+use Rattle.eif_lemmas.proofs.Reading.{reading-verdict, reading-section}
 use Rattle.eif_lemmas.proofs.Verdicts.{then-accepted, refused-not}
 use Rattle.plain_laws.proofs.WriteBack.{sound-head}
 use Rattle.staged.specs.Staged.{withPlace, viewVerdict, stagedPlan, stagedPart, stagedVerdict, shownPart}
 use Rattle.staged.specs.View.{stagedSections, blankStaged, stagedFor, stagedView, shownAt, shownStart, placeFor, stagedPlace}
 use Rattle.staged.specs.Listed.{listedVerdict, listedView, listedShown, listedStart, listedPlace}
-use Rattle.staged.proofs.Accept.{count-is}
+use Rattle.staged.proofs.Accept.{count-is, staged→}
 
 -- ---- the verdict, test by test
 
@@ -110,19 +114,58 @@ module _ (s r : List ℕ) (x : Reading) (k j : ℕ) (base given : ℕ × ℕ) wh
 
 -- ---- where it lies
 
-module _ (x : Reading) (size k j : ℕ) where
-  pub lies-refused : (f : Refusal) → listedVerdict x size k j ≡ Refused f → placeFor (Refused f) 0 0 0 ≡ listedPlace x size k j
+cut : (l : List ℕ) (n m : ℕ) → length l ≤ m → take (min n m) l ≡ take n l
+cut l n m h =
+    ⊎-elim
+    (λ (g : n ≤ m). let e : min n m ≡ n = omega arith in ap (λ (i : ℕ). take i l) e)
+    (λ (g : m < n).
+    let e : min n m ≡ m = omega arith in
+    ap (λ (i : ℕ). take i l) e ∙ take-all m l h ∙ sym (take-all n l (omega arith)))
+    (le-or-lt n m)
+
+-- what is taken from a position, cut to the list
+clipped : (s : List ℕ) (p n : ℕ) → take (min n (length s - p)) (drop (min p (length s)) s) ≡ take n (drop p s)
+clipped s p n =
+    ⊎-elim
+    (λ (h : length s ≤ p).
+    let a : min n (length s - p) ≡ 0 = omega arith in
+    ap (λ (m : ℕ). take m (drop (min p (length s)) s)) a ∙ sym (ap (take n) (drop-of-length-le s {i = p} h) ∙ take-nil n))
+    (λ (h : p < length s).
+    let b : min p (length s) ≡ p = omega arith in
+    let d = length-drop p s in
+    ap (λ (m : ℕ). take (min n (length s - p)) (drop m s)) b ∙ cut (drop p s) n (length s - p) (omega arith))
+    (le-or-lt (length s) p)
+
+module _ (x : Reading) (end size k j : ℕ) where
+  pub lies-refused : (f : Refusal) → listedVerdict x size k j ≡ Refused f → placeFor (Refused f) 0 0 0 ≡ listedPlace x end size k j
   unfolding listedPlace
   lies-refused f e = simp e
 
   module _ (e : listedVerdict x size k j ≡ Accepted) where
-    pub lies-replaced : j ≡ k → placeFor Accepted 1 0 size ≡ listedPlace x size k j
+    pub lies-replaced : j ≡ k → placeFor Accepted 1 0 size ≡ listedPlace x end size k j
     unfolding listedPlace
     lies-replaced q = simp (e, eq-eqb j k q)
 
-    pub lies-kept : (j ≡ k → ⊥) → placeFor Accepted 0 (sectionIn (x .sections) j .position .0) (sectionIn (x .sections) j .length .0) ≡ listedPlace x size k j
+    pub lies-kept : (j ≡ k → ⊥)
+        → placeFor Accepted 0 (min (sectionIn (x .sections) j .position .0) end) (min (sectionIn (x .sections) j .length .0) (end - sectionIn (x .sections) j .position .0))
+        ≡ listedPlace x end size k j
     unfolding listedPlace
     lies-kept n = simp (e, ne-eqb j k n)
+
+-- the bytes there, in the replacement where the answer says 1 and else in the base, are what is shown, whatever the reading
+pub listed-place-shows : (s r : List ℕ) (x : Reading) (k j : ℕ) → listedVerdict x (length r) k j ≡ Accepted
+    → take (listedPlace x (length s) (length r) k j .length .0)
+    (drop (listedPlace x (length s) (length r) k j .start) (choose (eqb (listedPlace x (length s) (length r) k j .«in_replacement») 1) r s))
+    ≡ listedShown s r x k j
+unfolding listedPlace listedShown
+listed-place-shows s r x k j e = rw e (by (sectionIn (x .sections) j) (eqb j k))
+  where
+    by : (y : Section) (b : Bool)
+        → take (choose b (length r) (min (y .length .0) (length s - y .position .0)))
+        (drop (choose b 0 (min (y .position .0) (length s))) (choose (eqb (choose b 1 0) 1) r s))
+        ≡ choose b r (dataOf s y)
+    by y true = take-length r
+    by y false = clipped s (y .position .0) (y .length .0)
 
 -- ---- the base's own reading, for every base
 
@@ -133,6 +176,9 @@ module _ (s : List ℕ) where
   module _ (size k j : ℕ) where
     abbrev own : Verdict
     own = viewVerdict (readImage s .count) (withPlace (planOf (readImage s)) k size) k j
+
+    abbrev shown-section : Section
+    shown-section = sectionIn (readImage s .sections) j
 
     by-verdict : (v : Verdict) → verdictOf s ≡ v → andThen v (choose (ltb placeCount (readImage s .count)) (refuse wrongCount 0) own) ≡ andThen v own
     by-verdict (Refused r) e = refl
@@ -153,14 +199,29 @@ module _ (s : List ℕ) where
     start-agrees base given =
         ap (λ (v : Verdict). shownAt v (eqb j k) base given (min (sectionIn (readImage s .sections) j .position .0) (length s))) verdict-agrees
 
-    pub place-agrees : listedPlace (readImage s) size k j ≡ stagedPlace s size k j
+    -- where the section to be shown lies, cut to the base: it lies in the base
+    by-place : (v : Verdict) → stagedVerdict s size k j ≡ v
+        → placeFor v (choose (eqb j k) 1 0) (choose (eqb j k) 0 (min (shown-section .position .0) (length s)))
+        (choose (eqb j k) size (min (shown-section .length .0) (length s - shown-section .position .0)))
+        ≡ placeFor v (choose (eqb j k) 1 0) (choose (eqb j k) 0 (shown-section .position .0)) (choose (eqb j k) size (shown-section .length .0))
+    by-place (Refused r) e = refl
+    by-place Accepted e =
+        let a = staged→ s size k j e in
+        let i = ap (λ (y : Section). y .position .0 + y .length .0) (reading-section s (a .accepted) j (a .shown)) in
+        let h = sound-at s (a .accepted) j (a .shown) .ends in
+        let p : min (shown-section .position .0) (length s) ≡ shown-section .position .0 = omega arith in
+        let n : min (shown-section .length .0) (length s - shown-section .position .0) ≡ shown-section .length .0 = omega arith in
+        ap₂ (λ (u v : ℕ). placeFor Accepted (choose (eqb j k) 1 0) (choose (eqb j k) 0 u) (choose (eqb j k) size v)) p n
+
+    pub place-agrees : listedPlace (readImage s) (length s) size k j ≡ stagedPlace s size k j
     unfolding listedPlace stagedPlace
     place-agrees =
         ap
         (λ (v : Verdict).
-        placeFor v (choose (eqb j k) 1 0) (choose (eqb j k) 0 (sectionIn (readImage s .sections) j .position .0))
-        (choose (eqb j k) size (sectionIn (readImage s .sections) j .length .0)))
+        placeFor v (choose (eqb j k) 1 0) (choose (eqb j k) 0 (min (shown-section .position .0) (length s)))
+        (choose (eqb j k) size (min (shown-section .length .0) (length s - shown-section .position .0))))
         verdict-agrees
+        ∙ by-place (stagedVerdict s size k j) refl
 
   pub shown-agrees : (r : List ℕ) (k j : ℕ) → listedShown s r (readImage s) k j ≡ shownPart s r k j
   unfolding listedShown shownPart stagedPart

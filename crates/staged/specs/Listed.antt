@@ -1,6 +1,6 @@
 -- A staged view from a reading of the base that the caller has already: for any reading, also one that is of no image. x is the reading; s, r, k
 -- and j are as in Staged.antt. With the base's own reading these are the answers of Staged.antt and View.antt: proofs/Listed.antt.
-use Prim.Native.Nat.{ℕ, min}
+use Prim.Native.Nat.{ℕ, _-_, min}
 use mathlib.Core.List.{List, []}
 use lib.Dec.{ltb, eqb}
 use lib.ListN.{length}
@@ -36,8 +36,9 @@ unfoldable pub listedStart : List ℕ → ℕ → Reading → ℕ → ℕ → �
 listedStart s size x k j base replacement =
     shownAt (listedVerdict x size k j) (eqb j k) base replacement (min (sectionIn (x .sections) j .position .0) (length s))
 
--- where it lies, by its place
-unfoldable pub listedPlace : Reading → ℕ → ℕ → ℕ → StagedPart
-listedPlace x size k j =
+-- where it lies, by its place, for a base of `end` bytes: no place is past the base
+unfoldable pub listedPlace : Reading → ℕ → ℕ → ℕ → ℕ → StagedPart
+listedPlace x end size k j =
     let y = sectionIn (x .sections) j in
-    placeFor (listedVerdict x size k j) (choose (eqb j k) 1 0) (choose (eqb j k) 0 (y .position .0)) (choose (eqb j k) size (y .length .0))
+    placeFor (listedVerdict x size k j) (choose (eqb j k) 1 0) (choose (eqb j k) 0 (min (y .position .0) end))
+    (choose (eqb j k) size (min (y .length .0) (end - y .position .0)))

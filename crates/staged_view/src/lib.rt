@@ -213,9 +213,9 @@ pub fn section_listed<'a>(
     stream_reader::section_data(base, x)
 }
 
-// Where that data lies, for a replacement of so many bytes: in the replacement, or at a position of the base.
-pub fn place_listed(reading: Reading, size: u64, replaced: u64, shown: u64) -> StagedPart
-    ensures { λ r. ⌜ r ≡ listedPlace reading size replaced shown ⌝ }
+// Where that data lies, for a base of `end` bytes and a replacement of so many: in the replacement, or at a position of the base.
+pub fn place_listed(reading: Reading, end: u64, size: u64, replaced: u64, shown: u64) -> StagedPart
+    ensures { λ r. ⌜ r ≡ listedPlace reading end size replaced shown ⌝ }
 {
     let verdict = verdict_listed(reading, size, replaced, shown);
     let Verdict::Accepted = verdict else {
@@ -237,11 +237,14 @@ pub fn place_listed(reading: Reading, size: u64, replaced: u64, shown: u64) -> S
     let sections = reading.sections;
     let at = shown as usize;
     let x = sections[at];
+    let start = octets::lesser(x.position.0 as usize, end as usize);
+    let rest = octets::past(end, x.position.0);
+    let held = octets::lesser(x.length.0 as usize, rest as usize);
     StagedPart {
         verdict,
         in_replacement: 0,
-        start: x.position.0,
-        length: DataLength(x.length.0),
+        start: start as u64,
+        length: DataLength(held as u64),
     }
 }
 
@@ -277,5 +280,5 @@ pub fn place(base: &[u8], size: u64, replaced: u64, shown: u64) -> StagedPart
     ensures { λ r. ⌜ r ≡ stagedPlace (now (base .entry)) size replaced shown ⌝ }
 {
     let reading = eif_reader::read(base);
-    place_listed(reading, size, replaced, shown)
+    place_listed(reading, base.len() as u64, size, replaced, shown)
 }

@@ -9,6 +9,7 @@ use case_lines::text;
 use eif::Header;
 use eif::PLACES;
 use eif::Plan;
+use eif::Verdict;
 use staged_writing::StagedWriting;
 use writing::Stepped;
 use writing::Summed;
@@ -373,12 +374,18 @@ fn staged<'a>(
     let begun = staged_writing::begin(base, replacement, replaced, 0);
     let state = begun.state;
     let written = begun.written;
+    let verdict = written.verdict;
     begins(written);
     let run = staged_steps(state, base, replacement);
     let last = run.state;
     let image = run.image;
     let done = staged_writing::finish(last);
     finishes(done);
+    let Verdict::Accepted = verdict else {
+        labelled(b", written ", run.written as u64);
+        text(b"\n");
+        return;
+    };
     compared(image, done.checksum, asked, lent);
 }
 
@@ -404,7 +411,7 @@ fn staged_views(base: &[u8]) {
         b"rs",
         2,
         lengths(1, 1, 2),
-        b"abrs",
+        b"Kars",
     );
     staged(
         b"kernel replaced",
@@ -412,7 +419,7 @@ fn staged_views(base: &[u8]) {
         b"abcdefghijklmnopqrst",
         0,
         lengths(20, 1, 0),
-        b"abcdefghijklmnopqrstb",
+        b"abcdefghijklmnopqrsta",
     );
     staged(
         b"command line replaced by none",
@@ -420,7 +427,7 @@ fn staged_views(base: &[u8]) {
         b"",
         1,
         lengths(1, 0, 0),
-        b"a",
+        b"K",
     );
     staged(b"no such section", base, b"rs", 3, lengths(0, 0, 0), b"x");
 }
@@ -436,7 +443,7 @@ fn refused_base(base: &[u8]) {
 fn main() {
     plans();
     let mut base = [0u8; WORKED_SIZE];
-    case_images::put_image(&mut base, Shape::WORKED, b"ab");
+    case_images::put_image(&mut base, Shape::WORKED, b"Ka");
     staged_views(&base);
     refused_base(&base);
 }

@@ -2,6 +2,7 @@
 use mathlib.Core.Path.{ap, _∙_}
 use borrow.Author.Needs.{needs}
 use denote.Ref.{now}
+use lib.ListN.{length}
 use Rattle.eif.specs.declared.Reading.{Reading}
 use Rattle.staged.specs.Listed.{listedPlace}
 use Rattle.staged.proofs.Listed.{place-agrees}
@@ -11,8 +12,9 @@ use Rattle.staged_view.proofs.place.Tie as tie
 returns : tie.Need-returns
 returns c =
     let a = c .before .before .before .args in
-    c .place-listed .ensures ∙ ap (λ (x : Reading). listedPlace x (a .size) (a .replaced) (a .shown)) (c .before .read .ensures)
-    ∙ place-agrees (now (a .base)) (a .size) (a .replaced) (a .shown)
+    let s = now (a .base) in
+    c .place-listed .ensures ∙ ap (λ (x : Reading). listedPlace x (length s) (a .size) (a .replaced) (a .shown)) (c .before .read .ensures)
+    ∙ place-agrees s (a .size) (a .replaced) (a .shown)
 
 pub place-spec : {M : Type 1} → statement M
 place-spec = tie.close (tie.spec (λ c κs. search needs) (λ c κs. search needs) returns)
