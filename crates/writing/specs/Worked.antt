@@ -12,8 +12,8 @@ use Rattle.writing.specs.declared.Writing.{Writing}
 abbrev twoPlaces : List Place
 twoPlaces = record { kind = 1; flags = 0; length = record { 0 = 3 } } ∷ record { kind = 2; flags = 7; length = record { 0 = 3 } } ∷ []
 
-abbrev stateWith : ℕ → ℕ → ℕ → ℕ → ℕ → Writing
-stateWith header begun left due count =
+abbrev writingWith : ℕ → ℕ → ℕ → ℕ → ℕ → Writing
+writingWith header begun left due count =
     record {
       «header_written» = header;
       «sections_begun» = begun;
@@ -31,41 +31,41 @@ counts a room = let answer = writingStepped a (7 ∷ 8 ∷ 9 ∷ []) room in (an
 
 -- data goes before the header's bytes, these before a section's own header, and that before nothing
 pub first-row-decides :
-    counts (stateWith 0 0 2 2 2) 20 ∷ counts (stateWith 0 0 0 2 2) 20 ∷ counts (stateWith 547 0 0 2 2) 20 ∷ counts (stateWith 548 0 0 2 2) 20 ∷ counts (stateWith 548 2 0 2 2) 20 ∷ []
+    counts (writingWith 0 0 2 2 2) 20 ∷ counts (writingWith 0 0 0 2 2) 20 ∷ counts (writingWith 547 0 0 2 2) 20 ∷ counts (writingWith 548 0 0 2 2) 20 ∷ counts (writingWith 548 2 0 2 2) 20 ∷ []
     ≡ (2, 2) ∷ (0, 20) ∷ (0, 1) ∷ (0, 12) ∷ (0, 0) ∷ []
 unfolding writingStepped dataStep headerStep beginsSection sectionStep
 first-row-decides = refl
 
 -- data: as much as the section needs, is lent and has room
 pub data-limits :
-    counts (stateWith 548 1 5 9 2) 20 ∷ counts (stateWith 548 1 5 9 2) 1 ∷ counts (stateWith 548 1 5 9 2) 0 ∷ counts (stateWith 548 1 18446744073709551615 1 2) 20 ∷ []
+    counts (writingWith 548 1 5 9 2) 20 ∷ counts (writingWith 548 1 5 9 2) 1 ∷ counts (writingWith 548 1 5 9 2) 0 ∷ counts (writingWith 548 1 18446744073709551615 1 2) 20 ∷ []
     ≡ (3, 3) ∷ (1, 1) ∷ (0, 0) ∷ (3, 3) ∷ []
 unfolding writingStepped dataStep headerStep beginsSection sectionStep
 data-limits = refl
 
 -- what is left of section and image after three bytes, the second not below 0
 pub data-left :
-    writingStepped (stateWith 548 1 5 1 2) (7 ∷ 8 ∷ 9 ∷ []) 20 .state .«section_left» ∷ writingStepped (stateWith 548 1 5 1 2) (7 ∷ 8 ∷ 9 ∷ []) 20 .state .«data_left» ∷ []
+    writingStepped (writingWith 548 1 5 1 2) (7 ∷ 8 ∷ 9 ∷ []) 20 .state .«section_left» ∷ writingStepped (writingWith 548 1 5 1 2) (7 ∷ 8 ∷ 9 ∷ []) 20 .state .«data_left» ∷ []
     ≡ 2 ∷ 0 ∷ []
 unfolding writingStepped dataStep
 data-left = refl
 
 -- an own header needs 12 bytes of room, and a place below the count and below 32
 pub section-limits :
-    counts (stateWith 548 0 0 0 2) 11 ∷ counts (stateWith 548 0 0 0 2) 12 ∷ counts (stateWith 548 1 0 0 2) 12 ∷ counts (stateWith 548 31 0 0 33) 12 ∷ counts (stateWith 548 32 0 0 33) 12
-    ∷ counts (stateWith 549 0 0 0 2) 12 ∷ []
+    counts (writingWith 548 0 0 0 2) 11 ∷ counts (writingWith 548 0 0 0 2) 12 ∷ counts (writingWith 548 1 0 0 2) 12 ∷ counts (writingWith 548 31 0 0 33) 12 ∷ counts (writingWith 548 32 0 0 33) 12
+    ∷ counts (writingWith 549 0 0 0 2) 12 ∷ []
     ≡ (0, 0) ∷ (0, 12) ∷ (0, 12) ∷ (0, 12) ∷ (0, 0) ∷ (0, 12) ∷ []
 unfolding writingStepped dataStep headerStep beginsSection sectionStep
 section-limits = refl
 
 -- the bytes of the second place's own header, and how much data it needs then
-pub section-bytes : stepBytes (stateWith 548 1 0 0 2) [] 20 ≡ 0 ∷ 2 ∷ 0 ∷ 7 ∷ 0 ∷ 0 ∷ 0 ∷ 0 ∷ 0 ∷ 0 ∷ 0 ∷ 3 ∷ []
+pub section-bytes : stepBytes (writingWith 548 1 0 0 2) [] 20 ≡ 0 ∷ 2 ∷ 0 ∷ 7 ∷ 0 ∷ 0 ∷ 0 ∷ 0 ∷ 0 ∷ 0 ∷ 0 ∷ 3 ∷ []
 unfolding stepBytes dataBytes headerPart beginsSection nextHeader sectionHeader
 section-bytes = refl
 
 -- finish: 15 where nothing was begun or data is missing
 pub finish-numbers :
-    map (λ a. numberOf (writingSummed a .verdict)) (stateWith 548 2 0 0 2 ∷ stateWith 548 2 0 1 2 ∷ stateWith 548 0 0 0 0 ∷ stateWith 548 0 0 1 0 ∷ [])
+    map (λ a. numberOf (writingSummed a .verdict)) (writingWith 548 2 0 0 2 ∷ writingWith 548 2 0 1 2 ∷ writingWith 548 0 0 0 0 ∷ writingWith 548 0 0 1 0 ∷ [])
     ≡ 0 ∷ 15 ∷ 15 ∷ 15 ∷ []
 unfolding writingSummed finishVerdict
 finish-numbers = refl
