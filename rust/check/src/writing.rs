@@ -1,14 +1,18 @@
 //! Images written in pieces, from a plan and from a base with one section replaced, and states that no run reaches: the
 //! library held to the twin.
 
+mod states;
+
 use crate::compare::{same, twin_answer, twin_plan, Input};
-use crate::{any_plan, any_staged, Call, Output, PlanInput, Rng, StagedInput, Tally};
+use crate::{Call, Output, PlanInput, Rng, StagedInput, Tally};
 use eif::raw::staged_writing::{self as staged, StagedSection, StagedWriting};
 use eif::raw::writing::{self as raw, Writing};
 use eif::raw::{Answer, Plan};
-use eif::{DataLength, FilePosition, Place, SectionType};
-use eif_cases::{CHECKSUM_AT, HEADER, MAX_SECTIONS, SECTION_HEADER};
+use eif::Place;
+use eif_cases::{CHECKSUM_AT, HEADER, SECTION_HEADER};
 use eif_twin as twin;
+
+pub use states::{compare_staged_writing_state, compare_writing_state};
 
 /// A run ends after this many steps where the image is not complete then.
 const MOST_STEPS: usize = 120;
@@ -275,153 +279,5 @@ pub fn compare_staged_writing(rng: &mut Rng, ordinal: u64, given: &StagedInput, 
         let afresh = twin::staged_image(lent.0, lent.1, given.replaced);
         let afresh = afresh.unwrap_or_default();
         compare_complete(input, &image, &afresh, checksum, finish);
-    }
-}
-
-/// Sets each number of a state, now and then, to one about its limit or to any.
-fn damage_numbers(rng: &mut Rng, state: &mut Writing, data: usize) {
-    let limits = [
-        (&mut state.header_written, [0, HEADER as u64]),
-        (
-            &mut state.sections_begun,
-            [state.count, MAX_SECTIONS as u64],
-        ),
-        (&mut state.section_left, [0, data as u64]),
-        (&mut state.data_left, [0, data as u64]),
-    ];
-    for (number, limits) in limits {
-        if rng.once_in(2) {
-            let near = rng.pick(&limits);
-            let hostile = rng.hostile(near);
-            let below = near.saturating_sub(1);
-            *number = rng.pick(&[near, near, below, near + 1, hostile, u64::MAX]);
-        }
-    }
-    if rng.once_in(3) {
-        let any = rng.next();
-        state.count = rng.pick(&[0, 1, 2, 31, 32, 33, 1 << 32, any, u64::MAX]);
-    }
-}
-
-/// Any state, reached or not. `data` is the length of the data that its step will be lent.
-fn any_writing(rng: &mut Rng, data: usize) -> Writing {
-    let given = any_plan(rng);
-    let mut state = raw::writing_begin(given.plan, rng.next() as u32).state;
-    for _ in 0..rng.below(8) {
-        let mut out = vec![0; any_room(rng)];
-        state = raw::writing_step(state, &given.data, &mut out).state;
-    }
-    damage_numbers(rng, &mut state, data);
-    if rng.once_in(3) {
-        state.places = std::array::from_fn(|_| Place {
-            section_type: SectionType(rng.next() as u16),
-            flags: rng.next() as u16,
-            length: DataLength(rng.hostile(data as u64)),
-        });
-    }
-    if rng.once_in(3) {
-        state.header = std::array::from_fn(|_| rng.next() as u8);
-    }
-    if rng.once_in(3) {
-        state.checksum = rng.next() as u32;
-    }
-    state
-}
-
-/// A few steps from any state, and the checksum after each.
-pub fn compare_writing_state(rng: &mut Rng, ordinal: u64, tally: &mut Tally) {
-    let length = rng.below(60);
-    let data = rng.bytes(length);
-    let mut state = any_writing(rng, length);
-    let input = &Input {
-        kind: "writing state",
-        ordinal,
-        bytes: &data,
-        other: Some(&{ state }),
-    };
-    tally.add_input();
-    compare_finish(input, &state, tally);
-    for _ in 0..4 {
-        let lent = rng.below(length + 1);
-        let room = any_room(rng);
-        let lent = rng.pick(&[0, 1.min(length), lent, length]);
-        state = compare_step(rng, input, state, &data[..lent], room).0;
-        compare_finish(input, &state, tally);
-    }
-}
-
-/// Where the data of a section lies in any state: in base and replacement, over their ends, or past them.
-fn any_section(rng: &mut Rng, base: u64, replacement: u64) -> StagedSection {
-    let all = base + replacement;
-    let starts = [rng.below(all as usize + 1) as u64, base, all];
-    let near = rng.pick(&starts);
-    let hostile = rng.hostile(near);
-    let position = rng.pick(&[
-        near,
-        near,
-        near.saturating_sub(1),
-        near + 1,
-        hostile,
-        u64::MAX,
-    ]);
-    let rest = all.saturating_sub(position);
-    let hostile = rng.hostile(rest);
-    let few = rng.below(40) as u64;
-    StagedSection {
-        section_type: SectionType(rng.next() as u16),
-        flags: rng.next() as u16,
-        position: FilePosition(position),
-        length: DataLength(rng.pick(&[0, few, few, rest, rest + 1, hostile, u64::MAX])),
-    }
-}
-
-/// Any state over a staged view, reached or not.
-fn any_staged_writing(
-    rng: &mut Rng,
-    base: &[u8],
-    replacement: &[u8],
-    replaced: u64,
-) -> StagedWriting {
-    let mut state = staged::staged_writing_begin(base, replacement, replaced, 0).state;
-    for _ in 0..rng.below(8) {
-        let mut out = vec![0; any_room(rng)];
-        state = staged::staged_writing_step(state, base, replacement, &mut out).state;
-    }
-    if rng.once_in(2) {
-        state.writing = any_writing(rng, replacement.len());
-    } else {
-        damage_numbers(rng, &mut state.writing, replacement.len());
-    }
-    if rng.once_in(2) {
-        let lengths = (base.len() as u64, replacement.len() as u64);
-        state.sections = std::array::from_fn(|_| any_section(rng, lengths.0, lengths.1));
-    }
-    state
-}
-
-/// A few steps from any state over a staged view, with base and replacement of any length, and the checksum after each.
-pub fn compare_staged_writing_state(rng: &mut Rng, ordinal: u64, tally: &mut Tally) {
-    let given = any_staged(rng);
-    let (base, replacement) = (&given.base[..], &given.replacement[..]);
-    let mut state = any_staged_writing(rng, base, replacement, given.replaced);
-    let input = &Input {
-        kind: "staged writing state",
-        ordinal,
-        bytes: base,
-        other: Some(&(replacement, state)),
-    };
-    tally.add_input();
-    compare_staged_finish(input, &state, tally);
-    for _ in 0..4 {
-        // Base and replacement need not be those that begin was lent.
-        let shorter = rng.below(base.len() + 1);
-        let base = if rng.once_in(4) {
-            &base[..shorter]
-        } else {
-            base
-        };
-        let room = any_room(rng);
-        state = compare_staged_step(rng, input, state, (base, replacement), room).0;
-        compare_staged_finish(input, &state, tally);
     }
 }
