@@ -17,6 +17,9 @@ pub use states::{compare_staged_writing_state, compare_writing_state};
 /// A run ends after this many steps where the image is not complete then.
 const MOST_STEPS: usize = 120;
 
+/// The bytes of a run are compared with an image of at most this length.
+const LONGEST_COMPARED: usize = 1_000_000;
+
 /// The twin's form of a state.
 fn twin_writing(state: &Writing) -> twin::Writing {
     let place = |place: Place| twin::Place {
@@ -160,21 +163,37 @@ fn compare_staged_finish(input: &Input, state: &StagedWriting, tally: &mut Tally
     answer
 }
 
-/// The bytes of a complete run are the image, but for the number in the checksum field, which is the one that begin was
-/// given. The checksum is the image's.
-fn compare_complete(input: &Input, found: &[u8], image: &[u8], given: u32, finish: Answer) {
+/// The bytes of a run, complete or not, are the first of the image, but for the number in the checksum field, which is
+/// the one that begin was given. The checksum is the image's once all data is taken, and 15 until then.
+fn compare_run(
+    input: &Input,
+    found: &[u8],
+    image: &[u8],
+    given: u32,
+    (all_taken, finish): (bool, Answer),
+) {
     let mut expected = image.to_vec();
     expected[CHECKSUM_AT..HEADER].copy_from_slice(&given.to_be_bytes());
-    same(input, "bytes joined", found, &expected[..]);
+    let begins = expected.starts_with(found);
+    assert!(begins, "other bytes than the image's, for {input}");
     let right = image[CHECKSUM_AT..HEADER]
         .iter()
         .fold(0, |number, &byte| number << 8 | u64::from(byte));
-    same(
-        input,
-        "checksum",
-        (finish.number, finish.length),
-        (0, right),
-    );
+    let expected = if all_taken { (0, right) } else { (15, 0) };
+    same(input, "checksum", (finish.number, finish.length), expected);
+}
+
+/// The plain image of a plan and of data that begins with the data taken, zeros after that, and whether all was taken.
+fn plain_image(input: &Input, plan: &Plan, taken: &[u8], length: usize) -> (Vec<u8>, bool) {
+    let count = usize::from(plan.count);
+    let sum = length - HEADER - count * SECTION_HEADER;
+    assert!(taken.len() <= sum, "more data taken, for {input}");
+    let mut data = taken.to_vec();
+    data.resize(sum, 0);
+    let mut image = vec![0; length];
+    let written = twin::write(&twin_plan(plan), &data, &mut image);
+    same(input, "whole image", written, Ok(length));
+    (image, taken.len() == sum)
 }
 
 /// Begins with a plan. Answers the state and the image's length.
@@ -222,12 +241,10 @@ pub fn compare_writing(rng: &mut Rng, ordinal: u64, given: &PlanInput, tally: &m
         }
     }
     let finish = compare_finish(input, &state, tally);
-    if Ok(image.len()) == length {
-        let mut whole = vec![0; image.len()];
-        let taken = &data[..data.len() - rest.len()];
-        let written = twin::write(&twin_plan(&given.plan), taken, &mut whole);
-        same(input, "whole image", written, length);
-        compare_complete(input, &image, &whole, checksum, finish);
+    let taken = &data[..data.len() - rest.len()];
+    if let Ok(length @ ..=LONGEST_COMPARED) = length {
+        let (whole, all_taken) = plain_image(input, &given.plan, taken, length);
+        compare_run(input, &image, &whole, checksum, (all_taken, finish));
     }
 }
 
@@ -275,9 +292,11 @@ pub fn compare_staged_writing(rng: &mut Rng, ordinal: u64, given: &StagedInput, 
         }
     }
     let finish = compare_staged_finish(input, &state, tally);
-    if Ok(image.len()) == length {
+    if let Ok(length @ ..=LONGEST_COMPARED) = length {
         let afresh = twin::staged_image(lent.0, lent.1, given.replaced);
         let afresh = afresh.unwrap_or_default();
-        compare_complete(input, &image, &afresh, checksum, finish);
+        same(input, "length", afresh.len(), length);
+        let all_taken = state.writing.data_left == 0;
+        compare_run(input, &image, &afresh, checksum, (all_taken, finish));
     }
 }
