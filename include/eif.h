@@ -34,7 +34,7 @@
  * A call that reads an image first hands that refusal on as it is, position too.
  *
  * Answers have no padding, and their reserved fields are 0: equal answers are equal by memcmp. The exceptions are
- * eif_writing and eif_staged_writing, whose places and sections have padding as the places of a plan do.
+ * eif_writing and eif_staged_writing, whose places have padding as the places of a plan do.
  *
  * Each stream, register, roll or fingerprint call on an image reads the whole image again, checksum included. To
  * copy a stream in pieces, read the image once and take eif_copy_sections, which reads only what it
@@ -402,19 +402,11 @@ typedef struct eif_writing_stepped {
     uint64_t written;  /* how many bytes were written over the start of out */
 } eif_writing_stepped;
 
-/* A section of an image with one section replaced, and where its data lies. */
-typedef struct eif_staged_section {
-    uint16_t type;
-    uint16_t flags;
-    eif_file_position position; /* of the data, in the base or, as if the replacement followed it, in the replacement */
-    eif_data_length length;
-} eif_staged_section;
-
 /* An image with one section replaced that is written in pieces: a value that can be kept and copied. Any value is a
- * state; a fresh one comes from eif_staged_writing_begin. It has 1,872 bytes. */
+ * state; a fresh one comes from eif_staged_writing_begin. It has 1,112 bytes. */
 typedef struct eif_staged_writing {
-    eif_writing writing;                           /* what is still to be written */
-    eif_staged_section sections[EIF_MAX_SECTIONS]; /* in file order, then zeros */
+    eif_writing writing; /* what is still to be written */
+    uint64_t replaced;   /* the replaced section's number; 0 beside a refusal */
 } eif_staged_writing;
 
 /* The answer to a base and a replacement whose image is to be written in pieces. */

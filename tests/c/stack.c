@@ -54,7 +54,7 @@ static eif_writing_begun writing_begun;
 static eif_writing_stepped writing_stepped, short_written;
 static eif_answer writing_sum;
 static eif_staged_writing_begun staged_begun;
-static eif_staged_writing_stepped staged_stepped;
+static eif_staged_writing_stepped staged_stepped, base_stepped;
 static eif_answer staged_sum;
 static eif_assembler assembler;
 static eif_assembler_stepped stepped;
@@ -167,6 +167,11 @@ static void call_staged_writing_step(void) {
     staged_stepped =
         eif_staged_writing_step(staged_stepped.state, image, image_length, data, data_length, out, sizeof out);
 }
+/* Data of the kernel, which lies in the base. */
+static void call_staged_writing_base(void) {
+    base_stepped =
+        eif_staged_writing_step(base_stepped.state, image, image_length, data, data_length, out, sizeof out);
+}
 static void call_staged_writing_finish(void) {
     staged_begun.state.writing.data_left = 0;
     staged_sum = eif_staged_writing_finish(staged_begun.state);
@@ -192,6 +197,10 @@ static int prepare_writing(void) {
     staged_begun = eif_staged_writing_begin(image, image_length, data, data_length, SECTIONS - 1, 0);
     staged_stepped.state = staged_begun.state;
     staged_stepped.state.writing.sections_begun = SECTIONS - 1;
+    base_stepped.state = staged_begun.state;
+    base_stepped.state.writing.header_written = EIF_HEADER_LENGTH;
+    base_stepped.state.writing.sections_begun = 1;
+    base_stepped.state.writing.section_left = plan.places[0].length.value;
     return writing_begun.answer.number == EIF_ACCEPTED && staged_begun.answer.number == EIF_ACCEPTED;
 }
 
@@ -270,6 +279,7 @@ static const struct {
     {"eif_staged_writing_step 1", call_staged_writing_step},
     {"eif_staged_writing_step 2", call_staged_writing_step},
     {"eif_staged_writing_step 3", call_staged_writing_step},
+    {"eif_staged_writing_step 4", call_staged_writing_base},
     {"eif_staged_writing_finish", call_staged_writing_finish},
     {"eif_assembler_new", call_assembler_new},
     {"eif_assembler_step 1", call_assembler_open},
@@ -297,6 +307,7 @@ static void try_calls(size_t section, size_t kib) {
           "the fingerprint");
     check(span.place == EIF_NO_SECTION && span.begun == SECTIONS, "the span after the last section");
     check(writing_stepped.taken == data_length && staged_stepped.written == data_length, "data is written");
+    check(base_stepped.written == plan.places[0].length.value, "data of the base is written");
     check(writing_sum.number == EIF_ACCEPTED && staged_sum.number == EIF_ACCEPTED, "the checksums");
     check(json.is_text == 1 && marks[0] == 1 && marks[1] == 0, "the text and the marks");
 }

@@ -16,14 +16,12 @@ typedef char layout_of_begun_answer[offsetof(eif_writing_begun, answer) == 1104 
 typedef char layout_of_stepped[sizeof(eif_writing_stepped) == 1120 ? 1 : -1];
 typedef char layout_of_taken[offsetof(eif_writing_stepped, taken) == 1104 ? 1 : -1];
 typedef char layout_of_written[offsetof(eif_writing_stepped, written) == 1112 ? 1 : -1];
-typedef char layout_of_staged_section[sizeof(eif_staged_section) == 24 ? 1 : -1];
-typedef char layout_of_staged_position[offsetof(eif_staged_section, position) == 8 ? 1 : -1];
-typedef char layout_of_staged[sizeof(eif_staged_writing) == 1872 ? 1 : -1];
-typedef char layout_of_staged_sections[offsetof(eif_staged_writing, sections) == 1104 ? 1 : -1];
-typedef char layout_of_staged_begun[sizeof(eif_staged_writing_begun) == 1904 ? 1 : -1];
-typedef char layout_of_staged_answer[offsetof(eif_staged_writing_begun, answer) == 1872 ? 1 : -1];
-typedef char layout_of_staged_stepped[sizeof(eif_staged_writing_stepped) == 1880 ? 1 : -1];
-typedef char layout_of_staged_written[offsetof(eif_staged_writing_stepped, written) == 1872 ? 1 : -1];
+typedef char layout_of_staged[sizeof(eif_staged_writing) == 1112 ? 1 : -1];
+typedef char layout_of_staged_replaced[offsetof(eif_staged_writing, replaced) == 1104 ? 1 : -1];
+typedef char layout_of_staged_begun[sizeof(eif_staged_writing_begun) == 1144 ? 1 : -1];
+typedef char layout_of_staged_answer[offsetof(eif_staged_writing_begun, answer) == 1112 ? 1 : -1];
+typedef char layout_of_staged_stepped[sizeof(eif_staged_writing_stepped) == 1120 ? 1 : -1];
+typedef char layout_of_staged_written[offsetof(eif_staged_writing_stepped, written) == 1112 ? 1 : -1];
 
 enum { ROOM = 1024, DATA = 9, COUNT = 4, LENGTH = EIF_HEADER_LENGTH + COUNT * EIF_SECTION_HEADER_LENGTH + DATA };
 
@@ -153,6 +151,7 @@ static void try_staged(const char *replacement, size_t room) {
     eif_plan plan = plan_of();
     uint8_t out[ROOM], joined[ROOM];
     check(is(begun.answer, EIF_ACCEPTED, length), "the length of the image written afresh");
+    check(state.replaced == 2, "the replaced section's number");
     memcpy(joined, data, 4);
     memcpy(joined + 4, mended, mended_length);
     put_place(&plan, 2, EIF_COMMAND_LINE, mended_length);
@@ -176,11 +175,49 @@ static void try_staged_refused(size_t base_length, uint64_t replaced, unsigned n
     eif_staged_writing_begun begun = eif_staged_writing_begin(expected, base_length, bytes, DATA, replaced, 7);
     uint8_t out[ROOM];
     check(begun.answer.number == number && begun.answer.length == 0, "refused base");
-    check(begun.state.writing.header_written == EIF_HEADER_LENGTH && begun.state.writing.count == 0,
+    check(begun.state.writing.header_written == EIF_HEADER_LENGTH && begun.state.writing.count == 0 &&
+              begun.state.replaced == 0,
           "the state of a refused base");
     check(eif_staged_writing_step(begun.state, expected, LENGTH, bytes, DATA, out, ROOM).written == 0,
           "a refused base writes nothing");
     check(is(eif_staged_writing_finish(begun.state), EIF_DATA_LENGTH_DIFFERS, 0), "a refused base has no checksum");
+}
+
+/* A state that no run reaches: so many sections begun, this one replaced, and base and replacement of such lengths.
+ * Its step writes data alone. */
+static void try_staged_any(uint64_t begun, uint64_t replaced, size_t base_length, const char *written) {
+    eif_staged_writing state = eif_staged_writing_begin(expected, LENGTH, bytes, DATA, 2, 0).state;
+    eif_staged_writing_stepped done;
+    uint8_t out[ROOM];
+    size_t length = strlen(written);
+    state.writing.header_written = EIF_HEADER_LENGTH;
+    state.writing.sections_begun = begun;
+    state.writing.section_left = 3;
+    state.replaced = replaced;
+    memset(out, STAYS, sizeof out);
+    done = eif_staged_writing_step(state, expected, base_length, bytes, DATA, out, ROOM);
+    check(done.written == length && memcmp(out, written, length) == 0 && stays(out, length, ROOM),
+          "the data of any state");
+    check(done.state.replaced == replaced && done.state.writing.section_left == 3 - length, "any state after a step");
+}
+
+/* The kernel's data is "kern", at the offset 548 of the base's table; the replacement is "kernquiet". */
+static void try_staged_states(void) {
+    enum { KERNEL_DATA = EIF_HEADER_LENGTH + EIF_SECTION_HEADER_LENGTH, TABLE = 28 };
+    try_staged_any(0, 2, LENGTH, "ern");
+    try_staged_any(1, 2, LENGTH, "ern");
+    try_staged_any(1, UINT64_MAX, LENGTH, "ern");
+    try_staged_any(0, 0, LENGTH, "iet");
+    try_staged_any(1, 0, 0, "iet");
+    try_staged_any(33, 32, LENGTH, "iet");
+    try_staged_any(UINT64_MAX, UINT64_MAX - 1, LENGTH, "iet");
+    try_staged_any(33, 2, LENGTH, "");
+    try_staged_any(UINT64_MAX, UINT64_MAX, LENGTH, "");
+    try_staged_any(32, 2, LENGTH, "");
+    try_staged_any(1, 2, KERNEL_DATA + 2, "ke");
+    try_staged_any(1, 2, KERNEL_DATA, "");
+    try_staged_any(1, 2, TABLE + 8, "");
+    try_staged_any(1, 2, 0, "");
 }
 
 static void try_null(void) {
@@ -201,6 +238,7 @@ int main(void) {
     try_staged("quiet", ROOM);
     try_staged_refused(LENGTH - 1, 0, EIF_ENDS_LATE);
     try_staged_refused(LENGTH, COUNT, EIF_NO_SUCH_SECTION);
+    try_staged_states();
     try_null();
     return ended("writing: in pieces, as whole");
 }
