@@ -5,7 +5,7 @@ mod states;
 
 use crate::compare::{same, twin_answer, twin_plan, Input};
 use crate::{Call, Output, PlanInput, Rng, StagedInput, Tally};
-use eif::raw::staged_writing::{self as staged, StagedSection, StagedWriting};
+use eif::raw::staged_writing::{self as staged, StagedWriting};
 use eif::raw::writing::{self as raw, Writing};
 use eif::raw::{Answer, Plan};
 use eif::Place;
@@ -41,15 +41,9 @@ fn twin_writing(state: &Writing) -> twin::Writing {
 
 /// The twin's form of a state over a staged view.
 fn twin_staged(state: &StagedWriting) -> twin::StagedWriting {
-    let section = |section: StagedSection| twin::StagedSection {
-        kind: section.section_type.0,
-        flags: section.flags,
-        position: section.position.0,
-        length: section.length.0,
-    };
     twin::StagedWriting {
         writing: twin_writing(&state.writing),
-        sections: state.sections.map(section),
+        replaced: state.replaced,
     }
 }
 
@@ -140,8 +134,8 @@ fn compare_staged_step(
     );
     let found = twin_staged(&stepped.state);
     same(input, "state after a step", found, after);
-    let sections = stepped.state.sections;
-    same(input, "sections after a step", sections, state.sections);
+    let replaced = stepped.state.replaced;
+    same(input, "replaced after a step", replaced, state.replaced);
     (stepped.state, bytes)
 }
 

@@ -2,7 +2,7 @@
 //! code; here each call gets the numbers that an index, a slice or a sum would fail at.
 
 use eif::raw::fingerprint::Fingerprinting;
-use eif::raw::staged_writing::{StagedSection, StagedWriting};
+use eif::raw::staged_writing::StagedWriting;
 use eif::raw::{self, assembler::State, measuring::Measuring, staged::staged_part};
 use eif::sign1::{self, Algorithm, Claim};
 use eif::{
@@ -340,11 +340,6 @@ fn states_of_writing() {
             header: [0xff; 548],
             checksum: number as u32,
         };
-        let section = StagedSection {
-            position: FilePosition(number),
-            length: DataLength(number),
-            ..StagedSection::default()
-        };
         for room in [0, 1, 11, 12, 600] {
             let mut writing = Writing::from(state);
             let step = writing.step(&[0xff; 40], &mut vec![0; room]);
@@ -353,13 +348,17 @@ fn states_of_writing() {
                 writing.finish().is_ok(),
                 number != 0 && writing.data_left() == 0
             );
-            let mut staged = staged::Writing::from(StagedWriting {
-                writing: state,
-                sections: [section; 32],
-            });
-            let written = staged.step(&base, &[0xff; 40], &mut vec![0; room]);
-            assert!(written <= room);
-            let _ = staged.finish();
+            for base in [&base[..], &[], &[0xff; 600], &[0xff; 30]] {
+                for replaced in [number, number.saturating_sub(1)] {
+                    let mut staged = staged::Writing::from(StagedWriting {
+                        writing: state,
+                        replaced,
+                    });
+                    let written = staged.step(base, &[0xff; 40], &mut vec![0; room]);
+                    assert!(written <= room);
+                    let _ = staged.finish();
+                }
+            }
         }
     }
 }

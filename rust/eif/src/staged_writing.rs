@@ -7,7 +7,7 @@ use std::io::{self, Read};
 use std::ops::Range;
 
 /// The image written afresh that is written in pieces, from base and replacement (FORMAT.md, Writing in pieces). It
-/// keeps 1,872 bytes, however long the image is, and can be kept and copied. [`Reader`] does the same as a [`Read`].
+/// keeps 1,112 bytes, however long the image is, and can be kept and copied. [`Reader`] does the same as a [`Read`].
 ///
 /// ```
 /// use eif::{staged, DataLength, Place, Plan, SectionType};

@@ -49,7 +49,7 @@ pub use sign1::{read_sign1, write_sign1, Claim, Sign1};
 pub use staged::{
     staged_fingerprint, staged_image, staged_part, staged_registers, write_staged_roll, StagedPart,
 };
-pub use staged_writing::{StagedSection, StagedWriting};
+pub use staged_writing::StagedWriting;
 pub use stream::{copy_sections, copy_stream, stream_length, stream_sections, Stream};
 pub use strict::read_strict;
 pub use writing::{Step, Writing};

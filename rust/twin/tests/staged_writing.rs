@@ -3,15 +3,6 @@
 use eif_cases::{worked_image, CHECKSUM_AT, HEADER};
 use eif_twin::*;
 
-fn section(kind: u16, position: u64, length: u64) -> StagedSection {
-    StagedSection {
-        kind,
-        flags: 0,
-        position,
-        length,
-    }
-}
-
 /// All steps with this much room: the bytes written and the checksum.
 fn run(
     base: &[u8],
@@ -61,14 +52,7 @@ fn begin_of_the_worked_image() {
     assert_eq!(state.writing.header, afresh[..HEADER]);
     assert_eq!(state.writing.places[2].length, 2);
     assert_eq!((state.writing.count, state.writing.data_left), (3, 4));
-    let sections = [
-        section(1, 560, 1),
-        section(2, 573, 1),
-        section(3, 586, 2),
-        section(0, 0, 0),
-    ];
-    assert_eq!(state.sections[..4], sections);
-    assert_eq!(state.sections[4..], [section(0, 0, 0); 28]);
+    assert_eq!(state.replaced, 2);
 }
 
 #[test]
@@ -90,60 +74,136 @@ fn begin_refused() {
         assert_eq!(refused, expected);
         assert_eq!(state.writing.header_written, 548);
         assert_eq!((state.writing.count, state.writing.checksum), (0, 0));
-        assert_eq!(state.sections, [section(0, 0, 0); 32]);
+        assert_eq!(state.replaced, 0);
         assert_eq!(state.step(base, b"rs", &mut [0; 600]), 0);
         assert_eq!(state.finish().unwrap_err().number, 15);
     }
 }
 
-/// The bytes that a step writes from a state whose last begun section is this one.
-fn data_written(begun: u64, left: u64, section: StagedSection, place: usize) -> Vec<u8> {
+/// A base that is no image: its table has this offset for every place, and 30 bytes follow the header.
+fn base_of(offset: u64) -> Vec<u8> {
+    let mut base = vec![0; 28];
+    for _ in 0..32 {
+        base.extend(offset.to_be_bytes());
+    }
+    base.resize(HEADER, 0);
+    base.extend(b"own header..0123456789abcdefgh");
+    base
+}
+
+/// The bytes that a step writes from a state with these numbers, in which each place has this length.
+fn data_written(
+    (begun, replaced): (u64, u64),
+    (length, left): (u64, u64),
+    base: &[u8],
+    replacement: &[u8],
+) -> Vec<u8> {
     let (mut state, _) = StagedWriting::begin(&[], &[], 0, 0);
     state.writing.sections_begun = begun;
     state.writing.section_left = left;
-    state.sections[place] = section;
-    let mut out = vec![0xaa; 20];
-    let written = state.step(b"01234", b"abcde", &mut out);
+    state.writing.places = [Place {
+        length,
+        ..Place::default()
+    }; 32];
+    state.replaced = replaced;
+    let mut out = vec![0xaa; 700];
+    let written = state.step(base, replacement, &mut out);
     out.truncate(written as usize);
     assert_eq!(state.writing.section_left, left - written);
+    assert_eq!(state.replaced, replaced);
     out
 }
 
 #[test]
-fn data_of_any_state() {
+fn data_in_the_base_for_any_state() {
     let most = u64::MAX;
-    let first = |position, length, left| data_written(1, left, section(1, position, length), 0);
-    assert_eq!(first(1, 3, 3), b"123");
-    assert_eq!(first(1, 3, 2), b"23");
-    assert_eq!(first(1, 3, 1), b"3");
-    assert_eq!(first(1, 3, 4), b"123");
-    assert_eq!(first(1, 3, most), b"123");
-    assert_eq!(first(5, 5, 5), b"abcde");
-    assert_eq!(first(5, 5, 2), b"de");
-    // Past the end of the base or of the replacement, and sums above 2 to the 64.
-    assert_eq!(first(3, 4, 4), b"34");
-    assert_eq!(first(3, 4, 1), b"4");
-    assert_eq!(first(0, most, most), b"01234");
-    assert_eq!(first(8, 4, 4), b"de");
-    assert_eq!(first(8, 4, 1), b"e");
-    assert_eq!(first(10, 4, 4), b"");
-    assert_eq!(first(most, most, most), b"");
-    assert_eq!(first(8, most, most), b"de");
-    assert_eq!(first(8, 0, 4), b"");
+    let data = |offset, length, left| {
+        let base = base_of(offset);
+        data_written((1, 2), (length, left), &base, b"no data")
+    };
+    let header = HEADER as u64;
+    assert_eq!(data(header, 3, 3), b"012");
+    assert_eq!(data(header, 3, 2), b"12");
+    assert_eq!(data(header, 3, 1), b"2");
+    assert_eq!(data(header, 3, 4), b"012");
+    assert_eq!(data(header, 3, most), b"012");
+    assert_eq!(data(header, 0, 3), b"");
+    assert_eq!(data(header - 12, 3, 3), b"own");
+    // Past the end of the base, and sums above 2 to the 64.
+    assert_eq!(data(header + 16, 2, 2), b"gh");
+    assert_eq!(data(header + 16, 3, 3), b"gh");
+    assert_eq!(data(header + 16, most, most), b"gh");
+    assert_eq!(data(header + 16, 3, 1), b"h");
+    assert_eq!(data(header + 17, most, most), b"h");
+    for offset in [18, 19, 29, 30, 31] {
+        assert_eq!(data(header + offset, most, most), b"");
+    }
+    for offset in [most - 12, most - 11, most - 1, most] {
+        assert_eq!(data(offset, most, most), b"");
+    }
+    assert_eq!(data(0, most, most), base_of(0)[12..]);
+}
+
+#[test]
+fn data_in_the_replacement_for_any_state() {
+    let most = u64::MAX;
+    let base = base_of(HEADER as u64);
+    for (begun, replaced) in [(0, 0), (1, 0), (2, 1), (32, 31), (33, 32), (most, most - 1)] {
+        // The length of the place has no effect.
+        for length in [0, 1, most] {
+            let data = |left| data_written((begun, replaced), (length, left), &base, b"abcde");
+            assert_eq!(data(5), b"abcde");
+            assert_eq!(data(2), b"de");
+            assert_eq!(data(6), b"abcde");
+            assert_eq!(data(most), b"abcde");
+        }
+        assert_eq!(data_written((begun, replaced), (1, 1), &base, b""), b"");
+    }
 }
 
 #[test]
 fn the_section_begun_last_of_any_state() {
-    let whole = section(1, 5, 5);
-    // None is begun: place 0.
-    assert_eq!(data_written(0, 10, whole, 0), b"abcde");
-    assert_eq!(data_written(2, 10, whole, 0), b"");
-    assert_eq!(data_written(2, 10, whole, 1), b"abcde");
-    assert_eq!(data_written(32, 10, whole, 31), b"abcde");
-    // A place past 31 has no data.
-    for begun in [33, 34, u64::MAX] {
-        for place in [0, 31] {
-            assert_eq!(data_written(begun, 10, whole, place), b"");
+    let most = u64::MAX;
+    for place in 0..32 {
+        // The table has an offset for this place alone: the others' data starts at position 12.
+        let mut base = base_of(0);
+        base[28 + 8 * place + 6..][..2].copy_from_slice(&[2, 0x24]);
+        for begun in 0..33 {
+            let last = if begun == 0 { 0 } else { begun - 1 };
+            let data = data_written((begun, 99), (10, 10), &base, b"no data");
+            let expected = if last == place as u64 {
+                b"0123456789"
+            } else {
+                &base[12..22]
+            };
+            assert_eq!(data, expected, "{place} {begun}");
         }
     }
+    // A place past 31 has no data.
+    let base = base_of(HEADER as u64);
+    for begun in [33, 34, most - 1, most] {
+        for replaced in [0, 31, 32 + u64::from(begun == 33), most] {
+            assert_eq!(data_written((begun, replaced), (10, 10), &base, b"r"), b"");
+        }
+    }
+}
+
+#[test]
+fn a_base_that_ends_within_its_table() {
+    // The entry of place 1 is at position 36.
+    let mut base = vec![0xee; 36];
+    base.extend([0, 0, 0, 0, 0, 0, 0, 5]);
+    let data = |length: usize| data_written((2, 99), (100, 100), &base[..length], b"no data");
+    // No byte of the entry is there, or some of them: the offset is 0.
+    for length in [0, 1, 11, 12, 13, 28, 35, 36, 37, 43] {
+        assert_eq!(data(length), base[12.min(length)..length], "{length}");
+    }
+    assert_eq!(data(44), base[17..]);
+    base[36] = 3;
+    let data = |length: usize| data_written((2, 99), (100, 100), &base[..length], b"no data");
+    assert_eq!(data(36), base[12..36]);
+    // One byte of the entry: the offset is 3. Two: 768.
+    assert_eq!(data(37), base[15..37]);
+    assert_eq!(data(38), b"");
+    assert_eq!(data(44), b"");
 }

@@ -6,11 +6,11 @@ mod tests;
 use super::{
     any_room, compare_finish, compare_staged_finish, compare_staged_step, compare_step, raw, staged,
 };
-use super::{StagedSection, StagedWriting, Writing};
+use super::{StagedWriting, Writing};
 use crate::compare::Input;
 use crate::{any_plan, any_staged, Rng, StagedInput, Tally};
-use eif::{DataLength, FilePosition, Place, SectionType};
-use eif_cases::{HEADER, MAX_SECTIONS};
+use eif::{DataLength, Place, SectionType};
+use eif_cases::{HEADER, MAX_SECTIONS, OFFSETS_AT, SECTION_HEADER};
 
 /// One of these numbers, one less, one more, or any.
 fn any_about(rng: &mut Rng, numbers: &[u64]) -> u64 {
@@ -96,62 +96,107 @@ pub fn compare_writing_state(rng: &mut Rng, ordinal: u64, tally: &mut Tally) {
     }
 }
 
-/// A section of any state: its data lies in the base or in the replacement, goes past the end of one, or begins past
-/// both.
-fn any_section(rng: &mut Rng, base: u64, replacement: u64) -> StagedSection {
-    let all = base + replacement;
-    let inside = rng.below(all as usize + 1) as u64;
-    let position = any_about(rng, &[inside, inside, base, base, all, 0]);
-    let to_ends = [base, all].map(|end| end.saturating_sub(position));
-    let few = rng.below(40) as u64;
-    let length = match rng.below(3) {
-        0 => few,
-        _ => any_about(rng, &[to_ends[0], to_ends[1], 0]),
-    };
-    StagedSection {
-        section_type: SectionType(rng.next() as u16),
-        flags: rng.next() as u16,
-        position: FilePosition(position),
-        length: DataLength(length),
+/// The place of the section begun last.
+fn last_place(state: &StagedWriting) -> u64 {
+    state.writing.sections_begun.saturating_sub(1)
+}
+
+/// The length that the state has for a place, if it is one of 32.
+fn length_at(state: &mut StagedWriting, place: u64) -> Option<&mut u64> {
+    let place = state.writing.places.get_mut(usize::try_from(place).ok()?)?;
+    Some(&mut place.length.0)
+}
+
+/// Puts any offset in the base's table for a place, and answers it. The base can be too short for it.
+fn damage_offset(rng: &mut Rng, base: &mut [u8], place: u64) -> u64 {
+    let length = base.len() as u64;
+    let inside = rng.below(base.len() + 1) as u64;
+    let end = length.saturating_sub(SECTION_HEADER as u64);
+    let offset = any_about(rng, &[inside, inside, end, end, length, u64::MAX - 12]);
+    let entry = base
+        .iter_mut()
+        .skip(OFFSETS_AT + 8 * place as usize)
+        .take(8);
+    for (byte, new) in entry.zip(offset.to_be_bytes()) {
+        *byte = new;
+    }
+    offset
+}
+
+/// Takes the end of a base away: all of it, what follows some part of a place's entry in the table, or any. Now and then
+/// the last byte that stays is another one.
+fn cut_base(rng: &mut Rng, base: &mut Vec<u8>, place: u64) {
+    let entry = OFFSETS_AT + 8 * place as usize;
+    let any = rng.below(base.len() + 1);
+    let within = entry + rng.below(10);
+    let length = rng.pick(&[0, 27, 28, entry, within, within, within, any]);
+    base.truncate(length);
+    if let (Some(last), true) = (base.last_mut(), rng.once_in(2)) {
+        *last = rng.next() as u8;
     }
 }
 
-/// The place of the section begun last, or a place past all.
-fn last_place(state: &StagedWriting) -> usize {
-    let place = state.writing.sections_begun.saturating_sub(1);
-    place.min(MAX_SECTIONS as u64) as usize
+/// Any state over a staged view, reached or not, and a base that need not be the one that begin was lent.
+fn any_staged_writing(rng: &mut Rng, given: &mut StagedInput) -> StagedWriting {
+    let mut state = reached_staged_writing(rng, given);
+    if rng.once_in(2) {
+        state.writing = any_writing(rng, given.replacement.len());
+    } else {
+        damage_numbers(rng, &mut state.writing, given.replacement.len());
+    }
+    let last = last_place(&state);
+    if rng.once_in(2) {
+        state.replaced = any_about(rng, &[0, 1, last, last, MAX_SECTIONS as u64 - 1]);
+    }
+    if last < MAX_SECTIONS as u64 {
+        damage_base(rng, given, &mut state, last);
+    }
+    if rng.once_in(2) {
+        let replaced = state.replaced;
+        let length = match length_at(&mut state, last) {
+            Some(length) if replaced != last => *length,
+            _ => given.replacement.len() as u64,
+        };
+        state.writing.section_left = any_about(rng, &[1, length]);
+    }
+    state
 }
 
-/// Any state over a staged view, reached or not.
-fn any_staged_writing(rng: &mut Rng, given: &StagedInput) -> StagedWriting {
+/// A state that a run reaches.
+fn reached_staged_writing(rng: &mut Rng, given: &StagedInput) -> StagedWriting {
     let (base, replacement) = (&given.base[..], &given.replacement[..]);
     let mut state = staged::staged_writing_begin(base, replacement, given.replaced, 0).state;
     for _ in 0..rng.below(8) {
         let mut out = vec![0; any_room(rng)];
         state = staged::staged_writing_step(state, base, replacement, &mut out).state;
     }
-    if rng.once_in(2) {
-        state.writing = any_writing(rng, replacement.len());
-    } else {
-        damage_numbers(rng, &mut state.writing, replacement.len());
-    }
-    let lengths = (base.len() as u64, replacement.len() as u64);
-    if rng.once_in(2) {
-        state.sections = std::array::from_fn(|_| any_section(rng, lengths.0, lengths.1));
-    }
-    let last = state.sections.get(last_place(&state));
-    if let (Some(section), true) = (last, rng.once_in(2)) {
-        state.writing.section_left = any_about(rng, &[1, section.length.0]);
-    }
     state
+}
+
+/// Changes, now and then, what the data of a place depends on: the offset in the base's table, the length in the state,
+/// and where the base ends.
+fn damage_base(rng: &mut Rng, given: &mut StagedInput, state: &mut StagedWriting, place: u64) {
+    if rng.once_in(2) {
+        let offset = damage_offset(rng, &mut given.base, place);
+        let base = given.base.len() as u64;
+        let rest = base.saturating_sub(offset);
+        let rest = rest.saturating_sub(SECTION_HEADER as u64);
+        let length = any_about(rng, &[rest, rest, 0, rest / 2]);
+        if let Some(place) = length_at(state, place) {
+            *place = length;
+        }
+    }
+    if rng.once_in(6) {
+        cut_base(rng, &mut given.base, place);
+    }
 }
 
 /// A few steps from any state over a staged view, and the checksum after each. Base and replacement need not be those
 /// that begin was lent.
 pub fn compare_staged_writing_state(rng: &mut Rng, ordinal: u64, tally: &mut Tally) {
-    let given = any_staged(rng);
+    let mut given = any_staged(rng);
+    let mut state = any_staged_writing(rng, &mut given);
     let (base, replacement) = (&given.base[..], &given.replacement[..]);
-    let mut state = any_staged_writing(rng, &given);
     let input = &Input {
         kind: "staged writing state",
         ordinal,

@@ -2,22 +2,7 @@
 
 use super::writing::Writing;
 use super::Answer;
-use crate::{DataLength, FilePosition, SectionType, MAX_SECTIONS};
 use std::mem::{align_of, offset_of, size_of};
-
-/// A section of an image with one section replaced, and where its data lies.
-#[repr(C)]
-#[derive(Clone, Copy, Debug, Default, PartialEq, Eq)]
-pub struct StagedSection {
-    /// Its type.
-    pub section_type: SectionType,
-    /// Its flags.
-    pub flags: u16,
-    /// Where its data begins: in the base or, as if the replacement followed the base, in the replacement.
-    pub position: FilePosition,
-    /// How many bytes of data it has.
-    pub length: DataLength,
-}
 
 /// An image with one section replaced that is written in pieces. Any value is a state; a fresh one is
 /// [`staged_writing_begin`]'s.
@@ -26,8 +11,8 @@ pub struct StagedSection {
 pub struct StagedWriting {
     /// What is still to be written.
     pub writing: Writing,
-    /// The sections in file order, then zeros.
-    pub sections: [StagedSection; MAX_SECTIONS],
+    /// The replaced section's number; 0 beside a refusal.
+    pub replaced: u64,
 }
 
 /// What [`staged_writing_begin`] answers.
@@ -50,17 +35,16 @@ pub struct StagedWritingStepped {
     pub written: u64,
 }
 
-// The layout that eif.h gives to a C compiler. Only places and sections have padding.
+// The layout that eif.h gives to a C compiler. Only places have padding.
 #[allow(clippy::arithmetic_side_effects)] // the compiler computes these sums
 const _: () = {
-    assert!(size_of::<StagedSection>() == 24 && offset_of!(StagedSection, position) == 8);
-    assert!(size_of::<StagedWriting>() == size_of::<Writing>() + MAX_SECTIONS * 24);
-    assert!(size_of::<StagedWriting>() == 1872 && align_of::<StagedWriting>() == 8);
-    assert!(offset_of!(StagedWriting, sections) == 1104);
-    assert!(size_of::<StagedWritingBegun>() == 1872 + size_of::<Answer>());
-    assert!(offset_of!(StagedWritingBegun, answer) == 1872);
-    assert!(size_of::<StagedWritingStepped>() == 1872 + 8);
-    assert!(offset_of!(StagedWritingStepped, written) == 1872);
+    assert!(size_of::<StagedWriting>() == size_of::<Writing>() + 8);
+    assert!(size_of::<StagedWriting>() == 1112 && align_of::<StagedWriting>() == 8);
+    assert!(offset_of!(StagedWriting, replaced) == 1104);
+    assert!(size_of::<StagedWritingBegun>() == 1112 + size_of::<Answer>());
+    assert!(offset_of!(StagedWritingBegun, answer) == 1112);
+    assert!(size_of::<StagedWritingStepped>() == 1112 + 8);
+    assert!(offset_of!(StagedWritingStepped, written) == 1112);
 };
 
 mod c {
@@ -140,10 +124,7 @@ mod tests {
         let begun = unsafe { c::eif_staged_writing_begin(null(), 0, null(), 0, 0, 7) };
         assert_eq!(begun, staged_writing_begin(&[], &[], 0, 7));
         assert_eq!((begun.answer.number, begun.answer.reserved), (2, [0; 7]));
-        assert_eq!(
-            begun.state.sections,
-            [StagedSection::default(); MAX_SECTIONS]
-        );
+        assert_eq!(begun.state.replaced, 0);
         // SAFETY: the lengths are 0.
         let stepped =
             unsafe { c::eif_staged_writing_step(begun.state, null(), 0, null(), 0, null_mut(), 0) };

@@ -13,6 +13,9 @@ fn often(edge: &str, reached: usize) {
     assert!(reached >= OFTEN, "{edge}: {reached} of {STATES} states");
 }
 
+/// Counts the states that reach an edge, which has a name, and fails if they are too few.
+type Count<'a, T> = &'a dyn Fn(&str, &dyn Fn(&T) -> bool);
+
 /// Edges of the numbers of a state that both kinds of writing have.
 fn number_edges(states: &[Writing]) {
     let count = |edge: &str, reaches: &dyn Fn(&Writing) -> bool| {
@@ -53,7 +56,7 @@ fn number_edges(states: &[Writing]) {
 }
 
 /// Edges of the places.
-fn places(count: &dyn Fn(&str, &dyn Fn(&Writing) -> bool)) {
+fn places(count: Count<Writing>) {
     let own_header = |s: &Writing| s.section_left == 0 && s.header_written >= 548;
     for (begun, least) in [(31, 32), (31, 33), (31, 65_536), (32, 33), (33, 34)] {
         let edge = format!("sections_begun {begun}, count {least} or more, section_left 0");
@@ -79,38 +82,69 @@ fn states_of_writing_reach_every_edge() {
     number_edges(&(0..STATES).map(state).collect::<Vec<_>>());
 }
 
-/// A state over a staged view that is lent data, and what its step finds.
+/// A state over a staged view with section_left not 0, and what its step finds.
 struct Lent {
     state: StagedWriting,
-    section: StagedSection,
-    base: u64,
-    all: u64,
+    /// The base.
+    base: Vec<u8>,
+    /// The length of the replacement.
+    replacement: u64,
     written: u64,
 }
 
 impl Lent {
-    /// Where the section's data ends, exact.
-    fn end(&self) -> u128 {
-        u128::from(self.section.position.0) + u128::from(self.section.length.0)
+    /// The place of the section begun last, if it is not the replaced one.
+    fn place(&self) -> Option<u64> {
+        let place = last_place(&self.state);
+        (place != self.state.replaced).then_some(place)
     }
 
-    /// Whether the end is this far past a number.
-    fn ends(&self, number: u64, past: u64) -> bool {
-        self.end() == u128::from(number) + u128::from(past)
+    /// How many bytes of the table's entry are there, if the data is to be found by it.
+    fn entry(&self) -> Option<usize> {
+        let place = self.place().filter(|&place| place < 32)?;
+        let at = OFFSETS_AT + 8 * place as usize;
+        Some(self.base.len().saturating_sub(at).min(8))
+    }
+
+    /// The offset, if the data is to be found by it.
+    fn offset(&self) -> Option<u64> {
+        let place = self.place().filter(|&place| place < 32)?;
+        let entry = self.base.iter().skip(OFFSETS_AT + 8 * place as usize);
+        let number = |offset, &byte| offset << 8 | u64::from(byte);
+        Some(entry.take(8).fold(0, number))
+    }
+
+    /// Where the data starts and ends, exact.
+    fn data(&self) -> Option<(u128, u128)> {
+        let start = u128::from(self.offset()?) + 12;
+        let length = self.state.writing.places[self.place()? as usize].length.0;
+        Some((start, start + u128::from(length)))
+    }
+
+    /// Whether the data starts this far past the base's end.
+    fn starts(&self, past: i128) -> bool {
+        let end = self.base.len() as i128;
+        self.data()
+            .is_some_and(|(start, _)| start as i128 == end + past)
+    }
+
+    /// Whether data that starts in the base ends this far past the base's end.
+    fn ends(&self, past: i128) -> bool {
+        let length = self.base.len() as i128;
+        self.data().is_some_and(|(start, end)| {
+            (start as i128) < length && end as i128 == length + past && self.written != 0
+        })
     }
 }
 
-/// A state and the section begun last, if its place is one of 32 and section_left is not 0.
-fn lent(given: &StagedInput, state: StagedWriting) -> Option<Lent> {
-    let section = *state.sections.get(last_place(&state))?;
+/// A state and what its step finds, if section_left is not 0.
+fn lent(given: StagedInput, state: StagedWriting) -> Option<Lent> {
     let mut out = [0; 1000];
     let stepped = staged::staged_writing_step(state, &given.base, &given.replacement, &mut out);
-    let base = given.base.len() as u64;
     (state.writing.section_left != 0).then_some(Lent {
         state,
-        section,
-        base,
-        all: base + given.replacement.len() as u64,
+        replacement: given.replacement.len() as u64,
+        base: given.base,
         written: stepped.written,
     })
 }
@@ -120,45 +154,77 @@ fn data_edges(states: &[Lent]) {
     let count = |edge: &str, reaches: &dyn Fn(&Lent) -> bool| {
         often(edge, states.iter().filter(|lent| reaches(lent)).count());
     };
-    count("at 1 before the base's end", &|l| {
-        l.section.position.0.checked_add(1) == Some(l.base)
-    });
-    for past in 0..=1 {
-        count(&format!("at {past} past the base's end"), &|l| {
-            l.section.position.0 == l.base + past && l.written != 0
+    for past in [-1, 0, 1] {
+        count(&format!("starts {past} past the base's end"), &|l| {
+            l.starts(past)
         });
-        count(&format!("at {past} past the replacement's end"), &|l| {
-            l.section.position.0 == l.all + past && l.base != l.all
+        count(&format!("ends {past} past the base's end"), &|l| {
+            l.ends(past)
         });
-        count(&format!("from the base, ends {past} past it"), &|l| {
-            l.section.position.0 < l.base && l.ends(l.base, past) && l.base != l.all
-        });
-        count(
-            &format!("from the base, ends {past} past the replacement"),
-            &|l| l.section.position.0 < l.base && l.ends(l.all, past) && l.base != l.all,
-        );
-        count(
-            &format!("from the replacement, ends {past} past it"),
-            &|l| l.section.position.0 >= l.base && l.ends(l.all, past) && l.written != 0,
-        );
     }
+    for past in [-12, -11, -1, 0, 1] {
+        count(&format!("offset {past} past the base's end"), &|l| {
+            l.starts(12 + past)
+        });
+    }
+    count("the start is above 2 to the 64", &|l| {
+        l.offset().is_some_and(|offset| offset > u64::MAX - 12)
+    });
     count("the end is above 2 to the 64", &|l| {
-        l.end() > u128::from(u64::MAX) + 1
+        l.data()
+            .is_some_and(|(_, end)| end > u128::from(u64::MAX) + 1)
     });
-    count("less is lent than the data", &|l| {
-        l.written != 0 && l.state.writing.section_left < l.section.length.0
+    for there in 0..=8 {
+        count(&format!("{there} bytes of the table's entry"), &|l| {
+            l.entry() == Some(there)
+        });
+    }
+    count("no base", &|l| l.entry().is_some() && l.base.is_empty());
+    count("part of the entry, data written", &|l| {
+        l.entry().is_some_and(|there| there < 8) && l.written != 0
     });
-    count("less is there than section_left", &|l| {
-        l.written != 0 && l.written < l.state.writing.section_left
+    count("part of the entry, not 0, data written", &|l| {
+        l.entry().is_some_and(|there| there < 8) && l.offset() > Some(0) && l.written != 0
     });
+    lengths(&count);
     places_begun(&count);
 }
 
-/// Edges of which section is begun last. In all of them the step writes data.
-fn places_begun(count: &dyn Fn(&str, &dyn Fn(&Lent) -> bool)) {
+/// Edges of section_left and of the data's length.
+fn lengths(count: Count<Lent>) {
+    count("less is lent than the data", &|l| {
+        let length = l.data().map(|(start, end)| end - start);
+        l.written != 0 && length > Some(l.state.writing.section_left.into())
+    });
+    count("less is there than section_left", &|l| {
+        l.place().is_some() && l.written != 0 && l.written < l.state.writing.section_left
+    });
+    count("less is lent than the replacement", &|l| {
+        l.place().is_none() && l.written != 0 && l.state.writing.section_left < l.replacement
+    });
+    count("the replacement is less than section_left", &|l| {
+        l.place().is_none() && l.written != 0 && l.state.writing.section_left > l.replacement
+    });
+}
+
+/// Edges of which section is begun last, and of the replaced one.
+fn places_begun(count: Count<Lent>) {
     for begun in [0, 1, 2, 31, 32] {
-        count(&format!("sections_begun {begun}, data written"), &|l| {
-            l.state.writing.sections_begun == begun && l.written != 0
+        let is = |l: &Lent| l.state.writing.sections_begun == begun && l.written != 0;
+        count(&format!("sections_begun {begun}, data of the base"), &|l| {
+            is(l) && l.place().is_some()
+        });
+        count(&format!("sections_begun {begun}, replacement"), &|l| {
+            is(l) && l.place().is_none()
+        });
+    }
+    for begun in [33, u64::MAX] {
+        let is = |l: &Lent| l.state.writing.sections_begun == begun;
+        count(&format!("sections_begun {begun}, no data"), &|l| {
+            is(l) && l.place().is_some()
+        });
+        count(&format!("sections_begun {begun}, replacement"), &|l| {
+            is(l) && l.place().is_none() && l.written != 0
         });
     }
     for begun in [1, 2, 31, 32] {
@@ -168,6 +234,11 @@ fn places_begun(count: &dyn Fn(&str, &dyn Fn(&Lent) -> bool)) {
             writing.sections_begun == begun && writing.count < begun && l.written != 0
         });
     }
+    for replaced in [0, 1, 2, 31, 32, u64::MAX] {
+        count(&format!("replaced {replaced}, another begun"), &|l| {
+            l.state.replaced == replaced && l.place().is_some() && l.written != 0
+        });
+    }
 }
 
 #[test]
@@ -175,10 +246,10 @@ fn states_over_a_staged_view_reach_every_edge() {
     let (mut numbers, mut data) = (Vec::new(), Vec::new());
     for ordinal in 0..STATES {
         let rng = &mut Rng::of_input(2, ordinal);
-        let given = any_staged(rng);
-        let state = any_staged_writing(rng, &given);
+        let mut given = any_staged(rng);
+        let state = any_staged_writing(rng, &mut given);
         numbers.push(state.writing);
-        data.extend(lent(&given, state));
+        data.extend(lent(given, state));
     }
     number_edges(&numbers);
     data_edges(&data);
