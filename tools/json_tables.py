@@ -5,10 +5,11 @@ Run in the repository's root: python3 tools/json_tables.py. With --check nothing
 
     crates/json_machine/specs/Table.antt    the tables
     crates/json_machine/proofs/Modes.antt   the modes, their numbers, and that what is computed of all holds of each
+    crates/json_check/specs/Columns.antt    the second table by class and then by mode, as the code keeps it
     crates/json_check/src/tables.rt         the tables again, for the code
 
-Nothing has to be believed of this program: json_machine/proofs/Right.antt checks each entry of the tables against the grammar, and the
-proof of json_check::check compares the code's tables with those of the specification.
+Nothing has to be believed of this program: json_machine/proofs/Right.antt checks each entry of the tables against the grammar,
+json_check/proofs/Laws.antt compares the columns with the rows, and the proof of json_check::check the code's tables with these.
 """
 
 import sys
@@ -119,6 +120,7 @@ for b in ALL:
     classes.append(columns.index(column))
 CLASSES = len(columns)
 rows = [[column[i] for column in columns] for i in range(MODES)]
+by_class = [entry for column in columns for entry in column]
 
 
 def cons(numbers, width):
@@ -226,12 +228,23 @@ CODE = f"""// The tables of the checker, written by tools/json_tables.py: Table.
 
 // The class of each byte.
 {const("CLASSES", classes)}
-// For each mode its {CLASSES} entries, one for each class.
-{const("ROWS", [entry for r in rows for entry in r])}"""
+// For each class its {MODES} entries, one for each mode.
+{const("COLUMNS", by_class)}"""
+
+COLUMNS = f"""-- The entries of the machine's tables as the code keeps them: for each class its entries, one for each mode. Written by tools/json_tables.py.
+-- Nothing is assumed of them: proofs/Laws.antt compares each with its entry of rows.
+use Prim.Native.Nat.{{ℕ}}
+use mathlib.Core.List.{{List, [], _∷_}}
+
+unfoldable pub columns : List ℕ
+columns =
+    {cons(by_class, MODES)}
+"""
 
 FILES = {
     "crates/json_machine/specs/Table.antt": TABLE,
     "crates/json_machine/proofs/Modes.antt": MODES_FILE,
+    "crates/json_check/specs/Columns.antt": COLUMNS,
     "crates/json_check/src/tables.rt": CODE,
 }
 

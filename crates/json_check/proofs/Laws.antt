@@ -11,6 +11,8 @@ use lib.Dec.{eqb}
 use lib.ListN.{getD, length, drop, drop-of-length-le}
 use lib.Seq.{drop-cons}
 use Rattle.octets.specs.Lists.{joined}
+use Rattle.octets.proofs.Lists.{each-below}
+use Rattle.json_check.specs.Columns.{columns}
 use Rattle.json.specs.Verdict.{IsVerdict}
 use Rattle.json.specs.declared.JsonVerdict.{JsonVerdict}
 use Rattle.json.specs.declared.JsonVerdict.the-variants.{Text, Fault}
@@ -36,9 +38,22 @@ module _ (stack : ℕ) where
 
 -- ---- what the tables say
 
-pub entry-is : (mode b : ℕ) (n cl : List ℕ) (m c w : ℕ) → n ≡ joined rows → cl ≡ classes → m ≡ mode → w ≡ b → c ≡ getD cl w 0 → getD n (m * classCount + c) 0 ≡ entryOf mode b
+-- the code's table, by class and then by mode, has the entries of the rows
+column : (i : ℕ) → i < 2040 → getD columns i 0 ≡ getD (joined rows) (i % 51 * classCount + i / 51) 0
+unfolding columns rows
+column = each-below 0 (λ (i : ℕ). getD columns i 0) (λ (i : ℕ). getD (joined rows) (i % 51 * classCount + i / 51) 0) 2040 refl
+
+column-at : (m c : ℕ) → m < faultEntry → c < classCount → getD columns (c * 51 + m) 0 ≡ getD (joined rows) (m * classCount + c) 0
+column-at m c h k =
+    let i : ℕ = c * 51 + m in
+    let p : i % 51 ≡ m = omega arith in
+    let q : i / 51 ≡ c = omega arith in
+    column i (omega arith) ∙ ap₂ (λ (x y : ℕ). getD (joined rows) (x * classCount + y) 0) p q
+
+pub entry-is : (mode b : ℕ) (n cl : List ℕ) (m c w : ℕ) → n ≡ columns → cl ≡ classes → m ≡ mode → w ≡ b → c ≡ getD cl w 0 → m < faultEntry → c < classCount
+    → getD n (c * 51 + m) 0 ≡ entryOf mode b
 unfolding entryOf
-entry-is mode b n cl m c w p q r s t = cc
+entry-is mode b n cl m c w p q r s t h k = let e = column-at m c h k in cc
 
 module _ (mode stack b : ℕ) (x : ℕ) (e : x ≡ entryOf mode b) where
   pub act-first : (x ≡ againEntry → ⊥) → x ≡ actOf mode stack b

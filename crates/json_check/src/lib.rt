@@ -1,16 +1,20 @@
 // The checker of JSON: whether bytes are one RFC 8259 text in UTF-8 with at most 32 arrays or objects open at once, or where they stop
 // being one. What it answers is said of the grammar, in the crate json.
 //
-// One table lookup a byte, and a second where a number has ended. What is open is a stack of bits in one number, so there is no
-// recursion, and the time is linear.
+// Outside strings each byte takes one lookup for its class and one for the entry of its class and mode; the byte after a number takes a
+// third. Inside strings, blocks of eight bytes that stand for themselves are passed at once. The open arrays and objects are a stack of bits
+// in one number: there is no recursion, and the time is linear.
 mod tables;
 
 ghost use mathlib.Core.Path.{_≡_};
-ghost use Prim.Native.Nat.{_<_, _≤_};
+ghost use Prim.Native.Nat.{ℕ, _+_, _<_, _≤_};
+ghost use mathlib.Core.Bool.{true};
+ghost use lib.ListN.{length, drop};
 ghost use Rattle.json.specs.Verdict.{IsVerdict};
-ghost use Rattle.octets.specs.Lists.{joined};
-ghost use Rattle.json_machine.specs.Table.{classes, rows};
-ghost use Rattle.json_machine.specs.Machine.{faultEntry, afterOf, actOf, kindOf, turnMode, turnStack, endsOf, jsonVerdict};
+ghost use Rattle.json_machine.specs.Table.{classes};
+ghost use Rattle.json_machine.specs.Machine.{faultEntry, afterOf, actOf, kindOf, turnMode, turnStack, endsOf, walkFrom, jsonVerdict};
+ghost use Rattle.json_check.specs.Columns.{columns};
+ghost use Rattle.json_check.specs.Bare.{bare, BareRun};
 use json::JsonVerdict;
 
 // With a stack below this, one more array or object may be opened: a bit for each of those open, and one in front.
@@ -21,55 +25,59 @@ const NOTHING_OPEN: u64 = 1;
 
 // Where the machine stands: a mode (tables.rt), and what is open.
 struct State {
-    mode: u8,
+    mode: usize,
     stack: u64,
 }
 
 // The modes that the code names, of those of tables.rt: where a value, an array and an object begin, after a value with nothing open, in an
 // array and in an object, and in a number that may end.
-const VALUE: u8 = 0;
+const VALUE: usize = 0;
 
-const FIRST_ITEM: u8 = 1;
+const FIRST_ITEM: usize = 1;
 
-const FIRST_MEMBER: u8 = 2;
+const FIRST_MEMBER: usize = 2;
 
-const AFTER_TEXT: u8 = 5;
+const AFTER_TEXT: usize = 5;
 
-const AFTER_ITEM: u8 = 6;
+const AFTER_ITEM: usize = 6;
 
-const AFTER_MEMBER: u8 = 7;
+const AFTER_MEMBER: usize = 7;
 
-const ZERO: u8 = 9;
+const ZERO: usize = 9;
 
-const WHOLE: u8 = 10;
+const WHOLE: usize = 10;
 
-const FRACTION: u8 = 12;
+const FRACTION: usize = 12;
 
-const POWER: u8 = 15;
+const POWER: usize = 15;
+
+const CHAR: usize = 25;
+
+const NAME_CHAR: usize = 38;
 
 // The mode that is none: no text goes on like this.
-const FAULT: u8 = 51;
+const FAULT: usize = 51;
 
 // The other entries of the tables: a value ends here, a number ended before this byte, an array or an object is opened, the innermost
 // is closed.
-const STOP: u8 = 52;
+const STOP: usize = 52;
 
-const AGAIN: u8 = 53;
+const AGAIN: usize = 53;
 
-const OPEN_ARRAY: u8 = 54;
+const OPEN_ARRAY: usize = 54;
 
-const OPEN_OBJECT: u8 = 55;
+const OPEN_OBJECT: usize = 55;
 
-const CLOSE: u8 = 56;
+const CLOSE: usize = 56;
 
 // How many values a byte has, each of one class.
 const BYTES: usize = 256;
 
-// The entries of a mode, one for each class of bytes.
+// The number of classes of bytes.
 const CLASSES: usize = 40;
 
-// How many modes there are: each has a number below the one that is none.
-const MODES: usize = FAULT as usize;
+// The number of modes: each has a number below that of FAULT.
+const MODES: usize = FAULT;
 
 fn wide(x: u8) -> usize
     ensures { λ r. ⌜ r ≡ x ⌝ }
@@ -78,7 +86,7 @@ fn wide(x: u8) -> usize
 }
 
 // The mode after a value: with nothing open, in an array, in an object.
-fn after(stack: u64) -> u8
+fn after(stack: u64) -> usize
     ensures { λ r. ⌜ (r ≡ afterOf stack) × (r < faultEntry) ⌝ }
 {
     if stack == NOTHING_OPEN {
@@ -90,28 +98,29 @@ fn after(stack: u64) -> u8
     AFTER_MEMBER
 }
 
-// What the tables say at a byte: where a number ended before it, what they say after a value.
+// The entry of the tables for a byte. If a number ended before it, this is the entry of the mode after a value. The table is kept class by
+// class, so the mode is only added to an index: the time from one mode to the next is that of one load.
 fn act<'a>(
     class: &'a [u8; BYTES],
     next: &'a [u8; MODES * CLASSES],
-    mode: u8,
+    mode: usize,
     stack: u64,
     b: u8,
-) -> u8
-    requires { ⌜ (now class ≡ classes) × (now next ≡ joined rows) × (mode < faultEntry) ⌝ }
+) -> usize
+    requires { ⌜ (now class ≡ classes) × (now next ≡ columns) × (mode < faultEntry) ⌝ }
     ensures { λ r. ⌜ r ≡ actOf mode stack b ⌝ }
 {
     let c = wide(class[wide(b)]);
-    let first = next[wide(mode) * CLASSES + c];
+    let first = wide(next[c * MODES + mode]);
     if first == AGAIN {
-        let m = wide(after(stack));
-        return next[m * CLASSES + c];
+        let m = after(stack);
+        return wide(next[c * MODES + m]);
     }
     first
 }
 
 // Where an entry of the tables leads: to a mode, or where it says one of the others; any that is none of these is a fault.
-fn turn(act: u8, stack: u64) -> State
+fn turn(act: usize, stack: u64) -> State
     ensures { λ r. ⌜ (r .mode ≡ turnMode (kindOf act) act stack) × (r .stack ≡ turnStack (kindOf act) stack) × (r .mode ≤ faultEntry) ⌝ }
 {
     if act < FAULT {
@@ -152,7 +161,7 @@ fn turn(act: u8, stack: u64) -> State
 }
 
 // Whether a text may end here: nothing is open, and a value has ended, or is a number that may end.
-fn ends(mode: u8, stack: u64) -> bool
+fn ends(mode: usize, stack: u64) -> bool
     ensures { λ r. ⌜ r ≡ endsOf mode stack ⌝ }
 {
     if stack == NOTHING_OPEN {
@@ -173,12 +182,92 @@ fn ends(mode: u8, stack: u64) -> bool
     false
 }
 
+// ---- in a string
+
+// 1 for a byte that does not stand for itself in a string: a control byte, a quotation mark, a backslash, or a byte beyond ASCII. Such a byte
+// is called odd below.
+fn odd(b: u8) -> u8
+    ensures { λ r. ⌜ (r ≡ 0 → bare b ≡ true) ⌝ }
+{
+    if b < 0x20 {
+        return 1;
+    }
+    if 0x80 <= b {
+        return 1;
+    }
+    if b == b'"' {
+        return 1;
+    }
+    if b == b'\\' {
+        return 1;
+    }
+    0
+}
+
+// 0 if none of the eight bytes from place i on is odd. The compiler makes vector code of the loop.
+fn odd8(s: &[u8], i: usize) -> u8
+    requires { ⌜ i + 8 ≤ length (now s) ⌝ }
+    ensures { λ r. ⌜ (r ≡ 0 → BareRun (now (s .entry)) i (i + 8)) ⌝ }
+{
+    let mut bad: u8 = 0;
+    let mut k: usize = 0;
+    while k < 8 {
+        bad = bad | odd(s[i + k]);
+        k += 1;
+    }
+    bad
+}
+
+// The place after all blocks of eight bytes from `from` on that have no odd byte.
+fn past_blocks(s: &[u8], from: usize) -> usize
+    requires { ⌜ from ≤ length (now s) ⌝ }
+    ensures { λ r. ⌜ (from ≤ r) × (r ≤ length (now (s .entry))) × BareRun (now (s .entry)) from r ⌝ }
+{
+    let mut i = from;
+    while 8 <= s.len() - i {
+        if odd8(s, i) != 0 {
+            return i;
+        }
+        i += 8;
+    }
+    i
+}
+
+// The place of the first odd byte from `from` on, or the end.
+fn past_bare(s: &[u8], from: usize) -> usize
+    requires { ⌜ from ≤ length (now s) ⌝ }
+    ensures { λ r. ⌜ (from ≤ r) × (r ≤ length (now (s .entry))) × BareRun (now (s .entry)) from r ⌝ }
+{
+    let mut i = past_blocks(s, from);
+    while i < s.len() {
+        if odd(s[i]) != 0 {
+            return i;
+        }
+        i += 1;
+    }
+    i
+}
+
+// The next place where the mode may change: inside a string, the bytes before it leave the mode as it is.
+fn onward(s: &[u8], mode: usize, from: usize) -> usize
+    requires { ⌜ from ≤ length (now s) ⌝ }
+    ensures { λ r. ⌜ (from ≤ r) × (r ≤ length (now (s .entry))) × ((stack : ℕ) → walkFrom mode stack r (drop r (now (s .entry))) ≡ walkFrom mode stack from (drop from (now (s .entry)))) ⌝ }
+{
+    if mode == CHAR {
+        return past_bare(s, from);
+    }
+    if mode == NAME_CHAR {
+        return past_bare(s, from);
+    }
+    from
+}
+
 // The walk over the bytes.
 fn walk<'a>(class: &'a [u8; BYTES], next: &'a [u8; MODES * CLASSES], text: &'a [u8]) -> JsonVerdict
-    requires { ⌜ (now class ≡ classes) × (now next ≡ joined rows) ⌝ }
+    requires { ⌜ (now class ≡ classes) × (now next ≡ columns) ⌝ }
     ensures { λ r. ⌜ r ≡ jsonVerdict (now (text .entry)) ⌝ }
 {
-    let mut mode: u8 = VALUE;
+    let mut mode: usize = VALUE;
     let mut stack: u64 = NOTHING_OPEN;
     let mut i = 0;
     while i < text.len() {
@@ -188,7 +277,7 @@ fn walk<'a>(class: &'a [u8; BYTES], next: &'a [u8; MODES * CLASSES], text: &'a [
         }
         mode = state.mode;
         stack = state.stack;
-        i += 1;
+        i = onward(text, mode, i + 1);
     }
     if ends(mode, stack) {
         return JsonVerdict::Text;
@@ -203,6 +292,6 @@ pub fn check(text: &[u8]) -> JsonVerdict
     ensures { λ r. ⌜ IsVerdict (now (text .entry)) r ⌝ }
 {
     let class = tables::CLASSES;
-    let next = tables::ROWS;
+    let next = tables::COLUMNS;
     walk(&class, &next, text)
 }

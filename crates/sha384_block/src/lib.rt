@@ -119,42 +119,49 @@ pub fn constants() -> [u64; 80]
     CONSTANTS
 }
 
-// ---- operations on words (FIPS 180-4, section 4.1.3)
+// ---- operations on words (FIPS 180-4, section 4.1.3), each with fewer operations than the standard writes: the rotations of a sum of
+// rotations are nested, and choice and majority take two exclusive ors and one and
 
 fn choose(x: u64, y: u64, z: u64) -> u64
     ensures { λ r. ⌜ r ≡ ch x y z ⌝ }
 {
-    (x & y) ^ (!x & z)
+    z ^ (x & (y ^ z))
 }
 
 fn majority(x: u64, y: u64, z: u64) -> u64
     ensures { λ r. ⌜ r ≡ maj x y z ⌝ }
 {
-    (x & y) ^ (x & z) ^ (y & z)
+    y ^ ((x ^ y) & (y ^ z))
 }
 
 fn big_sigma0(x: u64) -> u64
     ensures { λ r. ⌜ r ≡ bigSigma0 x ⌝ }
 {
-    ((x >> 28) | (x << 36)) ^ ((x >> 34) | (x << 30)) ^ ((x >> 39) | (x << 25))
+    let p = ((x >> 5) | (x << 59)) ^ x;
+    let q = ((p >> 6) | (p << 58)) ^ x;
+    (q >> 28) | (q << 36)
 }
 
 fn big_sigma1(x: u64) -> u64
     ensures { λ r. ⌜ r ≡ bigSigma1 x ⌝ }
 {
-    ((x >> 14) | (x << 50)) ^ ((x >> 18) | (x << 46)) ^ ((x >> 41) | (x << 23))
+    let p = ((x >> 23) | (x << 41)) ^ x;
+    let q = ((p >> 4) | (p << 60)) ^ x;
+    (q >> 14) | (q << 50)
 }
 
 fn small_sigma0(x: u64) -> u64
     ensures { λ r. ⌜ r ≡ smallSigma0 x ⌝ }
 {
-    ((x >> 1) | (x << 63)) ^ ((x >> 8) | (x << 56)) ^ (x >> 7)
+    let p = ((x >> 7) | (x << 57)) ^ x;
+    ((p >> 1) | (p << 63)) ^ (x >> 7)
 }
 
 fn small_sigma1(x: u64) -> u64
     ensures { λ r. ⌜ r ≡ smallSigma1 x ⌝ }
 {
-    ((x >> 19) | (x << 45)) ^ ((x >> 61) | (x << 3)) ^ (x >> 6)
+    let p = ((x >> 42) | (x << 22)) ^ x;
+    ((p >> 19) | (p << 45)) ^ (x >> 6)
 }
 
 // Sums modulo 2 to the 64.

@@ -1,9 +1,9 @@
 -- `json_check::act` meets its contract: the class of the byte, and the entry of the mode and the class. Assumes nothing.
 use borrow.Author.Needs.{needs}
-use Prim.Native.Nat.{ℕ, _+_, _*_, _<_}
+use Prim.Native.Nat.{ℕ, _<_}
 use mathlib.Core.List.{List}
 use Rattle.json_machine.specs.Machine.{classCount, entryOf, afterOf}
-use mathlib.Core.Path.{_≡_, _∙_, ap}
+use mathlib.Core.Path.{_≡_, refl, _∙_, ap}
 use native.Mathlib.Omega.{arith}
 use lib.ListN.{getD}
 use Rattle.json_machine.specs.Table.{classes}
@@ -20,12 +20,13 @@ module _ (c : tie.After-wide2) where
   class-small = omega (arith, class-is, class-below (c .before .before .wide .result))
 
 module _ (c : tie.After-wide3) where
-  first-is : getD (c .before .before .before .before .args .next .now) (c .wide3 .result * classCount + c .before .wide2 .result) 0
-      ≡ entryOf (c .before .before .before .before .args .mode) (c .before .before .before .before .args .b)
+  first-is : c .wide3 .result ≡ entryOf (c .before .before .before .before .before .args .mode) (c .before .before .before .before .before .args .b)
   first-is =
-      let s = c .before .before .before .before in
-      entry-is (s .args .mode) (s .args .b) (s .args .next .now) (s .args .class .now) (c .wide3 .result) (c .before .wide2 .result) (c .before .before .before .wide .result)
-      (s .pre .1) (s .pre .0) (c .wide3 .ensures) (c .before .before .before .wide .ensures) (c .before .wide2 .ensures)
+      let w = c .before .before in
+      let s = w .before .before .before in
+      c .wide3 .ensures
+      ∙ entry-is (s .args .mode) (s .args .b) (s .args .next .now) (s .args .class .now) (s .args .mode) (w .wide2 .result) (w .before .before .wide .result)
+      (s .pre .1) (s .pre .0) refl (w .before .before .wide .ensures) (w .wide2 .ensures) (s .pre .2) (class-small w)
 
 wide-requires : tie.Need-wide-requires
 wide-requires c κs = search needs
@@ -36,46 +37,49 @@ element-copy-out-wide c = search needs
 wide-requires-2 : tie.Need-wide-requires-2
 wide-requires-2 c κs = search needs
 
+mul-wide : tie.Need-mul-wide
+mul-wide c = omega (arith, class-small c)
+
+add-wide : tie.Need-add-wide
+add-wide c = omega (arith, class-small c)
+
+element-copy-out-wide-2 : tie.Need-element-copy-out-wide-2
+element-copy-out-wide-2 c = omega (arith, class-small c)
+
 wide-requires-3 : tie.Need-wide-requires-3
 wide-requires-3 c κs = search needs
-
-mul-first : tie.Need-mul-first
-mul-first c = search needs
-
-add-first : tie.Need-add-first
-add-first c = omega (arith, class-small (c .before))
-
-element-copy-out-first : tie.Need-element-copy-out-first
-element-copy-out-first c = omega (arith, class-small (c .before))
 
 after-requires : tie.Need-after-requires
 after-requires c κs = search needs
 
+mul-wide-2 : tie.Need-mul-wide-2
+mul-wide-2 c = omega (arith, class-small (c .before .before .before .before))
+
+add-wide-2 : tie.Need-add-wide-2
+add-wide-2 c = omega (arith, class-small (c .before .before .before .before))
+
+element-copy-out-wide-3 : tie.Need-element-copy-out-wide-3
+element-copy-out-wide-3 c = omega (arith, class-small (c .before .before .before .before))
+
 wide-requires-4 : tie.Need-wide-requires-4
 wide-requires-4 c κs = search needs
 
-mul-result : tie.Need-mul-result
-mul-result c = search needs
-
-add-result : tie.Need-add-result
-add-result c = omega (arith, class-small (c .before .before .before .before .before))
-
-element-copy-out-result : tie.Need-element-copy-out-result
-element-copy-out-result c = omega (arith, class-small (c .before .before .before .before .before))
-
 returns : tie.Need-returns
 returns c =
-    let w = c .before .before .before .before .before in
-    let s = w .before .before .before .before in
-    act-again (s .args .mode) (s .args .stack) (s .args .b) _ (first-is w) (c .before .before .before .if1 .taken) _
-    (entry-is (afterOf (s .args .stack)) (s .args .b) (s .args .next .now) (s .args .class .now) (c .before .wide4 .result) (w .before .wide2 .result) (w .before .before .before .wide .result)
-    (s .pre .1) (s .pre .0) (c .before .wide4 .ensures ∙ c .before .before .after .ensures .0) (w .before .before .before .wide .ensures) (w .before .wide2 .ensures))
+    let a = c .before .before in
+    let t = a .before .before in
+    let w = t .before .before in
+    let s = w .before .before .before in
+    act-again (s .args .mode) (s .args .stack) (s .args .b) _ (first-is t) (a .before .if1 .taken) _
+    (c .wide4 .ensures
+    ∙ entry-is (afterOf (s .args .stack)) (s .args .b) (s .args .next .now) (s .args .class .now) (a .after .result) (w .wide2 .result) (w .before .before .wide .result)
+    (s .pre .1) (s .pre .0) (a .after .ensures .0) (w .before .before .wide .ensures) (w .wide2 .ensures) (a .after .ensures .1) (class-small w))
 
 returns-2 : tie.Need-returns-2
 returns-2 c =
-    let w = c .before .before in
-    let s = w .before .before .before .before in
-    act-first (s .args .mode) (s .args .stack) (s .args .b) _ (first-is w) (c .if1 .left)
+    let t = c .before in
+    let s = t .before .before .before .before .before in
+    act-first (s .args .mode) (s .args .stack) (s .args .b) _ (first-is t) (c .if1 .left)
 
 pub act-spec : {M : Type 1} → statement M
 act-spec =
@@ -84,14 +88,14 @@ act-spec =
     wide-requires
     element-copy-out-wide
     wide-requires-2
+    mul-wide
+    add-wide
+    element-copy-out-wide-2
     wide-requires-3
-    mul-first
-    add-first
-    element-copy-out-first
     after-requires
+    mul-wide-2
+    add-wide-2
+    element-copy-out-wide-3
     wide-requires-4
-    mul-result
-    add-result
-    element-copy-out-result
     returns
     returns-2)

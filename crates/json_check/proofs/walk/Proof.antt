@@ -29,15 +29,18 @@ returns c =
 
 loop-again : tie.Need-loop-again Inv-loop μ-loop
 loop-again c =
-    let k = c .before .before .before .before in
+    let f = c .before in
+    let k = f .before .before .before .before in
     let l = k .before .before .loop in
-    let t = c .before .before .turn in
+    let t = f .before .before .turn in
     let small = t .ensures .2 in
-    let other = c .if1 .left in (
+    let other = f .if1 .left in
+    let o = c .onward .ensures in (
+      omega (arith, o .1),
       omega arith,
-      omega arith,
-      walk-on _ _ (l .mode) (l .stack) (l .i) (l .inv .2) (k .before .loop-test .taken) (c .before .before .before .act .result)
-          (t .result .mode) (t .result .stack) (c .before .before .before .act .ensures) (t .ensures .0) (t .ensures .1) (c .if1 .left),
+      o .2 (t .result .stack)
+          ∙ walk-on _ _ (l .mode) (l .stack) (l .i) (l .inv .2) (k .before .loop-test .taken) (f .before .before .before .act .result)
+          (t .result .mode) (t .result .stack) (f .before .before .before .act .ensures) (t .ensures .0) (t .ensures .1) (f .if1 .left),
     )
 
 returns-2 : tie.Need-returns-2 Inv-loop μ-loop
@@ -64,7 +67,8 @@ walk-spec =
     (λ c κs. search needs)
     returns
     (λ c. omega arith)
-    (λ c. omega arith)
+    (λ c κs. omega arith)
+    (λ c. let o = c .onward .ensures .0 in omega arith)
     loop-again
     (λ c κs. search needs)
     returns-2
