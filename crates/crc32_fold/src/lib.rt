@@ -220,13 +220,17 @@ fn steps8(x: u32) -> u32
     (x >> 8) ^ steps32(x << 24)
 }
 
-// What is left from a position on, four bytes at a time and then byte by byte.
+// The checksum state after the bytes from a position on: eight bytes at a time, then four, then one.
 fn tail(state: u32, s: &[u8], from: usize) -> u32
     requires { ⌜ from ≤ length (now s) ⌝ }
     ensures { λ r. ⌜ r ≡ remainderFrom (now (s .entry)) from state ⌝ }
 {
     let mut c = state;
     let mut i = from;
+    while 8 <= s.len() - i {
+        c = steps64(wide32(c) ^ le64(s, i));
+        i += 8;
+    }
     while 4 <= s.len() - i {
         c = steps32(c ^ le32(s, i));
         i += 4;
