@@ -17,7 +17,7 @@ use Rattle.octets.proofs.Lists.{each-below}
 use Rattle.json.specs.declared.JsonVerdict.{JsonVerdict}
 use Rattle.json_machine.specs.Table.{classes, rows}
 use Rattle.json_machine.specs.Machine.{faultEntry, entryOf, walkFrom}
-use Rattle.json_check.specs.Bare.{bare, BareRun}
+use Rattle.json_check.specs.Bare.{bare, BareRun, charMode, nameCharMode}
 use Rattle.json_check.proofs.Laws.{act-first, turn-goes, walk-on}
 
 pub bare-is : (b : ℕ) → 32 ≤ b → b < 128 → (b ≡ 34 → ⊥) → (b ≡ 92 → ⊥) → bare b ≡ true
@@ -47,12 +47,6 @@ pub no-bits : (a b : ℕ) → bitOr a b ≡ 0 → (a ≡ 0) × (b ≡ 0)
 no-bits a b e = (omega (arith, or-add-and a b, and-le-r a b), omega (arith, or-add-and a b, and-le-l a b))
 
 -- ---- the machine
-
-abbrev pub charMode : ℕ
-charMode = 25
-
-abbrev pub nameCharMode : ℕ
-nameCharMode = 38
 
 bare-small : (b : ℕ) → bare b ≡ true → b < 256
 bare-small b e =

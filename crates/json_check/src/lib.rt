@@ -2,8 +2,8 @@
 // being one. What it answers is said of the grammar, in the crate json.
 //
 // Outside strings each byte takes one lookup for its class and one for the entry of its class and mode; the byte after a number takes a
-// third. Inside strings, blocks of eight bytes that stand for themselves are passed at once. The open arrays and objects are a stack of bits
-// in one number: there is no recursion, and the time is linear.
+// third. Inside strings, blocks of eight bytes that stand for themselves are passed at once, and so is each character beyond ASCII. The open
+// arrays and objects are a stack of bits in one number: there is no recursion, and the time is linear.
 mod tables;
 
 ghost use mathlib.Core.Path.{_≡_};
@@ -14,7 +14,7 @@ ghost use Rattle.json.specs.Verdict.{IsVerdict};
 ghost use Rattle.json_machine.specs.Table.{classes};
 ghost use Rattle.json_machine.specs.Machine.{faultEntry, afterOf, actOf, kindOf, turnMode, turnStack, endsOf, walkFrom, jsonVerdict};
 ghost use Rattle.json_check.specs.Columns.{columns};
-ghost use Rattle.json_check.specs.Bare.{bare, BareRun};
+ghost use Rattle.json_check.specs.Bare.{bare, BareRun, Skipped};
 use json::JsonVerdict;
 
 // With a stack below this, one more array or object may be opened: a bit for each of those open, and one in front.
@@ -248,16 +248,112 @@ fn past_bare(s: &[u8], from: usize) -> usize
     i
 }
 
+// 0 if a byte is a continuation byte of UTF-8.
+fn stray(b: u8) -> u8
+    ensures { λ r. ⌜ (r ≡ 0 → (128 ≤ b) × (b < 192)) ⌝ }
+{
+    if b < 0x80 {
+        return 1;
+    }
+    if 0xC0 <= b {
+        return 1;
+    }
+    0
+}
+
+// The size of the character beyond ASCII at place i. 0 if there is none, if it begins with F4, or if fewer than four bytes are left: then the
+// tables decide.
+fn wide_char(s: &[u8], i: usize) -> usize
+    requires { ⌜ i ≤ length (now s) ⌝ }
+    ensures { λ r. ⌜ (i + r ≤ length (now (s .entry))) × Skipped (now (s .entry)) i (i + r) ⌝ }
+{
+    if s.len() - i < 4 {
+        return 0;
+    }
+    let a = s[i];
+    if a < 0xC2 {
+        return 0;
+    }
+    let b = s[i + 1];
+    if stray(b) != 0 {
+        return 0;
+    }
+    if a < 0xE0 {
+        return 2;
+    }
+    if stray(s[i + 2]) != 0 {
+        return 0;
+    }
+    if a == 0xE0 {
+        if b < 0xA0 {
+            return 0;
+        }
+        return 3;
+    }
+    if a == 0xED {
+        if b < 0xA0 {
+            return 3;
+        }
+        return 0;
+    }
+    if a < 0xF0 {
+        return 3;
+    }
+    if stray(s[i + 3]) != 0 {
+        return 0;
+    }
+    if a == 0xF0 {
+        if b < 0x90 {
+            return 0;
+        }
+        return 4;
+    }
+    if a < 0xF4 {
+        return 4;
+    }
+    0
+}
+
+// The first place from `from` on whose byte is odd, or the end. It tests one byte before it looks for blocks, as a character beyond ASCII often
+// follows another.
+fn past_run(s: &[u8], from: usize) -> usize
+    requires { ⌜ from ≤ length (now s) ⌝ }
+    ensures { λ r. ⌜ (from ≤ r) × (r ≤ length (now (s .entry))) × BareRun (now (s .entry)) from r ⌝ }
+{
+    if from < s.len() {
+        if odd(s[from]) == 0 {
+            return past_bare(s, from);
+        }
+    }
+    from
+}
+
+// The place after a run of bytes that are not odd and characters beyond ASCII.
+fn past_chars(s: &[u8], from: usize) -> usize
+    requires { ⌜ from ≤ length (now s) ⌝ }
+    ensures { λ r. ⌜ (from ≤ r) × (r ≤ length (now (s .entry))) × Skipped (now (s .entry)) from r ⌝ }
+{
+    let mut i = past_run(s, from);
+    while i < s.len() {
+        let n = wide_char(s, i);
+        if n == 0 {
+            return i;
+        }
+        i = past_run(s, i + n);
+    }
+    i
+}
+
 // The next place where the mode may change: inside a string, the bytes before it leave the mode as it is.
 fn onward(s: &[u8], mode: usize, from: usize) -> usize
     requires { ⌜ from ≤ length (now s) ⌝ }
     ensures { λ r. ⌜ (from ≤ r) × (r ≤ length (now (s .entry))) × ((stack : ℕ) → walkFrom mode stack r (drop r (now (s .entry))) ≡ walkFrom mode stack from (drop from (now (s .entry)))) ⌝ }
 {
     if mode == CHAR {
-        return past_bare(s, from);
+        return past_chars(s, from);
     }
     if mode == NAME_CHAR {
-        return past_bare(s, from);
+        return past_chars(s, from);
     }
     from
 }
