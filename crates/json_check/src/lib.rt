@@ -314,18 +314,23 @@ fn wide_char(s: &[u8], i: usize) -> usize
     0
 }
 
-// The first place from `from` on whose byte is odd, or the end. It tests one byte before it looks for blocks, as a character beyond ASCII often
-// follows another.
-fn past_run(s: &[u8], from: usize) -> usize
+// A place up to which no byte from `from` on is odd. It tests up to eight bytes one by one before it looks for blocks, as a character beyond
+// ASCII often follows another soon.
+fn past_few(s: &[u8], from: usize) -> usize
     requires { ⌜ from ≤ length (now s) ⌝ }
     ensures { λ r. ⌜ (from ≤ r) × (r ≤ length (now (s .entry))) × BareRun (now (s .entry)) from r ⌝ }
 {
-    if from < s.len() {
-        if odd(s[from]) == 0 {
-            return past_bare(s, from);
+    let mut i = from;
+    while i - from < 8 {
+        if s.len() <= i {
+            return i;
         }
+        if odd(s[i]) != 0 {
+            return i;
+        }
+        i += 1;
     }
-    from
+    past_blocks(s, i)
 }
 
 // The place after a run of bytes that are not odd and characters beyond ASCII.
@@ -333,13 +338,13 @@ fn past_chars(s: &[u8], from: usize) -> usize
     requires { ⌜ from ≤ length (now s) ⌝ }
     ensures { λ r. ⌜ (from ≤ r) × (r ≤ length (now (s .entry))) × Skipped (now (s .entry)) from r ⌝ }
 {
-    let mut i = past_run(s, from);
+    let mut i = past_bare(s, from);
     while i < s.len() {
         let n = wide_char(s, i);
         if n == 0 {
             return i;
         }
-        i = past_run(s, i + n);
+        i = past_few(s, i + n);
     }
     i
 }

@@ -15,7 +15,7 @@ abbrev μ-loop : tie.MeasureT-loop
 μ-loop s from i₀ i = length s - i
 
 loop-holds : tie.Need-loop-holds Inv-loop μ-loop
-loop-holds c = let e = c .past-run .ensures in (e .0, e .1, passed-run _ _ _ (e .0) (e .1) (e .2))
+loop-holds c = let e = c .past-bare .ensures in (e .0, e .1, passed-run _ _ _ (e .0) (e .1) (e .2))
 
 loop-less : tie.Need-loop-less Inv-loop μ-loop
 loop-less c = omega (arith, above-other (c .before .before .wide-char .result) 0 (omega arith) (c .before .if1 .left))
@@ -24,7 +24,7 @@ loop-again : tie.Need-loop-again Inv-loop μ-loop
 loop-again c =
     let l = c .before .before .before .before .loop in
     let w = c .before .before .wide-char .ensures in
-    let r = c .past-run2 .ensures in
+    let r = c .past-few .ensures in
     (omega arith, omega arith, passed-join _ _ _ _ (l .inv .2) (passed-join _ _ _ _ (w .1) (passed-run _ _ _ (r .0) (r .1) (r .2))))
 
 pub past-chars-spec : {M : Type 1} → statement M
