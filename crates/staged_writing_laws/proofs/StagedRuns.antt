@@ -35,7 +35,7 @@ use Rattle.writing_laws.proofs.Reached.{Reached, reached-start, reached-step}
 use Rattle.staged_writing.specs.StagedWriting.{begunWith, refusedBegun, stagedBegun, baseData, wholeData, dueData, stagedStepped}
 use Rattle.staged_writing.specs.declared.StagedWriting.{StagedWriting}
 use Rattle.staged_writing.proofs.Begun.{plan-accepted, base-some, whole-replaced, whole-kept}
-use Rattle.staged_writing_laws.specs.StagedRuns.{stagedBytesOf, afterStagedSteps, stagedBytesWritten, stagedSteps}
+use Rattle.staged_writing_laws.specs.StagedRuns.{stagedRunState, stagedRunBytes, stagedBytesOf, afterStagedSteps, stagedBytesWritten, stagedSteps}
 
 -- ---- the first bytes of a list
 
@@ -60,11 +60,8 @@ drop-first (suc a) c [] = ap (drop (suc a)) (take-nil (suc a + c)) ∙ drop-nil 
 drop-first (suc a) c (b ∷ x) = let z : suc a + c ≡ suc (a + c) = omega arith in ap (λ (n : ℕ). drop (suc a) (take n (b ∷ x))) z ∙ drop-first a c x
 
 module _ (s r : List ℕ) (k field : ℕ) (ok : stagedVerdict s (length r) k k ≡ Accepted) where
-  abbrev planAfresh : Plan
-  planAfresh = stagedPlan s k (length r)
-
   abbrev places : List Place
-  places = planAfresh .places
+  places = (stagedPlan s k (length r)) .places
 
   -- the data of all sections of the image written afresh
   abbrev freshData : List ℕ
@@ -73,35 +70,35 @@ module _ (s r : List ℕ) (k field : ℕ) (ok : stagedVerdict s (length r) k k �
   stages : Stages s (length r) k k
   stages = staged→ s (length r) k k ok
 
-  plan-ok : planLength planAfresh .verdict ≡ Accepted
+  plan-ok : planLength (stagedPlan s k (length r)) .verdict ≡ Accepted
   unfolding planLength
   plan-ok = plan-accepted s r k field ok
 
-  few : planAfresh .count ≤ placeCount
+  few : (stagedPlan s k (length r)) .count ≤ placeCount
   unfolding planLength
-  few = planned→ planAfresh (dataBefore places (planAfresh .count)) plan-ok .fields .few
+  few = planned→ (stagedPlan s k (length r)) (dataBefore places ((stagedPlan s k (length r)) .count)) plan-ok .fields .few
 
   -- the plan and the data by the header of the base
   abbrev base-plan : Plan
   base-plan = changedPlan s r k (stages .accepted) (length r)
 
-  plan-same : planAfresh ≡ base-plan
+  plan-same : (stagedPlan s k (length r)) ≡ base-plan
   plan-same = plan-is s r k (stages .accepted) (length r)
 
-  count-same : planAfresh .count ≡ countOf s
+  count-same : (stagedPlan s k (length r)) .count ≡ countOf s
   count-same = ap (λ (p : Plan). p .count) plan-same
 
   sizes : (i : ℕ) → i < countOf s → length (partAt s r k (stages .accepted) i) ≡ plannedSize (base-plan .places) i
   sizes = size-kept s r k (stages .accepted) (stages .replaced)
 
-  piece-part : (i : ℕ) → i < planAfresh .count → pieceAt places freshData i ≡ partAt s r k (stages .accepted) i
+  piece-part : (i : ℕ) → i < (stagedPlan s k (length r)) .count → pieceAt places freshData i ≡ partAt s r k (stages .accepted) i
   piece-part i h =
       let c = count-same in
       ap₂ (λ (p : Plan) (d : List ℕ). pieceAt (p .places) d i) plan-same (parts-are s r k (stages .accepted))
       ∙ piece-is (base-plan .places) (countOf s) (partAt s r k (stages .accepted)) sizes i (omega arith)
 
   -- the data of place i of the base, other than the replaced one, is what the plan takes of the data of all sections
-  base-piece : (i : ℕ) → i < planAfresh .count → (i ≡ k → ⊥) → baseData s places i ≡ pieceAt places freshData i
+  base-piece : (i : ℕ) → i < (stagedPlan s k (length r)) .count → (i ≡ k → ⊥) → baseData s places i ≡ pieceAt places freshData i
   base-piece i h n =
       let c = count-same in
       let f = few in
@@ -116,7 +113,7 @@ module _ (s r : List ℕ) (k field : ℕ) (ok : stagedVerdict s (length r) k k �
       ∙ sym (piece-part i h ∙ own)
 
   -- the data of the section begun last
-  whole-piece : (a : StagedWriting) → a .replaced ≡ k → a .writing .places ≡ places → (i : ℕ) → i < planAfresh .count → a .writing .«sections_begun» - 1 ≡ i
+  whole-piece : (a : StagedWriting) → a .replaced ≡ k → a .writing .places ≡ places → (i : ℕ) → i < (stagedPlan s k (length r)) .count → a .writing .«sections_begun» - 1 ≡ i
       → wholeData a s r ≡ pieceAt places freshData i
   whole-piece a e l i h z =
       ⊎-elim
@@ -126,12 +123,12 @@ module _ (s r : List ℕ) (k field : ℕ) (ok : stagedVerdict s (length r) k k �
       sym (whole-kept a s r (λ q. n (sym z ∙ q ∙ e))) ∙ ap₂ (λ (m : List Place) (j : ℕ). baseData s m j) l z ∙ base-piece i h n)
       (equal-or-not i k)
 
-  piece-long : (i : ℕ) → i < planAfresh .count → length (pieceAt places freshData i) ≡ plannedSize places i
+  piece-long : (i : ℕ) → i < (stagedPlan s k (length r)) .count → length (pieceAt places freshData i) ≡ plannedSize places i
   piece-long i h =
       let c = count-same in
       ap length (piece-part i h) ∙ sizes i (omega arith) ∙ ap (λ (p : Plan). plannedSize (p .places) i) (sym plan-same)
 
-  joined-long : length freshData ≡ dataBefore places (planAfresh .count)
+  joined-long : length freshData ≡ dataBefore places ((stagedPlan s k (length r)) .count)
   joined-long =
       ap length (parts-are s r k (stages .accepted)) ∙ length-joined (base-plan .places) (countOf s) (partAt s r k (stages .accepted)) sizes
       ∙ ap (λ (p : Plan). dataBefore (p .places) (p .count)) (sym plan-same)
@@ -140,7 +137,7 @@ module _ (s r : List ℕ) (k field : ℕ) (ok : stagedVerdict s (length r) k k �
 
   -- the state a after data d was taken and bytes g were written: d is the first of the joined data
   record StagedReached (d g : List ℕ) (a : StagedWriting) : Type 0 where
-    reached : Reached planAfresh field few d g (a .writing)
+    reached : Reached (stagedPlan s k (length r)) field few d g (a .writing)
     replaced-stays : a .replaced ≡ k
     data-first : d ≡ take (length d) freshData
 
@@ -204,7 +201,7 @@ module _ (s r : List ℕ) (k field : ℕ) (ok : stagedVerdict s (length r) k k �
         let rest = drop (length d) freshData in
         let some : y ≡ take (length y) rest = ap (take n) due-is ∙ first-bytes n left rest ∙ ap (λ (l : List ℕ). take (length (take n l)) rest) (sym due-is) in
         record {
-          reached = reached-step planAfresh field few d g (a .writing) (x .reached) (dueData a s r) room;
+          reached = reached-step (stagedPlan s k (length r)) field few d g (a .writing) (x .reached) (dueData a s r) room;
           replaced-stays = x .replaced-stays;
           data-first = ap₂ (λ (u v : List ℕ). u ++ v) (x .data-first) some ∙ sym (take-add (length d) (length y) freshData) ∙ ap (λ (m : ℕ). take m freshData) (sym (length-append d y));
         }
@@ -232,88 +229,79 @@ module _ (s r : List ℕ) (k field : ℕ) (ok : stagedVerdict s (length r) k k �
   -- ---- the laws
 
   module _ (rooms : List ℕ) where
-    abbrev first : StagedWriting
-    first = stagedBegun s r k field .state
-
-    abbrev last : StagedWriting
-    last = afterStagedSteps first s r rooms
-
-    abbrev written : List ℕ
-    written = stagedBytesWritten first s r rooms
-
     abbrev steps : List WriteStep
-    steps = stagedSteps first s r rooms
+    steps = stagedSteps (stagedBegun s r k field .state) s r rooms
 
     abbrev planStart : Writing
-    planStart = writingBegun planAfresh field .state
+    planStart = writingBegun (stagedPlan s k (length r)) field .state
 
-    first-start : first .writing ≡ startWriting planAfresh field
+    first-start : (stagedBegun s r k field .state) .writing ≡ startWriting (stagedPlan s k (length r)) field
     unfolding stagedBegun
-    first-start = ap (λ (v : Verdict). beside v (begunWith (startWriting planAfresh field) k (writtenFor v (plainSize planAfresh))) (refusedBegun v) .state .writing) ok
+    first-start = ap (λ (v : Verdict). beside v (begunWith (startWriting (stagedPlan s k (length r)) field) k (writtenFor v (plainSize (stagedPlan s k (length r))))) (refusedBegun v) .state .writing) ok
 
-    first-same : first .writing ≡ planStart
+    first-same : (stagedBegun s r k field .state) .writing ≡ planStart
     unfolding writingBegun
-    first-same = first-start ∙ sym (ap (λ (v : Verdict). beside v (startWriting planAfresh field) emptyWriting) plan-ok)
+    first-same = first-start ∙ sym (ap (λ (v : Verdict). beside v (startWriting (stagedPlan s k (length r)) field) emptyWriting) plan-ok)
 
-    first-replaced : first .replaced ≡ k
+    first-replaced : (stagedBegun s r k field .state) .replaced ≡ k
     unfolding stagedBegun
-    first-replaced = ap (λ (v : Verdict). beside v (begunWith (startWriting planAfresh field) k (writtenFor v (plainSize planAfresh))) (refusedBegun v) .state .replaced) ok
+    first-replaced = ap (λ (v : Verdict). beside v (begunWith (startWriting (stagedPlan s k (length r)) field) k (writtenFor v (plainSize (stagedPlan s k (length r))))) (refusedBegun v) .state .replaced) ok
 
-    whole-run : StagedReached (dataTaken (first .writing) steps) written last
-    whole-run = staged-run rooms [] [] first (record { reached = rw first-start (reached-start planAfresh field few); replaced-stays = first-replaced; data-first = refl })
+    whole-run : StagedReached (dataTaken ((stagedBegun s r k field .state) .writing) steps) (stagedRunBytes s r k field rooms) (stagedRunState s r k field rooms)
+    whole-run = staged-run rooms [] [] (stagedBegun s r k field .state) (record { reached = rw first-start (reached-start (stagedPlan s k (length r)) field few); replaced-stays = first-replaced; data-first = refl })
 
-    written-same : written ≡ bytesWritten planStart steps
-    written-same = steps-same rooms first .1 ∙ ap (λ (a : Writing). bytesWritten a steps) first-same
+    written-same : (stagedRunBytes s r k field rooms) ≡ bytesWritten planStart steps
+    written-same = steps-same rooms (stagedBegun s r k field .state) .1 ∙ ap (λ (a : Writing). bytesWritten a steps) first-same
 
-    last-same : last .writing ≡ afterSteps planStart steps
-    last-same = steps-same rooms first .0 ∙ ap (λ (a : Writing). afterSteps a steps) first-same
+    last-same : (stagedRunState s r k field rooms) .writing ≡ afterSteps planStart steps
+    last-same = steps-same rooms (stagedBegun s r k field .state) .0 ∙ ap (λ (a : Writing). afterSteps a steps) first-same
 
     -- no more bytes are written than begin answered
-    pub staged-bytes-bounded : length written ≤ plainSize planAfresh
-    staged-bytes-bounded = rw written-same (bytes-bounded planAfresh field plan-ok steps)
+    pub staged-bytes-bounded : length (stagedRunBytes s r k field rooms) ≤ plainSize (stagedPlan s k (length r))
+    staged-bytes-bounded = rw written-same (bytes-bounded (stagedPlan s k (length r)) field plan-ok steps)
 
     -- the image is complete when as many bytes are written as begin answered
-    module _ (whole : length written ≡ plainSize planAfresh) where
-      whole-same : length (bytesWritten planStart steps) ≡ plainSize planAfresh
+    module _ (whole : length (stagedRunBytes s r k field rooms) ≡ plainSize (stagedPlan s k (length r))) where
+      whole-same : length (bytesWritten planStart steps) ≡ plainSize (stagedPlan s k (length r))
       whole-same = ap length (sym written-same) ∙ whole
 
       -- the data taken is all data of the image written afresh
       all-data : dataTaken planStart steps ≡ freshData
       all-data =
           let t : dataTaken planStart steps ≡ take (length (dataTaken planStart steps)) freshData = rw first-same at (whole-run .data-first) in
-          let n = complete-data planAfresh field plan-ok steps whole-same in
+          let n = complete-data (stagedPlan s k (length r)) field plan-ok steps whole-same in
           let l = joined-long in
           t ∙ take-all (length (dataTaken planStart steps)) freshData (omega arith)
 
-      pub staged-finish : writingSummed (last .writing) .verdict ≡ Accepted
-      staged-finish = rw last-same (finish-accepts planAfresh field plan-ok steps (complete-data planAfresh field plan-ok steps whole-same))
+      pub staged-finish : writingSummed ((stagedRunState s r k field rooms) .writing) .verdict ≡ Accepted
+      staged-finish = rw last-same (finish-accepts (stagedPlan s k (length r)) field plan-ok steps (complete-data (stagedPlan s k (length r)) field plan-ok steps whole-same))
 
       -- with the checksum put in its place, the bytes written are the image written afresh
-      pub staged-checksum-put : over written checksumAt (beBytes 4 (writingSummed (last .writing) .checksum)) ≡ afresh s r k
+      pub staged-checksum-put : over (stagedRunBytes s r k field rooms) checksumAt (beBytes 4 (writingSummed ((stagedRunState s r k field rooms) .writing) .checksum)) ≡ afresh s r k
       unfolding afresh
       staged-checksum-put =
           ap₂ (λ (l : List ℕ) (a : Writing). over l checksumAt (beBytes 4 (writingSummed a .checksum))) written-same last-same
-          ∙ checksum-put planAfresh field plan-ok steps whole-same ∙ ap (plainImage planAfresh) all-data
+          ∙ checksum-put (stagedPlan s k (length r)) field plan-ok steps whole-same ∙ ap (plainImage (stagedPlan s k (length r))) all-data
 
     -- while the image is not complete, a step with room for a section's own header writes a byte or more
-    pub staged-progress : (room : ℕ) → length written < plainSize planAfresh → sectionHeaderSize ≤ room → 0 < length (stagedBytesOf last s r room)
+    pub staged-progress : (room : ℕ) → length (stagedRunBytes s r k field rooms) < plainSize (stagedPlan s k (length r)) → sectionHeaderSize ≤ room → 0 < length (stagedBytesOf (stagedRunState s r k field rooms) s r room)
     staged-progress room short wide =
         let end = afterSteps planStart steps in
-        let t = dataTaken (first .writing) steps in
+        let t = dataTaken ((stagedBegun s r k field .state) .writing) steps in
         let y = whole-run .reached in
         let sum = y .section-sum in
-        let up = before-le places (last .writing .«sections_begun») (planAfresh .count) (y .begun-few) in
+        let up = before-le places ((stagedRunState s r k field rooms) .writing .«sections_begun») ((stagedPlan s k (length r)) .count) (y .begun-few) in
         let long = joined-long in
-        let due : length (dueData last s r) ≡ min (last .writing .«section_left») (length freshData - length t) =
-        ap length (due-is t written last whole-run) ∙ length-take (last .writing .«section_left») (drop (length t) freshData)
-        ∙ ap (min (last .writing .«section_left»)) (length-drop (length t) freshData) in
-        let lent : (end .«section_left» ≡ 0 → ⊥) → 0 < length (dueData last s r) =
+        let due : length (dueData (stagedRunState s r k field rooms) s r) ≡ min ((stagedRunState s r k field rooms) .writing .«section_left») (length freshData - length t) =
+        ap length (due-is t (stagedRunBytes s r k field rooms) (stagedRunState s r k field rooms) whole-run) ∙ length-take ((stagedRunState s r k field rooms) .writing .«section_left») (drop (length t) freshData)
+        ∙ ap (min ((stagedRunState s r k field rooms) .writing .«section_left»)) (length-drop (length t) freshData) in
+        let lent : (end .«section_left» ≡ 0 → ⊥) → 0 < length (dueData (stagedRunState s r k field rooms) s r) =
         λ n.
         ⊎-elim
-        (λ (z : last .writing .«section_left» ≤ 0). absurd (n (ap (λ (a : Writing). a .«section_left») (sym last-same) ∙ (omega arith))))
-        (λ (h : 0 < last .writing .«section_left»). omega arith)
-        (le-or-lt (last .writing .«section_left») 0) in
+        (λ (z : (stagedRunState s r k field rooms) .writing .«section_left» ≤ 0). absurd (n (ap (λ (a : Writing). a .«section_left») (sym last-same) ∙ (omega arith))))
+        (λ (h : 0 < (stagedRunState s r k field rooms) .writing .«section_left»). omega arith)
+        (le-or-lt ((stagedRunState s r k field rooms) .writing .«section_left») 0) in
         let less : length (bytesWritten planStart steps) < plainSize planAfresh = rw written-same at short in
-        let some = moves planAfresh field plan-ok steps (dueData last s r) room less wide lent in
-        let same = ap (λ (a : Writing). length (stepBytes a (dueData last s r) room)) last-same in
+        let some = moves (stagedPlan s k (length r)) field plan-ok steps (dueData (stagedRunState s r k field rooms) s r) room less wide lent in
+        let same = ap (λ (a : Writing). length (stepBytes a (dueData (stagedRunState s r k field rooms) s r) room)) last-same in
         omega arith

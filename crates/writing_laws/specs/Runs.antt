@@ -3,9 +3,9 @@ use Prim.Native.Nat.{ℕ}
 use mathlib.Core.List.{List, [], _∷_, _++_}
 use lib.ListN.{take}
 use Rattle.octets.specs.Bytes.{beBytes}
-use Rattle.eif.specs.Plan.{headerBytes, bodyBytes}
+use Rattle.eif.specs.Plan.{dataBefore, headerBytes, bodyBytes}
 use Rattle.eif.specs.declared.Plan.{Plan}
-use Rattle.writing.specs.Writing.{writingStepped, stepBytes}
+use Rattle.writing.specs.Writing.{writingBegun, writingStepped, stepBytes}
 use Rattle.writing.specs.declared.Writing.{Writing}
 
 -- a step: the data lent, and how long the output buffer is
@@ -35,6 +35,20 @@ dataTaken a (t ∷ ts) = stepData a t ++ dataTaken (afterStep a t) ts
 unfoldable pub bytesWritten : Writing → List WriteStep → List ℕ
 bytesWritten a [] = []
 bytesWritten a (t ∷ ts) = bytesOfStep a t ++ bytesWritten (afterStep a t) ts
+
+-- a run of steps from begin: the state after it, the data that it takes, and the bytes that it writes
+abbrev pub runState : Plan → ℕ → List WriteStep → Writing
+runState p field ts = afterSteps (writingBegun p field .state) ts
+
+abbrev pub runData : Plan → ℕ → List WriteStep → List ℕ
+runData p field ts = dataTaken (writingBegun p field .state) ts
+
+abbrev pub runBytes : Plan → ℕ → List WriteStep → List ℕ
+runBytes p field ts = bytesWritten (writingBegun p field .state) ts
+
+-- how much data a plan needs
+abbrev pub dataNeeded : Plan → ℕ
+dataNeeded p = dataBefore (p .places) (p .count)
 
 -- the plain image of a plan and data, but with a number in the checksum field
 unfoldable pub imageWith : Plan → ℕ → List ℕ → List ℕ
