@@ -333,12 +333,25 @@ fn past_few(s: &[u8], from: usize) -> usize
     past_blocks(s, i)
 }
 
+// The place of the first odd byte from `from` on, or the end. It tests one byte before it looks for blocks, as a string is often empty.
+fn past_run(s: &[u8], from: usize) -> usize
+    requires { ⌜ from ≤ length (now s) ⌝ }
+    ensures { λ r. ⌜ (from ≤ r) × (r ≤ length (now (s .entry))) × BareRun (now (s .entry)) from r ⌝ }
+{
+    if from < s.len() {
+        if odd(s[from]) == 0 {
+            return past_bare(s, from);
+        }
+    }
+    from
+}
+
 // The place after a run of bytes that are not odd and characters beyond ASCII.
 fn past_chars(s: &[u8], from: usize) -> usize
     requires { ⌜ from ≤ length (now s) ⌝ }
     ensures { λ r. ⌜ (from ≤ r) × (r ≤ length (now (s .entry))) × Skipped (now (s .entry)) from r ⌝ }
 {
-    let mut i = past_bare(s, from);
+    let mut i = past_run(s, from);
     while i < s.len() {
         let n = wide_char(s, i);
         if n == 0 {

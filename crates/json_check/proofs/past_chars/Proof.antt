@@ -15,7 +15,7 @@ abbrev μ-loop : tie.MeasureT-loop
 μ-loop s from i₀ i = length s - i
 
 loop-holds : tie.Need-loop-holds Inv-loop μ-loop
-loop-holds c = let e = c .past-bare .ensures in (e .0, e .1, passed-run _ _ _ (e .0) (e .1) (e .2))
+loop-holds c = let e = c .past-run .ensures in (e .0, e .1, passed-run _ _ _ (e .0) (e .1) (e .2))
 
 loop-less : tie.Need-loop-less Inv-loop μ-loop
 loop-less c = omega (arith, above-other (c .before .before .wide-char .result) 0 (omega arith) (c .before .if1 .left))
