@@ -229,8 +229,8 @@ module _ (s r : List ℕ) (k field : ℕ) (ok : stagedVerdict s (length r) k k �
   -- ---- the laws
 
   module _ (rooms : List ℕ) where
-    abbrev steps : List WriteStep
-    steps = stagedSteps (stagedBegun s r k field .state) s r rooms
+    abbrev asSteps : List WriteStep
+    asSteps = stagedSteps (stagedBegun s r k field .state) s r rooms
 
     abbrev planStart : Writing
     planStart = writingBegun (stagedPlan s k (length r)) field .state
@@ -247,47 +247,47 @@ module _ (s r : List ℕ) (k field : ℕ) (ok : stagedVerdict s (length r) k k �
     unfolding stagedBegun
     first-replaced = ap (λ (v : Verdict). beside v (begunWith (startWriting (stagedPlan s k (length r)) field) k (writtenFor v (plainSize (stagedPlan s k (length r))))) (refusedBegun v) .state .replaced) ok
 
-    whole-run : StagedReached (dataTaken ((stagedBegun s r k field .state) .writing) steps) (stagedRunBytes s r k field rooms) (stagedRunState s r k field rooms)
+    whole-run : StagedReached (dataTaken ((stagedBegun s r k field .state) .writing) asSteps) (stagedRunBytes s r k field rooms) (stagedRunState s r k field rooms)
     whole-run = staged-run rooms [] [] (stagedBegun s r k field .state) (record { reached = rw first-start (reached-start (stagedPlan s k (length r)) field few); replaced-stays = first-replaced; data-first = refl })
 
-    written-same : (stagedRunBytes s r k field rooms) ≡ bytesWritten planStart steps
-    written-same = steps-same rooms (stagedBegun s r k field .state) .1 ∙ ap (λ (a : Writing). bytesWritten a steps) first-same
+    written-same : (stagedRunBytes s r k field rooms) ≡ bytesWritten planStart asSteps
+    written-same = steps-same rooms (stagedBegun s r k field .state) .1 ∙ ap (λ (a : Writing). bytesWritten a asSteps) first-same
 
-    last-same : (stagedRunState s r k field rooms) .writing ≡ afterSteps planStart steps
-    last-same = steps-same rooms (stagedBegun s r k field .state) .0 ∙ ap (λ (a : Writing). afterSteps a steps) first-same
+    last-same : (stagedRunState s r k field rooms) .writing ≡ afterSteps planStart asSteps
+    last-same = steps-same rooms (stagedBegun s r k field .state) .0 ∙ ap (λ (a : Writing). afterSteps a asSteps) first-same
 
     -- no more bytes are written than begin answered
     pub staged-bytes-bounded : length (stagedRunBytes s r k field rooms) ≤ plainSize (stagedPlan s k (length r))
-    staged-bytes-bounded = rw written-same (bytes-bounded (stagedPlan s k (length r)) field plan-ok steps)
+    staged-bytes-bounded = rw written-same (bytes-bounded (stagedPlan s k (length r)) field plan-ok asSteps)
 
     -- the image is complete when as many bytes are written as begin answered
     module _ (whole : length (stagedRunBytes s r k field rooms) ≡ plainSize (stagedPlan s k (length r))) where
-      whole-same : length (bytesWritten planStart steps) ≡ plainSize (stagedPlan s k (length r))
+      whole-same : length (bytesWritten planStart asSteps) ≡ plainSize (stagedPlan s k (length r))
       whole-same = ap length (sym written-same) ∙ whole
 
       -- the data taken is all data of the image written afresh
-      all-data : dataTaken planStart steps ≡ freshData
+      all-data : dataTaken planStart asSteps ≡ freshData
       all-data =
-          let t : dataTaken planStart steps ≡ take (length (dataTaken planStart steps)) freshData = rw first-same at (whole-run .data-first) in
-          let n = complete-data (stagedPlan s k (length r)) field plan-ok steps whole-same in
+          let t : dataTaken planStart asSteps ≡ take (length (dataTaken planStart asSteps)) freshData = rw first-same at (whole-run .data-first) in
+          let n = complete-data (stagedPlan s k (length r)) field plan-ok asSteps whole-same in
           let l = joined-long in
-          t ∙ take-all (length (dataTaken planStart steps)) freshData (omega arith)
+          t ∙ take-all (length (dataTaken planStart asSteps)) freshData (omega arith)
 
       pub staged-finish : writingSummed ((stagedRunState s r k field rooms) .writing) .verdict ≡ Accepted
-      staged-finish = rw last-same (finish-accepts (stagedPlan s k (length r)) field plan-ok steps (complete-data (stagedPlan s k (length r)) field plan-ok steps whole-same))
+      staged-finish = rw last-same (finish-accepts (stagedPlan s k (length r)) field plan-ok asSteps (complete-data (stagedPlan s k (length r)) field plan-ok asSteps whole-same))
 
       -- with the checksum put in its place, the bytes written are the image written afresh
       pub staged-checksum-put : over (stagedRunBytes s r k field rooms) checksumAt (beBytes 4 (writingSummed ((stagedRunState s r k field rooms) .writing) .checksum)) ≡ afresh s r k
       unfolding afresh
       staged-checksum-put =
           ap₂ (λ (l : List ℕ) (a : Writing). over l checksumAt (beBytes 4 (writingSummed a .checksum))) written-same last-same
-          ∙ checksum-put (stagedPlan s k (length r)) field plan-ok steps whole-same ∙ ap (plainImage (stagedPlan s k (length r))) all-data
+          ∙ checksum-put (stagedPlan s k (length r)) field plan-ok asSteps whole-same ∙ ap (plainImage (stagedPlan s k (length r))) all-data
 
     -- while the image is not complete, a step with room for a section's own header writes a byte or more
     pub staged-progress : (room : ℕ) → length (stagedRunBytes s r k field rooms) < plainSize (stagedPlan s k (length r)) → sectionHeaderSize ≤ room → 0 < length (stagedBytesOf (stagedRunState s r k field rooms) s r room)
     staged-progress room short wide =
-        let end = afterSteps planStart steps in
-        let t = dataTaken ((stagedBegun s r k field .state) .writing) steps in
+        let end = afterSteps planStart asSteps in
+        let t = dataTaken ((stagedBegun s r k field .state) .writing) asSteps in
         let y = whole-run .reached in
         let sum = y .section-sum in
         let up = before-le places ((stagedRunState s r k field rooms) .writing .«sections_begun») ((stagedPlan s k (length r)) .count) (y .begun-few) in
@@ -301,7 +301,7 @@ module _ (s r : List ℕ) (k field : ℕ) (ok : stagedVerdict s (length r) k k �
         (λ (z : (stagedRunState s r k field rooms) .writing .«section_left» ≤ 0). absurd (n (ap (λ (a : Writing). a .«section_left») (sym last-same) ∙ (omega arith))))
         (λ (h : 0 < (stagedRunState s r k field rooms) .writing .«section_left»). omega arith)
         (le-or-lt ((stagedRunState s r k field rooms) .writing .«section_left») 0) in
-        let less : length (bytesWritten planStart steps) < plainSize planAfresh = rw written-same at short in
-        let some = moves (stagedPlan s k (length r)) field plan-ok steps (dueData (stagedRunState s r k field rooms) s r) room less wide lent in
+        let less : length (bytesWritten planStart asSteps) < plainSize planAfresh = rw written-same at short in
+        let some = moves (stagedPlan s k (length r)) field plan-ok asSteps (dueData (stagedRunState s r k field rooms) s r) room less wide lent in
         let same = ap (λ (a : Writing). length (stepBytes a (dueData (stagedRunState s r k field rooms) s r) room)) last-same in
         omega arith
