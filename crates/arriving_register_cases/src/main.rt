@@ -5,6 +5,7 @@
 use arriving_fingerprint::Fingerprinting;
 use arriving_registers::Measuring;
 use case_images::Shape;
+use case_images::WORKED_SIZE;
 use case_lines::hex;
 use case_lines::labelled;
 use case_lines::say;
@@ -242,12 +243,54 @@ fn refused(image: &mut [u8]) {
     compare(b"a section elsewhere by the table", image);
 }
 
+// ---- the section of the next bytes, and a piece after the end
+
+// What the next thousand bytes belong to, after so many bytes of an image.
+fn span(image: &[u8], taken: usize) {
+    let fed = arriving::feed(arriving::begin(), part(image, 0, taken), ALL);
+    let state = fed.state;
+    let found = arriving_sections::next(state, 1000);
+    labelled(b"after ", taken as u64);
+    labelled(b" bytes: section ", found.place);
+    labelled(b", together ", found.length);
+    labelled(b", begun ", found.begun);
+    text(b"\n");
+}
+
+// The rows of FORMAT.md, Check while it arrives.
+fn spans() {
+    let mut image = [0u8; WORKED_SIZE];
+    case_images::put_image(&mut image, Shape::WORKED, b"Ka");
+    span(&image, 0);
+    span(&image, 547);
+    span(&image, 548);
+    span(&image, 560);
+    span(&image, 561);
+    span(&image, 573);
+    span(&image, 574);
+    span(&image, 586);
+}
+
+fn after_the_end(image: &[u8]) {
+    let done = arriving_registers::finish(measured(image, 100, ALL));
+    let ended = done.state;
+    let more = arriving_registers::feed(ended, b"more", ALL);
+    labelled(b"after the end: registers take ", more.count);
+    let told = arriving_fingerprint::finish(fingerprinted(image, 100, ALL));
+    let last = told.state;
+    let again = arriving_fingerprint::feed(last, b"more", ALL);
+    labelled(b", the fingerprint takes ", again.count);
+    text(b"\n");
+}
+
 fn main() {
     let mut image = [0u8; 633];
     case_images::put_image(&mut image, Shape::IN_ORDER, b"kernelcmdfirstsecondthird");
     shapes();
     compare(b"three ramdisks", &image);
     long_sections();
+    spans();
+    after_the_end(&image);
     refused(&mut image);
     compare(b"nothing", b"");
 }

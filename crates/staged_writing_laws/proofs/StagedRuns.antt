@@ -301,7 +301,7 @@ module _ (s r : List ℕ) (k field : ℕ) (ok : stagedVerdict s (length r) k k �
         (λ (z : (stagedRunState s r k field rooms) .writing .«section_left» ≤ 0). absurd (n (ap (λ (a : Writing). a .«section_left») (sym last-same) ∙ (omega arith))))
         (λ (h : 0 < (stagedRunState s r k field rooms) .writing .«section_left»). omega arith)
         (le-or-lt ((stagedRunState s r k field rooms) .writing .«section_left») 0) in
-        let less : length (bytesWritten planStart asSteps) < plainSize planAfresh = rw written-same at short in
+        let less : length (bytesWritten planStart asSteps) < plainSize (stagedPlan s k (length r)) = rw written-same at short in
         let some = moves (stagedPlan s k (length r)) field plan-ok asSteps (dueData (stagedRunState s r k field rooms) s r) room less wide lent in
         let same = ap (λ (a : Writing). length (stepBytes a (dueData (stagedRunState s r k field rooms) s r) room)) last-same in
         omega arith

@@ -306,7 +306,7 @@ module _ (p : Plan) (field : ℕ) (ok : planLength p .verdict ≡ Accepted) (ts 
         let up = before-le (p .places) begunSoFar (p .count) (r .begun-few) in
         let b = ap (dataBefore (p .places)) e in
         let z : begunSoFar - 1 ≡ m = omega arith in
-        let start : dataBefore (p .places) m ≤ length taken = let q = ap (dataBefore (p .places)) z in let l = r .last-start in omega arith in
+        let start : dataBefore (p .places) m ≤ length (runData p field ts) = let q = ap (dataBefore (p .places)) z in let l = r .last-start in omega arith in
         let long : length due ≡ (runState p field ts) .«section_left» = simp (length-take, length-drop) (omega arith) in
         let both = length-append (runData p field ts) due in
         ap₂ upTo given-is e
