@@ -736,6 +736,25 @@ EIF_MUST_USE eif_answer eif_roll_length(const uint8_t *image, size_t image_lengt
 EIF_MUST_USE eif_answer eif_roll_write(const uint8_t *image, size_t image_length, uint8_t *out,
                                        size_t out_length);
 
+/* The same from a reading that the caller already has, with no second checksum:
+ *
+ *     eif_reading reading = eif_read(image, image_length);
+ *     eif_fingerprint fingerprint = eif_read_fingerprint(image, image_length, reading);
+ *     eif_answer roll = eif_read_roll_write(image, image_length, reading, out, out_length);
+ *
+ * With the reading that eif_read answered for the same bytes, accepted or refused, these answer what eif_roll_length and
+ * eif_roll_write answer; so do eif_read_fingerprint and eif_read_staged_part for eif_image_fingerprint and
+ * eif_staged_part. Every value is a reading to these calls, whatever the image: a number other than 0 is a refusal, which
+ * is answered with its index and position. If the number is 0, the 32 places are used, and of each section only the bytes
+ * inside the image. Reserved fields, ramdisk_count and first_ramdisk are not looked at.
+ *
+ * A record has the data that lies in the image, and its head the length of that data. Sections of a reading that no image
+ * has can overlap: a length that does not fit is answered as UINT64_MAX. Refusals: the reading's own; then, of
+ * eif_read_roll_write, 14. */
+EIF_MUST_USE eif_answer eif_read_roll_length(const uint8_t *image, size_t image_length, eif_reading reading);
+EIF_MUST_USE eif_answer eif_read_roll_write(const uint8_t *image, size_t image_length, eif_reading reading,
+                                            uint8_t *out, size_t out_length);
+
 /* Reads a boot roll, which is accepted exactly when it is the roll of some accepted image.
  * Refusals: for the flags record 16 (head cut), 17, 16 (data cut); for each record after it 16 (head
  * cut), 17, 5, 16 (data cut), 10, 11; then 18, 12, 1. A roll that was written before rolls had flags is
@@ -745,6 +764,10 @@ EIF_MUST_USE eif_roll_reading eif_roll_read(const uint8_t *roll, size_t roll_len
 /* The fingerprint of an image: the SHA-384 of its boot roll (FORMAT.md, The boot roll). The roll is not built: each
  * section is hashed where it lies. Refusals: the image's own. */
 EIF_MUST_USE eif_fingerprint eif_image_fingerprint(const uint8_t *image, size_t image_length);
+
+/* The same from a reading that the caller already has, as eif_read_roll_write takes it. Refusals: the reading's own. */
+EIF_MUST_USE eif_fingerprint eif_read_fingerprint(const uint8_t *image, size_t image_length,
+                                                  eif_reading reading);
 
 /* Computes the fingerprint of an image that arrives in pieces of any size, with no room for its bytes
  * (FORMAT.md, The boot roll):
@@ -785,6 +808,12 @@ EIF_MUST_USE eif_answer eif_sign1_write(eif_sign1_claim claim, const uint8_t *si
 EIF_MUST_USE eif_staged_part_answer eif_staged_part(const uint8_t *base, size_t base_length,
                                                     uint64_t replacement_length,
                                                     uint64_t replaced, uint64_t shown);
+
+/* The same from a reading of the base that the caller already has, as eif_read_roll_write takes it. The part lies within
+ * base_length bytes, or is the replacement. Refusals: the reading's own; 5 where it has more than 32 sections; 27; 1. */
+EIF_MUST_USE eif_staged_part_answer eif_read_staged_part(eif_reading reading, uint64_t base_length,
+                                                         uint64_t replacement_length,
+                                                         uint64_t replaced, uint64_t shown);
 
 /* The roll of the image written afresh, over the start of out, as eif_roll_write writes it, and its length.
  * A short out is refused by 14, after the others. */

@@ -174,6 +174,53 @@ static void try_fingerprint(const uint8_t *image, size_t length) {
     check(zero(one.reserved, sizeof one.reserved), "reserved of a fingerprint");
 }
 
+/* The calls over the reading that eif_read answers: byte for byte what the calls that read the image answer. */
+static void try_own_reading(const uint8_t *image, size_t length) {
+    static eif_fingerprint fingerprint, read_fingerprint;
+    static eif_answer roll, read_roll;
+    static eif_staged_part_answer part, read_part;
+    static uint8_t out[ROLL_LENGTH], read_out[ROLL_LENGTH];
+    eif_reading reading = eif_read(image, length);
+    fingerprint = eif_image_fingerprint(image, length);
+    read_fingerprint = eif_read_fingerprint(image, length, reading);
+    check(memcmp(&fingerprint, &read_fingerprint, sizeof fingerprint) == 0, "fingerprint from a reading");
+    roll = eif_roll_length(image, length);
+    read_roll = eif_read_roll_length(image, length, reading);
+    check(memcmp(&roll, &read_roll, sizeof roll) == 0, "roll length from a reading");
+    for (size_t room = ROLL_LENGTH - 1; room <= ROLL_LENGTH; room++) {
+        roll = eif_roll_write(image, length, out, room);
+        read_roll = eif_read_roll_write(image, length, reading, read_out, room);
+        check(memcmp(&roll, &read_roll, sizeof roll) == 0 && memcmp(out, read_out, sizeof out) == 0,
+              "roll from a reading");
+    }
+    for (uint64_t shown = 0; shown < 4; shown++) {
+        part = eif_staged_part(image, length, 7, 2, shown);
+        read_part = eif_read_staged_part(reading, length, 7, 2, shown);
+        check(memcmp(&part, &read_part, sizeof part) == 0, "staged part from a reading");
+    }
+}
+
+/* Readings that no image has. */
+static void try_other_readings(const uint8_t *image) {
+    uint8_t out[ROLL_LENGTH];
+    eif_reading reading = eif_read(image, IMAGE_LENGTH);
+    reading.number = EIF_CHECKSUM_DIFFERS;
+    reading.position = UINT64_MAX;
+    check(eif_read_fingerprint(image, IMAGE_LENGTH, reading).position == UINT64_MAX, "refused fingerprint");
+    check(eif_read_roll_write(image, IMAGE_LENGTH, reading, out, sizeof out).length == 0, "refused roll");
+    reading.number = EIF_ACCEPTED;
+    reading.count = EIF_MAX_SECTIONS + 1;
+    check(eif_read_staged_part(reading, IMAGE_LENGTH, 1, 0, 0).number == EIF_WRONG_COUNT, "33 sections");
+    reading.count = 3;
+    reading.sections[0].position.value = UINT64_MAX;
+    check(eif_read_staged_part(reading, IMAGE_LENGTH, 1, 1, 0).start == IMAGE_LENGTH, "a part past the end");
+    reading.sections[0].length.value = UINT64_MAX;
+    check(eif_read_roll_length(image, IMAGE_LENGTH, reading).length == ROLL_LENGTH - 1, "a section past the end");
+    check(eif_read_staged_part(reading, IMAGE_LENGTH, 1, 1, 0).number == EIF_IMAGE_TOO_LONG, "a length near 2 to the 64");
+    check(eif_read_fingerprint(NULL, 0, reading).number == EIF_ACCEPTED, "fingerprint of null by a reading");
+    check(eif_read_roll_write(NULL, 0, reading, NULL, 0).number == EIF_OUTPUT_TOO_SHORT, "roll of null by a reading");
+}
+
 static void try_arriving(const uint8_t *image, size_t length) {
     static eif_arriving_fed one, other;
     static eif_arriving_finished end, other_end;
@@ -251,6 +298,9 @@ int main(void) {
     try_registers(image, CUT_LENGTH);
     try_fingerprint(image, IMAGE_LENGTH);
     try_fingerprint(image, CUT_LENGTH);
+    try_own_reading(image, IMAGE_LENGTH);
+    try_own_reading(image, CUT_LENGTH);
+    try_other_readings(image);
     try_arriving(image, IMAGE_LENGTH);
     try_arriving(image, CUT_LENGTH);
     try_measuring(image, IMAGE_LENGTH);

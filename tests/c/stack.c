@@ -115,12 +115,17 @@ static void call_fingerprinting_finish(void) {
     fingerprinted = eif_fingerprinting_finish(fingerprinting_fed.state);
 }
 static void call_image_fingerprint(void) { fingerprint = eif_image_fingerprint(image, image_length); }
+static void call_read_fingerprint(void) { fingerprint = eif_read_fingerprint(image, image_length, reading); }
 static void call_sha384_begin(void) { begun = eif_sha384_begin(); }
 static void call_sha384_update(void) { fed = eif_sha384_update(begun, image, image_length); }
 static void call_sha384_finish(void) { digest = eif_sha384_finish(fed.state); }
 static void call_roll_length(void) { answer = eif_roll_length(image, image_length); }
 static void call_roll_write(void) {
     answer = eif_roll_write(image, image_length, out, sizeof out);
+}
+static void call_read_roll_length(void) { answer = eif_read_roll_length(image, image_length, reading); }
+static void call_read_roll_write(void) {
+    answer = eif_read_roll_write(image, image_length, reading, out, sizeof out);
 }
 static void call_roll_read(void) { roll_reading = eif_roll_read(roll, roll_length); }
 /* The longest, which is 281 bytes. */
@@ -131,6 +136,9 @@ static void call_sign1_read(void) { sign1_reading = eif_sign1_read(sign1, sizeof
 /* Its last ramdisk replaced, which is shown. */
 static void call_staged_part(void) {
     staged_part = eif_staged_part(image, image_length, data_length, SECTIONS - 1, SECTIONS - 1);
+}
+static void call_read_staged_part(void) {
+    staged_part = eif_read_staged_part(reading, image_length, data_length, SECTIONS - 1, SECTIONS - 1);
 }
 static void call_staged_roll_length(void) {
     answer = eif_staged_roll_length(image, image_length, data, data_length, SECTIONS - 1);
@@ -257,15 +265,19 @@ static const struct {
     {"eif_fingerprinting_feed", call_fingerprinting_feed},
     {"eif_fingerprinting_finish", call_fingerprinting_finish},
     {"eif_image_fingerprint", call_image_fingerprint},
+    {"eif_read_fingerprint", call_read_fingerprint},
     {"eif_sha384_begin", call_sha384_begin},
     {"eif_sha384_update", call_sha384_update},
     {"eif_sha384_finish", call_sha384_finish},
     {"eif_roll_length", call_roll_length},
+    {"eif_read_roll_length", call_read_roll_length},
     {"eif_roll_write", call_roll_write},
+    {"eif_read_roll_write", call_read_roll_write},
     {"eif_roll_read", call_roll_read},
     {"eif_sign1_write", call_sign1_write},
     {"eif_sign1_read", call_sign1_read},
     {"eif_staged_part", call_staged_part},
+    {"eif_read_staged_part", call_read_staged_part},
     {"eif_staged_roll_length", call_staged_roll_length},
     {"eif_staged_roll_write", call_staged_roll_write},
     {"eif_staged_registers", call_staged_registers},

@@ -7,5 +7,6 @@ pub mod Strict
 pub mod Signature
 pub mod Assembly
 pub mod Staging
+pub mod Readings
 pub mod WritePieces
 pub mod Worked

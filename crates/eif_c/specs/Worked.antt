@@ -12,6 +12,7 @@ use Rattle.eif_c.specs.Listed.{flatListed, listOf}
 use Rattle.eif_c.specs.Signature.{flatSign1}
 use Rattle.eif_c.specs.Assembly.{flatStepped}
 use Rattle.eif_c.specs.Staging.{flatPart}
+use Rattle.eif_c.specs.Readings.{givenReading}
 use Rattle.eif_c.specs.Strict.{flatJson}
 
 pub fed-flat :
@@ -63,6 +64,39 @@ listed-flat = refl
 
 pub list-read : listOf (record { count = 5; sections = oneFlat ∷ [] }) ≡ record { count = 5; sections = oneSection ∷ [] }
 list-read = refl
+
+-- a reading that is handed in, each reserved field with a value of its own
+pub reading-given :
+    givenReading
+    (record {
+      number = 7;
+      reserved = 1;
+      version = 5;
+      flags = 6;
+      count = 11;
+      index = 2;
+      position = 44;
+      «default_mem» = 9;
+      «default_cpus» = 10;
+      «ramdisk_mark» = 120;
+      «ramdisk_count» = 12;
+      «first_ramdisk» = 13;
+      architecture = 8;
+      «reserved_after» = 14;
+      sections = record { kind = 1; flags = 2; reserved = 15; position = record { 0 = 3 }; length = record { 0 = 4 } } ∷ [];
+    })
+    ≡ record {
+      verdict = refuseAt 7 2 44;
+      version = 5;
+      flags = 6;
+      architecture = 8;
+      «default_mem» = 9;
+      «default_cpus» = 10;
+      count = 11;
+      sections = oneSection ∷ [];
+      «ramdisk_mark» = 120;
+    }
+reading-given = refl
 
 pub json-flat :
     flatJson Text ∷ flatJson (Fault 3) ∷ []

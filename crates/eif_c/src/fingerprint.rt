@@ -29,7 +29,7 @@ pub struct EifFingerprintingFinished {
 
 // ---- an image in memory, and one with a section replaced
 
-fn flat_fingerprint(answer: Fingerprinted) -> EifFingerprint
+pub fn flat_fingerprint(answer: Fingerprinted) -> EifFingerprint
     ensures { λ r. ⌜ r ≡ flatFingerprint answer ⌝ }
 {
     let verdict = answer.verdict;

@@ -9,6 +9,7 @@ ghost use Rattle.eif_flat.specs.Flat.{flatWritten};
 ghost use Rattle.eif_c.specs.Measure.{flatRegisters};
 ghost use Rattle.eif_c.specs.Staging.{flatPart};
 use eif::DataLength;
+use staged::StagedPart;
 
 // Where a section's data lies: `in_replacement` is 1 where it is the replacement, whole, and 0 where it is a part of the base. `reserved` is 0.
 #[repr(C)]
@@ -22,16 +23,9 @@ pub struct EifStagedPart {
     pub length: DataLength,
 }
 
-#[no_mangle]
-pub extern "C" fn eif_staged_part(
-    base: &[u8],
-    size: u64,
-    replaced: u64,
-    shown: u64,
-) -> EifStagedPart
-    ensures { λ r. ⌜ r ≡ flatPart (stagedPlace (now (base .entry)) size replaced shown) ⌝ }
+pub fn flat_part(found: StagedPart) -> EifStagedPart
+    ensures { λ r. ⌜ r ≡ flatPart found ⌝ }
 {
-    let found = staged_view::place(base, size, replaced, shown);
     let verdict = found.verdict;
     let length = found.length;
     EifStagedPart {
@@ -43,6 +37,18 @@ pub extern "C" fn eif_staged_part(
         start: found.start,
         length,
     }
+}
+
+#[no_mangle]
+pub extern "C" fn eif_staged_part(
+    base: &[u8],
+    size: u64,
+    replaced: u64,
+    shown: u64,
+) -> EifStagedPart
+    ensures { λ r. ⌜ r ≡ flatPart (stagedPlace (now (base .entry)) size replaced shown) ⌝ }
+{
+    flat_part(staged_view::place(base, size, replaced, shown))
 }
 
 #[no_mangle]

@@ -1,11 +1,10 @@
--- `eif_staged_part` meets its contract: what it calls ensures the answer, made flat.
--- Assumes nothing.
+-- `eif_staged_part` meets its contract: what it calls ensures the answer, made flat. Assumes nothing.
+use mathlib.Core.Path.{ap, _∙_}
 use borrow.Author.Needs.{needs}
+use Rattle.staged.specs.declared.StagedPart.{StagedPart}
+use Rattle.eif_c.specs.Staging.{flatPart}
 use Rattle.eif_c.proofs.staging.eif_staged_part.Statement.{statement}
 use Rattle.eif_c.proofs.staging.eif_staged_part.Tie as tie
-
-returns : tie.Need-returns
-returns c = cc
 
 pub eif-staged-part-spec : {M : Type 1} → statement M
 eif-staged-part-spec =
@@ -13,6 +12,4 @@ eif-staged-part-spec =
     (tie.spec
     (λ c κs. search needs)
     (λ c κs. search needs)
-    (λ c κs. search needs)
-    (λ c κs. search needs)
-    returns)
+    (λ c. c .flat-part .ensures ∙ ap (λ (p : StagedPart). flatPart p) (c .before .place .ensures)))
