@@ -3,7 +3,8 @@
 use crate::strict::compare_strict;
 use crate::{Call, Message, Output, PlanInput, ReadingInput, Rng, Tally};
 use eif::raw::fingerprint::{image_fingerprint, FingerprintAnswer};
-use eif::raw::{self, Answer, Reading, RegistersAnswer, RollReading, StreamSections};
+use eif::raw::staged::staged_part;
+use eif::raw::{self, readings, Answer, Reading, RegistersAnswer, RollReading, StreamSections};
 use eif::{
     DataLength, Digest, FilePosition, Fingerprint, Refusal, Registers, RollPosition, SectionType,
     Stream, StreamPosition, DIGEST_LENGTH, REGISTERS,
@@ -309,6 +310,36 @@ pub fn compare_image(rng: &mut Rng, ordinal: u64, image: &[u8], tally: &mut Tall
     );
     tally.add(Call::Registers, number);
     compare_fingerprint(input, tally);
+    compare_read_calls(input, reading);
+}
+
+/// The calls over the image's own reading, with the calls that read the image. The latter are held to the twin's.
+fn compare_read_calls(input: &Input, reading: Reading) {
+    let image = input.bytes;
+    let fingerprint = readings::read_fingerprint(image, reading);
+    let expected = image_fingerprint(image);
+    same(input, "fingerprint from a reading", fingerprint, expected);
+    let length = readings::read_roll_length(image, reading);
+    let expected = raw::roll_length(image);
+    same(input, "roll length from a reading", length, expected);
+    let room = length.length as usize;
+    for room in [room.saturating_sub(1), room, room + 1] {
+        let (mut out, mut expected_out) = (vec![0x55; room], vec![0x55; room]);
+        let written = readings::read_roll_write(image, reading, &mut out);
+        let expected = raw::roll_write(image, &mut expected_out);
+        same(
+            input,
+            "roll from a reading",
+            (written, out),
+            (expected, expected_out),
+        );
+    }
+    let (end, size) = (image.len() as u64, input.ordinal);
+    for shown in 0..=u64::from(reading.count) {
+        let part = readings::read_staged_part(reading, end, size, 1, shown);
+        let expected = staged_part(image, size, 1, shown);
+        same(input, "staged part from a reading", part, expected);
+    }
 }
 
 /// The fingerprint of an image, by the C interface, the Rust interface and the twin.

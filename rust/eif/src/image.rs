@@ -1,5 +1,6 @@
 //! Reading an image.
 
+use crate::raw::readings;
 use crate::{
     raw, Architecture, DataLength, FilePosition, Fingerprint, Place, Plan, Refusal, Registers,
     Section, SectionType, SECTION_HEADER_LENGTH,
@@ -260,10 +261,20 @@ impl<'a> Image<'a> {
         Registers(raw::registers(self.bytes).registers)
     }
 
-    /// The image's fingerprint. The image is read again for it.
+    /// The image's fingerprint. Its checksum is not computed again.
     pub fn fingerprint(&self) -> Fingerprint {
-        // These bytes were accepted, so there is no refusal.
-        Fingerprint(raw::fingerprint::image_fingerprint(self.bytes).digest)
+        // The reading is accepted, so there is no refusal.
+        Fingerprint(readings::read_fingerprint(self.bytes, self.answer()).digest)
+    }
+
+    /// The image's boot roll. Its checksum is not computed again.
+    pub fn roll(&self) -> Vec<u8> {
+        // The reading is accepted, and the second call has the length of the first as its room, so there is no refusal.
+        // The roll is shorter than the image, so its length is a usize.
+        let length = readings::read_roll_length(self.bytes, self.answer()).length;
+        let mut roll = vec![0; length as usize];
+        readings::read_roll_write(self.bytes, self.answer(), &mut roll);
+        roll
     }
 
     /// The data of all sections, joined in file order.

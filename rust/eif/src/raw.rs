@@ -14,6 +14,7 @@ use std::mem::{align_of, offset_of, size_of};
 pub mod assembler;
 pub mod fingerprint;
 pub mod measuring;
+pub mod readings;
 pub mod sign1;
 pub mod staged;
 pub mod staged_writing;

@@ -41,7 +41,7 @@ pub fn write_roll(image: &[u8], out: &mut [u8]) -> Result<usize, Refusal> {
     raw::roll_write(image, out).accepted_part()
 }
 
-/// The roll of `image`. The image is read twice.
+/// The roll of `image`. The image is read once.
 ///
 /// ```
 /// // What is no image has no roll.
@@ -52,9 +52,7 @@ pub fn write_roll(image: &[u8], out: &mut [u8]) -> Result<usize, Refusal> {
 ///
 /// The image's own refusal.
 pub fn roll_to_vec(image: &[u8]) -> Result<Vec<u8>, Refusal> {
-    let mut roll = vec![0; roll_length(image)?];
-    write_roll(image, &mut roll)?;
-    Ok(roll)
+    Ok(crate::read(image)?.roll())
 }
 
 /// Reads a roll. It is accepted exactly when it is the roll of some accepted image.
