@@ -5,7 +5,7 @@ use mathlib.Core.List.{List, []}
 use borrow.Author.Tests.{eq-eqb, ne-eqb, le-leb, lt-leb}
 use lib.ListN.{length, take, drop}
 use Rattle.eif.specs.Numbers.{placeCount, sizeLimit}
-use Rattle.eif.specs.Answers.{beside}
+use Rattle.eif.specs.Answers.{andThen, beside}
 use Rattle.eif.specs.Layout.{offsetAt, sectionHeaderSize}
 use Rattle.eif.specs.Output.{writtenFor}
 use Rattle.eif.specs.Reading.{readImage}
@@ -26,6 +26,7 @@ use Rattle.writing.specs.Writing.{startWriting, writingBegun}
 use Rattle.writing.specs.declared.Begun.{Begun}
 use Rattle.staged_writing.specs.StagedWriting.{begunWith, refusedBegun, stagedBegun, listedBegun, baseData, wholeData}
 use Rattle.staged_writing.specs.declared.StagedWriting.{StagedWriting}
+use Rattle.staged_writing.specs.declared.StagedBegun.{StagedBegun}
 
 -- ---- from a reading
 
@@ -34,10 +35,15 @@ module _ (x : Reading) (size k field : ℕ) where
   unfolding listedBegun
   begun-refused r e = simp e
 
-  pub begun-listed : listedVerdict x size k k ≡ Accepted
+  pub plan-refused : (r : Refusal) → listedVerdict x size k k ≡ Accepted → writingBegun (withPlace (planOf x) k size) field .written .verdict ≡ Refused r
+      → refusedBegun (Refused r) ≡ listedBegun x size k field
+  unfolding listedBegun
+  plan-refused r e f = simp (e, f)
+
+  pub begun-listed : listedVerdict x size k k ≡ Accepted → writingBegun (withPlace (planOf x) k size) field .written .verdict ≡ Accepted
       → begunWith (writingBegun (withPlace (planOf x) k size) field .state) k (writingBegun (withPlace (planOf x) k size) field .written) ≡ listedBegun x size k field
   unfolding listedBegun
-  begun-listed e = simp e
+  begun-listed e f = simp (e, f)
 
 -- ---- the data of the section begun last
 
@@ -79,15 +85,20 @@ module _ (s r : List ℕ) (k field : ℕ) where
   unfolding writingBegun planLength
   begun-plan e = rw (plan-accepted e) refl
 
+  -- the answer by the view's verdict and the plan's
+  abbrev answer : Verdict → Verdict → StagedBegun
+  answer v w = beside (andThen v w) (begunWith (writingBegun freshPlan field .state) k (writingBegun freshPlan field .written)) (refusedBegun (andThen v w))
+
   by-verdict : (v : Verdict) → stagedVerdict s (length r) k k ≡ v
-      → beside v (begunWith (writingBegun freshPlan field .state) k (writingBegun freshPlan field .written)) (refusedBegun v)
+      → answer v (writingBegun freshPlan field .written .verdict)
       ≡ beside v (begunWith (startWriting freshPlan field) k (writtenFor v (plainSize freshPlan))) (refusedBegun v)
   by-verdict (Refused f) e = refl
-  by-verdict Accepted e = ap (λ (b : Begun). begunWith (b .state) k (b .written)) (begun-plan e)
+  by-verdict Accepted e =
+      ap (answer Accepted) (ap (λ (b : Begun). b .written .verdict) (begun-plan e)) ∙ ap (λ (b : Begun). begunWith (b .state) k (b .written)) (begun-plan e)
 
   -- the form over a reading agrees with the form over a base, for every base
   pub begun-agrees : listedBegun (readImage s) (length r) k field ≡ stagedBegun s r k field
   unfolding listedBegun stagedBegun stagedPlan
   begun-agrees =
-      ap (λ (v : Verdict). beside v (begunWith (writingBegun freshPlan field .state) k (writingBegun freshPlan field .written)) (refusedBegun v)) (verdict-agrees s (length r) k k)
+      ap (λ (v : Verdict). answer v (writingBegun freshPlan field .written .verdict)) (verdict-agrees s (length r) k k)
       ∙ by-verdict (stagedVerdict s (length r) k k) refl

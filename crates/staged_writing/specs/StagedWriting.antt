@@ -6,7 +6,7 @@ use lib.Dec.{eqb, leb}
 use lib.ListN.{length, take, drop}
 use Rattle.octets.specs.Logic.{choose}
 use Rattle.eif.specs.Numbers.{placeCount}
-use Rattle.eif.specs.Answers.{beside}
+use Rattle.eif.specs.Answers.{andThen, beside}
 use Rattle.eif.specs.Layout.{offsetAt, sectionHeaderSize}
 use Rattle.eif.specs.Plan.{plannedSize, plainSize, planOf}
 use Rattle.eif.specs.Output.{writtenFor}
@@ -38,11 +38,12 @@ stagedBegun s r k field =
     let plan = stagedPlan s k (length r) in
     beside verdict (begunWith (startWriting plan field) k (writtenFor verdict (plainSize plan))) (refusedBegun verdict)
 
--- the same from a reading x of the base and a replacement of `size` bytes. The plan of a reading that is of no image may be refused too.
+-- the same from a reading x of the base and a replacement of `size` bytes. The plan of a
+-- reading that is of no image may be refused too.
 unfoldable pub listedBegun : Reading → ℕ → ℕ → ℕ → StagedBegun
 listedBegun x size k field =
-    let verdict = listedVerdict x size k k in
     let start = writingBegun (withPlace (planOf x) k size) field in
+    let verdict = andThen (listedVerdict x size k k) (start .written .verdict) in
     beside verdict (begunWith (start .state) k (start .written)) (refusedBegun verdict)
 
 -- ---- a step

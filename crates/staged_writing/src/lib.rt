@@ -64,6 +64,10 @@ pub fn begin_listed(reading: Reading, size: u64, replaced: u64, checksum: u32) -
     let begun = writing::begin(staged_view::plan_listed(reading, replaced, size), checksum);
     let started = begun.state;
     let written = begun.written;
+    let planned = written.verdict;
+    let Verdict::Accepted = planned else {
+        return refused(planned);
+    };
     let state = StagedWriting {
         writing: started,
         replaced,

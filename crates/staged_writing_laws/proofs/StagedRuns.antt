@@ -1,5 +1,5 @@
 -- The laws of writing a staged view in pieces: a run of steps from `begin` writes the image written afresh but for its checksum field, however the
--- output buffers are cut. The only hypothesis is that begin accepts.
+-- output buffers are cut. All laws suppose that begin accepts; what else a law supposes stands in its statement.
 use Prim.Native.Nat.{ℕ, zero, suc, _+_, _-_, _<_, _≤_, min}
 use mathlib.Core.Path.{_≡_, refl, sym, ap, ap₂, _∙_}
 use mathlib.Core.List.{List, [], _∷_, _++_, append-assoc, append-nil}
@@ -29,8 +29,8 @@ use Rattle.staged.proofs.Accept.{Stages, staged→}
 use Rattle.staged.proofs.Afresh.{partAt, changedPlan, plan-is, parts-are, part-replaced, part-kept, size-kept}
 use Rattle.writing.specs.Writing.{startWriting, emptyWriting, writingBegun, writingStepped, stepBytes, writingSummed}
 use Rattle.writing.specs.declared.Writing.{Writing}
-use Rattle.writing_laws.specs.Runs.{WriteStep, afterSteps, dataTaken, bytesWritten}
-use Rattle.writing_laws.proofs.Runs.{bytes-bounded, complete-data, finish-accepts, checksum-put, moves}
+use Rattle.writing_laws.specs.Runs.{WriteStep, afterSteps, dataTaken, bytesWritten, imageWith}
+use Rattle.writing_laws.proofs.Runs.{bytes-bounded, complete-data, complete-plain, finish-accepts, finish-checksum, checksum-put, written-first, moves}
 use Rattle.writing_laws.proofs.Reached.{Reached, reached-start, reached-step}
 use Rattle.staged_writing.specs.StagedWriting.{begunWith, refusedBegun, stagedBegun, baseData, wholeData, dueData, stagedStepped}
 use Rattle.staged_writing.specs.declared.StagedWriting.{StagedWriting}
@@ -282,6 +282,21 @@ module _ (s r : List ℕ) (k field : ℕ) (ok : stagedVerdict s (length r) k k �
       staged-checksum-put =
           ap₂ (λ (l : List ℕ) (a : Writing). over l checksumAt (beBytes 4 (writingSummed a .checksum))) written-same last-same
           ∙ checksum-put (stagedPlan s k (length r)) field plan-ok asSteps whole-same ∙ ap (plainImage (stagedPlan s k (length r))) all-data
+
+      -- the checksum is that of the image written afresh, and begun with it the bytes written are that image
+      pub staged-plain : field ≡ writingSummed ((stagedRunState s r k field rooms) .writing) .checksum → stagedRunBytes s r k field rooms ≡ afresh s r k
+      unfolding afresh
+      staged-plain e =
+          let sum = ap (λ (a : Writing). writingSummed a .checksum) last-same in
+          let right = finish-checksum (stagedPlan s k (length r)) field plan-ok asSteps (complete-data (stagedPlan s k (length r)) field plan-ok asSteps whole-same) in
+          written-same ∙ complete-plain (stagedPlan s k (length r)) field plan-ok asSteps whole-same (e ∙ sum ∙ right) ∙ ap (plainImage (stagedPlan s k (length r))) all-data
+
+    -- a run that is not complete has written the first bytes of the image written afresh, but for the checksum field
+    pub staged-written-first : stagedRunBytes s r k field rooms ≡ take (length (stagedRunBytes s r k field rooms)) (imageWith (stagedPlan s k (length r)) field (stagedJoined s r k))
+    staged-written-first =
+        let t : dataTaken planStart asSteps ≡ take (length (dataTaken planStart asSteps)) freshData = rw first-same at (whole-run .data-first) in
+        let w = written-first (stagedPlan s k (length r)) field plan-ok asSteps freshData joined-long (sym t) in
+        written-same ∙ w ∙ ap (λ (l : List ℕ). take (length l) (imageWith (stagedPlan s k (length r)) field freshData)) (sym written-same)
 
     -- while the image is not complete, a step with room for a section's own header writes a byte or more
     pub staged-progress : (room : ℕ) → length (stagedRunBytes s r k field rooms) < plainSize (stagedPlan s k (length r)) → sectionHeaderSize ≤ room → 0 < length (stagedBytesOf (stagedRunState s r k field rooms) s r room)

@@ -58,14 +58,21 @@ pub section-limits :
 unfolding writingStepped dataStep headerStep beginsSection sectionStep
 section-limits = refl
 
--- the bytes of the second place's own header, and how much data it needs then
+-- the bytes of the second place's own header
 pub section-bytes : stepBytes (writingWith 548 1 0 0 2) [] 20 ≡ 0 ∷ 2 ∷ 0 ∷ 7 ∷ 0 ∷ 0 ∷ 0 ∷ 0 ∷ 0 ∷ 0 ∷ 0 ∷ 3 ∷ []
 unfolding stepBytes dataBytes headerPart beginsSection nextHeader sectionHeader
 section-bytes = refl
 
--- finish: 15 where nothing was begun or data is missing
+-- finish: 15 where the plan was refused (count 0) or data is missing
 pub finish-numbers :
     map (λ a. numberOf (writingSummed a .verdict)) (writingWith 548 2 0 0 2 ∷ writingWith 548 2 0 1 2 ∷ writingWith 548 0 0 0 0 ∷ writingWith 548 0 0 1 0 ∷ [])
     ≡ 0 ∷ 15 ∷ 15 ∷ 15 ∷ []
 unfolding writingSummed finishVerdict
 finish-numbers = refl
+
+-- the section begun needs three bytes then, and the next place follows
+pub section-after :
+    writingStepped (writingWith 548 1 0 0 2) [] 20 .state .«section_left» ∷ writingStepped (writingWith 548 1 0 0 2) [] 20 .state .«sections_begun» ∷ []
+    ≡ 3 ∷ 2 ∷ []
+unfolding writingStepped beginsSection sectionStep
+section-after = refl

@@ -65,7 +65,7 @@ sectionsIn a = min (a .count) placeCount
 abbrev pub ownHeaders : List Place → ℕ → ℕ → List ℕ
 ownHeaders l n i = joinFrom (λ j. sectionHeader (placeAt l j)) n i
 
--- the data that a step writes, with room for so many bytes
+-- the data that a step writes, with this room
 unfoldable pub dataBytes : Writing → List ℕ → ℕ → List ℕ
 dataBytes a lent room = take (min (a .«section_left») (min (length lent) room)) lent
 

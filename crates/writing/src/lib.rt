@@ -22,8 +22,8 @@ use eif::SectionHeader;
 use eif::Verdict;
 use eif::Written;
 
-// What is still to be written of an image, and the checksum's remainder over what was written. In this order C leaves no room between
-// the fields.
+// What is still to be written of an image, and the checksum's remainder over the header and what was written after it. In this order C leaves
+// no room between the fields.
 #[repr(C)]
 pub struct Writing {
     pub header_written: u64,
@@ -213,7 +213,7 @@ fn sections(state: Writing) -> usize
     octets::lesser(state.count as usize, PLACES)
 }
 
-// Whether a step begins a section, with room for so many bytes.
+// Whether a step with this room begins a section.
 fn begins(state: Writing, room: usize) -> bool
     ensures { λ r. ⌜ r ≡ beginsSection state room ⌝ }
 {

@@ -1,5 +1,5 @@
--- The laws of writing an image in pieces: what a run of steps from `begin` takes, writes and answers, however data and output buffers are cut. The
--- only hypothesis is that begin accepts the plan.
+-- The laws of writing an image in pieces: what a run of steps from `begin` takes, writes and answers, however data and output buffers are cut. All
+-- laws suppose that begin accepts the plan; what else a law supposes stands in its statement.
 use Prim.Native.Nat.{ℕ, suc, _+_, _-_, _*_, _<_, _≤_, min}
 use mathlib.Core.Path.{_≡_, refl, sym, ap, ap₂, _∙_}
 use mathlib.Core.Bool.{Bool, true, false, true≢false}
@@ -66,6 +66,11 @@ module _ (p : Plan) (field : ℕ) (ok : planLength p .verdict ≡ Accepted) (ts 
       ∙ ap₂ (λ (m n : ℕ). m + n)
       (length-take-le ((runState p field ts) .«header_written») (headerBytes p ++ beBytes 4 field) (let h = r .header-few in let l = header-long in omega arith))
       (length-sections-so-far (p .places) (runData p field ts) begunSoFar (r .last-start) (omega arith))
+
+  -- begin answers the length of the plan's plain image
+  pub begin-length : writingBegun p field .written .length ≡ plainSize p
+  unfolding writingBegun planLength
+  begin-length = ap (λ (v : Verdict). beside v (plainSize p) 0) ok
 
   -- ---- what is taken
 
@@ -275,6 +280,24 @@ module _ (p : Plan) (field : ℕ) (ok : planLength p .verdict ≡ Accepted) (ts 
           let up = before-le (p .places) begunSoFar (p .count) (r .begun-few) in
           moves (λ n. absurd (n (omega arith)))
 
+    -- so a step with room for an own header that writes nothing, though data is lent or all data is taken, says that the image is complete
+    pub ended : sectionHeaderSize ≤ room → length (stepBytes (runState p field ts) lent room) ≡ 0 → 0 < length lent → length (runBytes p field ts) ≡ plainSize p
+    ended wide none some =
+        let b = bytes-bounded in
+        ⊎-elim
+        (λ (h : plainSize p ≤ length (runBytes p field ts)). omega arith)
+        (λ (h : length (runBytes p field ts) < plainSize p). let m = progress h wide some in absurd (omega arith))
+        (le-or-lt (plainSize p) (length (runBytes p field ts)))
+
+    pub ended-all-taken : sectionHeaderSize ≤ room → length (stepBytes (runState p field ts) lent room) ≡ 0 → length (runData p field ts) ≡ dataNeeded p
+        → length (runBytes p field ts) ≡ plainSize p
+    ended-all-taken wide none all =
+        let b = bytes-bounded in
+        ⊎-elim
+        (λ (h : plainSize p ≤ length (runBytes p field ts)). omega arith)
+        (λ (h : length (runBytes p field ts) < plainSize p). let m = progress-all-taken h wide all in absurd (omega arith))
+        (le-or-lt (plainSize p) (length (runBytes p field ts)))
+
   -- ---- a run that is not complete
 
   module _ (given : List ℕ) (sized : length given ≡ (dataNeeded p)) (same : take (length (runData p field ts)) given ≡ (runData p field ts)) where
@@ -351,3 +374,14 @@ module _ (p : Plan) (field : ℕ) (ok : planLength p .verdict ≡ Accepted) (ts 
             ∙ ap (λ (x : List ℕ). header ++ x) (join-add (sectionBytes (p .places) given) begunSoFar (p .count - begunSoFar) 0 ∙ ap (λ (x : List ℕ). x ++ rest) (sections-first m e) ∙ append-assoc (upTo (runData p field ts) begunSoFar) due rest)
             ∙ sym (append-assoc header (upTo (runData p field ts) begunSoFar) (due ++ rest))
             ∙ ap (λ (x : List ℕ). x ++ (due ++ rest)) (sym (reached .bytes-are ∙ ap (λ (x : List ℕ). x ++ upTo (runData p field ts) begunSoFar) all))
+
+-- ---- the data passed twice: a run from any number gives the checksum, and a second run from that checksum, over the same data, writes the plain image
+
+pub passed-twice : (p : Plan) (field : ℕ) (ok : planLength p .verdict ≡ Accepted) (ts us : List WriteStep)
+    → length (runData p field ts) ≡ dataNeeded p
+    → (let sum = writingSummed (runState p field ts) .checksum in
+    runData p sum us ≡ runData p field ts → length (runBytes p sum us) ≡ plainSize p → runBytes p sum us ≡ plainImage p (runData p field ts))
+passed-twice p field ok ts us all same whole =
+    let sum = writingSummed (runState p field ts) .checksum in
+    complete-plain p sum ok us whole (finish-checksum p field ok ts all ∙ ap (λ (d : List ℕ). crc32 (headerBytes p ++ bodyBytes p d)) (sym same))
+    ∙ ap (plainImage p) same
