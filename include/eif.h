@@ -34,7 +34,7 @@
  * A call that reads an image first hands that refusal on as it is, position too.
  *
  * Answers have no padding, and their reserved fields are 0: equal answers are equal by memcmp. The exceptions are
- * eif_writing and eif_staged_writing, whose places have padding as the places of a plan do.
+ * eif_writing and eif_staged_writing, whose places have padding as the places of a plan do, and answers that have one.
  *
  * Each stream, register, roll or fingerprint call on an image reads the whole image again, checksum included. To
  * copy a stream in pieces, read the image once and take eif_copy_sections, which reads only what it
@@ -382,7 +382,7 @@ typedef struct eif_writing {
     uint64_t sections_begun; /* how many sections' own headers were written */
     uint64_t section_left;   /* how many bytes of data the section begun last still needs */
     uint64_t data_left;      /* how many bytes of data all sections together still need */
-    uint64_t count;          /* that of the plan; above EIF_MAX_SECTIONS it counts as that */
+    uint64_t count;          /* that of the plan; more than EIF_MAX_SECTIONS counts as EIF_MAX_SECTIONS */
     eif_place places[EIF_MAX_SECTIONS]; /* those of the plan */
     uint8_t header[EIF_HEADER_LENGTH];  /* the image's header, with the given number as its checksum */
     uint32_t checksum; /* CRC-32 of the header's first 544 bytes and of all bytes written after the header, before the
@@ -631,7 +631,7 @@ EIF_MUST_USE eif_answer eif_write(eif_plan plan, const uint8_t *data, size_t dat
  *     eif_writing_begun begun = eif_writing_begin(plan, 0);
  *     ... refused where begun.answer.number is not 0; else the image has begun.answer.length bytes ...
  *     eif_writing state = begun.state;
- *     ... until as many bytes were written: have data, if any is left, and an empty out ...
+ *     ... until as many bytes were written: have data, if any is left, and a buffer out that may be overwritten ...
  *         eif_writing_stepped done = eif_writing_step(state, data, data_length, out, out_length);
  *         state = done.state;
  *         ... the first done.written bytes of out are the image's next; data begins done.taken bytes further on ...
@@ -838,11 +838,12 @@ EIF_MUST_USE eif_fingerprint eif_staged_fingerprint(const uint8_t *base, size_t 
                                                     size_t replacement_length,
                                                     uint64_t replaced);
 
-/* Writes the image written afresh in pieces, from base and replacement, with no room for it (FORMAT.md, Writing in
- * pieces):
+/* Writes in pieces the image of the base with the section replaced, from base and replacement, with no room for the
+ * image (FORMAT.md, Writing in pieces):
  *
  *     eif_staged_writing_begun begun =
  *         eif_staged_writing_begin(base, base_length, replacement, replacement_length, replaced, checksum);
+ *     ... refused where begun.answer.number is not 0 ...
  *     eif_staged_writing state = begun.state;
  *     ... until begun.answer.length bytes were written ...
  *         eif_staged_writing_stepped done =
@@ -850,6 +851,7 @@ EIF_MUST_USE eif_fingerprint eif_staged_fingerprint(const uint8_t *base, size_t 
  *         state = done.state;
  *         ... the first done.written bytes of out are the image's next ...
  *     eif_answer sum = eif_staged_writing_finish(state);
+ *     ... sum.length is the checksum, as for eif_writing_finish ...
  *
  * out and checksum are as for eif_writing_step and eif_writing_begin. Only eif_staged_writing_begin reads the base and
  * its checksum; base and replacement must stay the same until the image is complete. Refusals of

@@ -63,15 +63,17 @@ static int to_nowhere(const uint8_t *bytes, size_t length) {
 
 /* ---- an image from its parts */
 
-/* Writes the image of a plan, piece by piece. Answers its checksum, or a refusal. */
-static eif_answer write_image(eif_plan plan, uint32_t checksum, destination put) {
+/* Writes the image of a plan, piece by piece, and puts its checksum in *checksum. Answers whether all of it was
+ * written: it is not if the plan is refused, the data ends too early, or the bytes cannot go on. */
+static int write_image(eif_plan plan, uint32_t field, destination put, uint32_t *checksum) {
     uint8_t piece[PIECE], out[PIECE];
-    eif_writing_begun begun = eif_writing_begin(plan, checksum);
+    eif_writing_begun begun = eif_writing_begin(plan, field);
     eif_writing state = begun.state;
     uint64_t left = begun.answer.length;
     size_t read = 0, used = 0, length = 0;
+    eif_answer sum;
     if (begun.answer.number != EIF_ACCEPTED) {
-        return begun.answer;
+        return 0;
     }
     while (left > 0) {
         eif_writing_stepped next;
@@ -82,36 +84,34 @@ static eif_answer write_image(eif_plan plan, uint32_t checksum, destination put)
         }
         next = eif_writing_step(state, piece + used, length - used, out, sizeof out);
         if (next.written == 0 || !put(out, (size_t)next.written)) {
-            break; /* the data has ended too early, or the bytes cannot go on */
+            return 0;
         }
         state = next.state;
         used += (size_t)next.taken;
         left -= next.written;
     }
-    if (left > 0) {
-        begun.answer.number = EIF_DATA_LENGTH_DIFFERS;
-        return begun.answer;
-    }
-    return eif_writing_finish(state);
+    sum = eif_writing_finish(state);
+    *checksum = (uint32_t)sum.length;
+    return sum.number == EIF_ACCEPTED;
 }
 
 /* To the storage: the image is written once, and the checksum is put in its place afterwards. */
 static int store_image(eif_plan plan) {
-    eif_answer sum = write_image(plan, 0, to_storage);
-    if (sum.number != EIF_ACCEPTED) {
+    uint32_t checksum = 0;
+    if (!write_image(plan, 0, to_storage, &checksum)) {
         return 0;
     }
     for (unsigned i = 0; i < 4; i++) {
-        image[EIF_CHECKSUM_POSITION + i] = (uint8_t)(sum.length >> (24 - 8 * i));
+        image[EIF_CHECKSUM_POSITION + i] = (uint8_t)(checksum >> (24 - 8 * i));
     }
     return 1;
 }
 
-/* To the radio, where nothing can be put afterwards: the data is passed twice. */
+/* To the radio, where nothing can be put afterwards: the data is passed twice. If it differs the second time, so does
+ * the checksum. */
 static int send_image(eif_plan plan) {
-    eif_answer sum = write_image(plan, 0, to_nowhere);
-    return sum.number == EIF_ACCEPTED &&
-           write_image(plan, (uint32_t)sum.length, to_radio).number == EIF_ACCEPTED;
+    uint32_t first = 0, second = 0;
+    return write_image(plan, 0, to_nowhere, &first) && write_image(plan, first, to_radio, &second) && first == second;
 }
 
 static void sender(void) {
@@ -121,31 +121,35 @@ static void sender(void) {
 
 /* ---- an image with one section replaced */
 
-/* Writes the stored image with one section replaced. Answers its checksum, or a refusal. */
-static eif_answer write_mended(uint32_t checksum, destination put) {
+/* Writes the stored image with one section replaced, and puts its checksum in *checksum. Answers whether all of it was
+ * written. */
+static int write_replaced(uint32_t field, destination put, uint32_t *checksum) {
     uint8_t out[PIECE];
     eif_staged_writing_begun begun =
-        eif_staged_writing_begin(image, image_length, replacement, sizeof replacement, REPLACED, checksum);
+        eif_staged_writing_begin(image, image_length, replacement, sizeof replacement, REPLACED, field);
     eif_staged_writing state = begun.state;
     uint64_t left = begun.answer.length;
+    eif_answer sum;
+    if (begun.answer.number != EIF_ACCEPTED) {
+        return 0;
+    }
     while (left > 0) {
         eif_staged_writing_stepped next =
             eif_staged_writing_step(state, image, image_length, replacement, sizeof replacement, out, sizeof out);
         if (next.written == 0 || !put(out, (size_t)next.written)) {
-            break;
+            return 0;
         }
         state = next.state;
         left -= next.written;
     }
-    if (left > 0) {
-        begun.answer.number = EIF_DATA_LENGTH_DIFFERS;
-    }
-    return begun.answer.number == EIF_ACCEPTED ? eif_staged_writing_finish(state) : begun.answer;
+    sum = eif_staged_writing_finish(state);
+    *checksum = (uint32_t)sum.length;
+    return sum.number == EIF_ACCEPTED;
 }
 
-static void mended_sender(void) {
-    eif_answer sum = write_mended(0, to_nowhere);
-    done = sum.number == EIF_ACCEPTED && write_mended((uint32_t)sum.length, to_radio).number == EIF_ACCEPTED;
+static void replaced_sender(void) {
+    uint32_t first = 0, second = 0;
+    done = write_replaced(0, to_nowhere, &first) && write_replaced(first, to_radio, &second) && first == second;
 }
 
 /* ---- the test */
@@ -180,29 +184,29 @@ static size_t check_image(void) {
     return bytes;
 }
 
-static size_t check_mended(void) {
-    size_t bytes = used_by(mended_sender);
+static size_t check_replaced(void) {
+    size_t bytes = used_by(replaced_sender);
     eif_fingerprint one, other;
     check(bytes != 0, "a stack to try");
     check_sent(REPLACED, replacement, sizeof replacement);
     one = eif_image_fingerprint(sent, sent_length);
     other = eif_staged_fingerprint(image, image_length, replacement, sizeof replacement, REPLACED);
-    check(one.number == EIF_ACCEPTED && memcmp(&one, &other, sizeof one) == 0, "the fingerprint of the mended image");
+    check(one.number == EIF_ACCEPTED && memcmp(&one, &other, sizeof one) == 0, "the fingerprint of what was sent");
     return bytes;
 }
 
 int main(void) {
-    size_t whole, mended;
+    size_t whole, replaced;
     for (size_t i = 0; i < sizeof data; i++) {
         data[i] = (uint8_t)(i % 251 + i / SECTION_LENGTH);
     }
     memset(replacement, 0x5a, sizeof replacement);
     whole = check_image();
-    mended = check_mended();
+    replaced = check_replaced();
     if (failures == 0) {
         printf("send: an image of %zu bytes by %d: %zu of %d bytes used, stack, states and buffers\n",
                image_length, PIECE, whole, MEMORY);
-        printf("send: with a section replaced, %zu bytes: %zu of %d bytes used\n", sent_length, mended, MEMORY);
+        printf("send: with a section replaced, %zu bytes: %zu of %d bytes used\n", sent_length, replaced, MEMORY);
     }
     return failures != 0;
 }
