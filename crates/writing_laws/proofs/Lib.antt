@@ -1,3 +1,4 @@
 pub mod Sections
 pub mod Reached
 pub mod Runs
+pub mod Witnesses
