@@ -1,1 +1,2 @@
 pub mod StagedWriting
+pub mod Worked
