@@ -54,7 +54,7 @@ static void add(const uint8_t *out, uint64_t written, size_t room) {
     image_length += (size_t)written;
 }
 
-/* Writes the image with pieces of so many bytes and room for so many. Answers the checksum, and how many bytes of data
+/* Writes the image with pieces of `piece` bytes and buffers of `room` bytes. Answers the checksum, and how many bytes of data
  * were taken of one more than there are. */
 static uint64_t write_by(uint32_t checksum, size_t piece, size_t room, size_t *taken) {
     uint8_t out[ROOM];
@@ -141,33 +141,33 @@ static void try_order(void) {
     try_refused(plan, EIF_WRONG_VERSION, 0);
 }
 
-/* The command line replaced, with room for so many bytes. */
+/* The command line replaced, with buffers of `room` bytes. */
 static void try_staged(const char *replacement, size_t room) {
     static uint8_t afresh[ROOM];
-    const uint8_t *mended = (const uint8_t *)replacement;
-    size_t mended_length = strlen(replacement), length = LENGTH - 5 + mended_length;
-    eif_staged_writing_begun begun = eif_staged_writing_begin(expected, LENGTH, mended, mended_length, 2, 0);
+    const uint8_t *part = (const uint8_t *)replacement;
+    size_t part_length = strlen(replacement), length = LENGTH - 5 + part_length;
+    eif_staged_writing_begun begun = eif_staged_writing_begin(expected, LENGTH, part, part_length, 2, 0);
     eif_staged_writing state = begun.state;
     eif_plan plan = plan_of();
     uint8_t out[ROOM], joined[ROOM];
     check(is(begun.answer, EIF_ACCEPTED, length), "the length of the image written afresh");
     check(state.replaced == 2, "the replaced section's number");
     memcpy(joined, data, 4);
-    memcpy(joined + 4, mended, mended_length);
-    put_place(&plan, 2, EIF_COMMAND_LINE, mended_length);
-    check(eif_write(plan, joined, 4 + mended_length, afresh, sizeof afresh).length == length, "the image afresh");
+    memcpy(joined + 4, part, part_length);
+    put_place(&plan, 2, EIF_COMMAND_LINE, part_length);
+    check(eif_write(plan, joined, 4 + part_length, afresh, sizeof afresh).length == length, "the image afresh");
     image_length = 0;
     for (unsigned steps = 0; steps < 4 * ROOM && image_length < length; steps++) {
         eif_staged_writing_stepped done;
         memset(out, STAYS, sizeof out);
-        done = eif_staged_writing_step(state, expected, LENGTH, mended, mended_length, out, room);
+        done = eif_staged_writing_step(state, expected, LENGTH, part, part_length, out, room);
         add(out, done.written, room);
         state = done.state;
     }
     check(eif_staged_writing_finish(state).number == EIF_ACCEPTED, "the staged image is complete");
     put_checksum(eif_staged_writing_finish(state).length);
     check(image_length == length && memcmp(image, afresh, length) == 0, "the staged image");
-    check(eif_staged_writing_step(state, expected, LENGTH, mended, mended_length, out, ROOM).written == 0,
+    check(eif_staged_writing_step(state, expected, LENGTH, part, part_length, out, ROOM).written == 0,
           "nothing after the end of a staged image");
 }
 
@@ -183,7 +183,7 @@ static void try_staged_refused(size_t base_length, uint64_t replaced, unsigned n
     check(is(eif_staged_writing_finish(begun.state), EIF_DATA_LENGTH_DIFFERS, 0), "a refused base has no checksum");
 }
 
-/* A state that no run reaches: so many sections begun, this one replaced, and base and replacement of such lengths.
+/* A state that no run reaches: `begun` sections begun, `replaced` replaced, and a base of `base_length` bytes.
  * Its step writes data alone. */
 static void try_staged_any(uint64_t begun, uint64_t replaced, size_t base_length, const char *written) {
     eif_staged_writing state = eif_staged_writing_begin(expected, LENGTH, bytes, DATA, 2, 0).state;

@@ -245,7 +245,7 @@ fn refused(image: &mut [u8]) {
 
 // ---- the section of the next bytes, and a piece after the end
 
-// What the next thousand bytes belong to, after so many bytes of an image.
+// Prints what the next thousand bytes belong to, after the first `taken` bytes of an image.
 fn span(image: &[u8], taken: usize) {
     let fed = arriving::feed(arriving::begin(), part(image, 0, taken), ALL);
     let state = fed.state;

@@ -138,7 +138,7 @@ fn after(run: Run, answer: Stepped, bytes: &[u8]) -> Run {
     }
 }
 
-// A step with room for so many bytes, of which this program has six sizes.
+// A step with room for this many bytes, of which this program has six sizes.
 fn step(run: Run, lent: &[u8], room: usize) -> Run {
     let state = run.state;
     if room == 0 {

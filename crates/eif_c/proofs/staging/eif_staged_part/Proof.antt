@@ -1,4 +1,4 @@
--- `eif_staged_part` meets its contract: what it calls ensures the answer, made flat. Assumes nothing.
+-- `eif_staged_part` meets its contract: what it calls ensures the answer, made flat.
 use mathlib.Core.Path.{ap, _∙_}
 use borrow.Author.Needs.{needs}
 use Rattle.staged.specs.declared.StagedPart.{StagedPart}
