@@ -1,5 +1,7 @@
 // The Enclave Image File: its vocabulary. The definitions that all contracts cite stand in specs/; docs/FORMAT.md has the same
 // rules in words. The code here is a section type's own tests, and how a refusal is made.
+#![tactic(auto)]
+
 ghost use Rattle.std.specs.Prelude.{◌≡◌};
 ghost use Rattle.eif.specs.Answers.{refuse, refuse_at};
 ghost use Rattle.eif.specs.Rules.{boot_type, allowed_in};
@@ -26,7 +28,7 @@ pub const METADATA_VERSION: u16 = 4;
 // ---- layout
 
 // The file's header: its size, its magic number and where its fields stand.
-#[derive(Drop)]
+#[derive(Clone, Copy)]
 pub struct Header;
 
 impl Header {
@@ -64,7 +66,7 @@ impl Header {
 }
 
 // A section's own header: its size and where its fields stand.
-#[derive(Drop)]
+#[derive(Clone, Copy)]
 pub struct SectionHeader;
 
 impl SectionHeader {
@@ -81,7 +83,7 @@ impl SectionHeader {
 }
 
 // A record's head in a boot roll: its size, where its fields stand, and the type of the end record.
-#[derive(Drop)]
+#[derive(Clone, Copy)]
 pub struct RecordHead;
 
 impl RecordHead {
@@ -95,7 +97,7 @@ impl RecordHead {
 }
 
 // The flags record, a boot roll's first: its type, the length of its data, and its size.
-#[derive(Drop)]
+#[derive(Clone, Copy)]
 pub struct FlagsRecord;
 
 impl FlagsRecord {
@@ -110,24 +112,24 @@ impl FlagsRecord {
 
 // A position in the file, in a stream and in a boot roll, and a length of data.
 #[repr(C)]
-#[derive(Drop)]
+#[derive(Clone, Copy)]
 pub struct FilePosition(pub u64);
 
 #[repr(C)]
-#[derive(Drop)]
+#[derive(Clone, Copy)]
 pub struct StreamPosition(pub u64);
 
 #[repr(C)]
-#[derive(Drop)]
+#[derive(Clone, Copy)]
 pub struct RollPosition(pub u64);
 
 #[repr(C)]
-#[derive(Drop)]
+#[derive(Clone, Copy)]
 pub struct DataLength(pub u64);
 
 // ---- section types
 
-#[derive(Drop)]
+#[derive(Clone, Copy)]
 pub struct SectionType;
 
 impl SectionType {
@@ -169,7 +171,7 @@ impl SectionType {
 
 // Why something is refused: the answer number, the index of the section or record that it is about, else 0, and where in the
 // file or the roll the field at fault stands, else 0 (FORMAT.md, Answer numbers and Positions).
-#[derive(Drop)]
+#[derive(Clone, Copy)]
 pub struct Refusal {
     pub number: u8,
     pub index: u64,
@@ -237,7 +239,7 @@ impl Refusal {
     pub const MESSAGE_TOO_LONG: u8 = 29;
 }
 
-#[derive(Drop)]
+#[derive(Clone, Copy)]
 pub enum Verdict {
     Accepted,
     Refused(Refusal),
@@ -267,7 +269,7 @@ impl Verdict {
 
 // What a reading says of a section. `kind` is its type.
 #[repr(C)]
-#[derive(Drop)]
+#[derive(Clone, Copy)]
 pub struct Section {
     pub kind: u16,
     pub flags: u16,
@@ -287,7 +289,7 @@ impl Section {
 
 // `architecture` is the lowest bit of the flags; `ramdisk_mark` is a term of FORMAT.md: its bit i is one exactly when section i
 // is a ramdisk.
-#[derive(Drop)]
+#[derive(Clone, Copy)]
 pub struct Reading {
     pub verdict: Verdict,
     pub version: u16,
@@ -304,7 +306,7 @@ pub struct Reading {
 
 // A section to be written.
 #[repr(C)]
-#[derive(Drop)]
+#[derive(Clone, Copy)]
 pub struct Place {
     pub kind: u16,
     pub flags: u16,
@@ -313,7 +315,7 @@ pub struct Place {
 
 // What an image is to hold, but for the data; places past the count are ignored.
 #[repr(C)]
-#[derive(Drop)]
+#[derive(Clone, Copy)]
 pub struct Plan {
     pub version: u16,
     pub flags: u16,
@@ -324,7 +326,7 @@ pub struct Plan {
 }
 
 // What a writer of an image or of a roll answers: the length of what it wrote.
-#[derive(Drop)]
+#[derive(Clone, Copy)]
 pub struct Written {
     pub verdict: Verdict,
     pub length: u64,
@@ -333,7 +335,7 @@ pub struct Written {
 // ---- the measured streams
 
 // Terms of FORMAT.md, Measured streams.
-#[derive(Drop)]
+#[derive(Clone, Copy)]
 pub enum Stream {
     Whole,
     Boot,
@@ -341,21 +343,21 @@ pub enum Stream {
 }
 
 // The sections of a stream, in its order: the first `count` places.
-#[derive(Drop)]
+#[derive(Clone, Copy)]
 pub struct StreamSections {
     pub count: u64,
     pub sections: [Section; PLACES],
 }
 
 // What copying from a stream answers: the number of bytes copied.
-#[derive(Drop)]
+#[derive(Clone, Copy)]
 pub struct Copied {
     pub verdict: Verdict,
     pub count: u64,
 }
 
 // How long a stream is.
-#[derive(Drop)]
+#[derive(Clone, Copy)]
 pub struct StreamLength {
     pub verdict: Verdict,
     pub length: DataLength,
@@ -365,7 +367,7 @@ pub struct StreamLength {
 
 // What a roll's reading says of a record. `kind` is its type; the position is that of its data.
 #[repr(C)]
-#[derive(Drop)]
+#[derive(Clone, Copy)]
 pub struct RollRecord {
     pub kind: u16,
     pub position: RollPosition,
@@ -382,7 +384,7 @@ impl RollRecord {
 }
 
 // `flags` are those of the flags record, which the list leaves out.
-#[derive(Drop)]
+#[derive(Clone, Copy)]
 pub struct RollReading {
     pub verdict: Verdict,
     pub flags: u16,

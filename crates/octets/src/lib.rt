@@ -2,6 +2,8 @@
 //
 // Every public function is total. A read that starts or ends past the slice gives the number of the bytes that there are;
 // a write leaves out the bytes that would lie past the end.
+#![tactic(auto)]
+
 ghost use Rattle.std.specs.Prelude.{◌≡◌, ◌+◌, ◌-◌, ◌*◌, ◌^◌, ◌<◌, ◌≤◌, min, ltb, length};
 ghost use Rattle.octets.specs.Bytes.{be_bytes, le_bytes, field, le_field};
 ghost use Rattle.octets.specs.ByteOrder.{bytes_of, field_of, byte_weight};
@@ -49,7 +51,7 @@ pub fn passes(limit: u64, a: u64, b: u64) -> bool
 }
 
 // Which byte of a number counts most: the first, or the last.
-#[derive(Drop)]
+#[derive(Clone, Copy)]
 enum ByteOrder {
     Big,
     Little,
