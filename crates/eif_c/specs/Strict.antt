@@ -1,8 +1,8 @@
 -- The flat answer of the check of JSON.
 -- Assumes nothing.
 use Rattle.std.specs.Prelude.{ℕ, replicate}
-use Rattle.json.specs.declared.JsonVerdict.{JsonVerdict}
-use Rattle.json.specs.declared.JsonVerdict.TheVariants.{Text, Fault}
+use Rattle.json_grammar.specs.declared.JsonVerdict.{JsonVerdict}
+use Rattle.json_grammar.specs.declared.JsonVerdict.TheVariants.{Text, Fault}
 use Rattle.eif_c.specs.declared.strict.EifJson.{EifJson}
 
 -- 1 for a text

@@ -1,13 +1,13 @@
 // The stricter reading of an image, and the check of JSON that it makes, for programs in C and Rust (FORMAT.md, Stricter reading).
 ghost use Rattle.std.specs.Prelude.{◌≡◌};
-ghost use Rattle.json.specs.Verdict.{IsVerdict};
-ghost use Rattle.json.specs.declared.JsonVerdict.{JsonVerdict};
+ghost use Rattle.json_grammar.specs.Verdict.{IsVerdict};
+ghost use Rattle.json_grammar.specs.declared.JsonVerdict.{JsonVerdict};
 ghost use Rattle.json_machine.specs.Machine.{json_verdict};
 ghost use Rattle.strict_reader.specs.Strict.{read_strict};
 ghost use Rattle.eif_flat.specs.Flat.{flat_reading};
 ghost use Rattle.eif_c.specs.Strict.{text_flag, fault_place, flat_json};
 
-use json::JsonVerdict;
+use json_grammar::JsonVerdict;
 
 // `is_text` is 1 where the bytes are one JSON text, and `place` then 0; else it is 0 and `place` that of the fault.
 #[repr(C)]

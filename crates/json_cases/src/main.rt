@@ -3,7 +3,7 @@
 // of RFC 3629 is accepted and refused; the answers in the file `stdout` were made from the RFCs.
 ghost use Rattle.std.specs.Prelude.{◌+◌, ◌≤◌, ◌<◌, length};
 
-use json::JsonVerdict;
+use json_grammar::JsonVerdict;
 use libc::{STDIN_FILENO, STDOUT_FILENO};
 
 // The most bytes to a line; more get no answer.

@@ -14,7 +14,7 @@ use Rattle.octets.specs.Logic.{both, choose}
 use native.Mathlib.Nat.{add-zero}
 use Rattle.octets.proofs.Logic.{le_or_lt, both_true}
 use Rattle.octets.proofs.Lists.{each_below}
-use Rattle.json.specs.declared.JsonVerdict.{JsonVerdict}
+use Rattle.json_grammar.specs.declared.JsonVerdict.{JsonVerdict}
 use Rattle.json_machine.specs.Table.{classes, rows}
 use Rattle.json_machine.specs.Machine.{fault_entry, entry_of, walk_from}
 use Rattle.json_check.specs.Bare.{bare, BareRun, char_mode, name_char_mode}

@@ -13,9 +13,9 @@ use lib.Seq.{drop-cons}
 use Rattle.octets.specs.Lists.{joined}
 use Rattle.octets.proofs.Lists.{each_below}
 use Rattle.json_check.specs.Columns.{columns}
-use Rattle.json.specs.Verdict.{IsVerdict}
-use Rattle.json.specs.declared.JsonVerdict.{JsonVerdict}
-use Rattle.json.specs.declared.JsonVerdict.TheVariants.{Text, Fault}
+use Rattle.json_grammar.specs.Verdict.{IsVerdict}
+use Rattle.json_grammar.specs.declared.JsonVerdict.{JsonVerdict}
+use Rattle.json_grammar.specs.declared.JsonVerdict.TheVariants.{Text, Fault}
 use Rattle.json_machine.specs.Table.{classes, rows}
 use Rattle.json_machine.specs.Machine.{value_mode, first_item_mode, after_text_mode, after_item_mode, after_member_mode, zero_mode, whole_mode, fraction_mode, power_mode, fault_entry, stop_entry, again_entry, open_array_entry, open_object_entry, close_entry, class_count, nothing_open, stack_limit, after_of, entry_of, act_of, Kind, goes, stops, closes, faults, opens, kind_of, bit, turn_mode, turn_stack, ends_of, walk_from, json_verdict}
 use Rattle.json_laws.proofs.Coded.{bit_small}

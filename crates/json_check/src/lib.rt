@@ -1,5 +1,5 @@
 // The checker of JSON: whether bytes are one RFC 8259 text in UTF-8 with at most 32 arrays or objects open at once, or where they stop
-// being one. What it answers is said of the grammar, in the crate json.
+// being one. What it answers is said of the grammar, in the crate json_grammar.
 //
 // Outside strings each byte takes one lookup for its class and one for the entry of its class and mode; the byte after a number takes a
 // third. Inside strings, blocks of eight bytes that stand for themselves are passed at once, and so is each character beyond ASCII. The open
@@ -7,16 +7,16 @@
 mod tables;
 
 ghost use Rattle.std.specs.Prelude.{◌≡◌, ℕ, ◌+◌, ◌<◌, ◌≤◌, true, length, drop};
-ghost use Rattle.json.specs.Verdict.{IsVerdict};
+ghost use Rattle.json_grammar.specs.Verdict.{IsVerdict};
 ghost use Rattle.json_machine.specs.Table.{classes};
 ghost use Rattle.json_machine.specs.Machine.{fault_entry, after_of, act_of, kind_of, turn_mode, turn_stack, ends_of, walk_from, json_verdict};
 ghost use Rattle.json_check.specs.Columns.{columns};
 ghost use Rattle.json_check.specs.Bare.{bare, BareRun, Skipped};
 
-use json::JsonVerdict;
+use json_grammar::JsonVerdict;
 
 // With a stack below this, one more array or object may be opened: a bit for each of those open, and one in front.
-const STACK_LIMIT: u64 = 1 << json::DEPTH_LIMIT;
+const STACK_LIMIT: u64 = 1 << json_grammar::DEPTH_LIMIT;
 
 // The stack with nothing open.
 const NOTHING_OPEN: u64 = 1;

@@ -11,7 +11,7 @@ use lib.ListN.{length, get_or, get_or-append}
 use lib.Seq.{get_or-append-add}
 use borrow.Author.Tests.{eq-eqb, ne_eqb, ltb-true, eqb-true}
 use Rattle.octets.specs.Lists.{joined}
-use Rattle.json.specs.Verdict.{depth_limit}
+use Rattle.json_grammar.specs.Verdict.{depth_limit}
 use Rattle.json_machine.specs.Table.{classes, rows}
 use Rattle.octets.specs.Logic.{both, choose}
 use Rattle.json_machine.specs.Machine.{first_item_mode, fault_entry, again_entry, class_count, nothing_open, stack_limit, after_of, entry_of, Kind, goes, stops, closes, faults, opens, kind_of, bit}

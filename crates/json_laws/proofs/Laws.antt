@@ -10,9 +10,9 @@ use native.Mathlib.Nat.{eq-or-lt_of_le}
 use lib.ListN.{length, take, drop, take-append-drop}
 use lib.Seq.{take-take, take-length}
 use Rattle.octets.proofs.Logic.{le_or_lt}
-use Rattle.json.specs.Verdict.{IsText, CanBegin, FaultsFirstAt, IsVerdict}
-use Rattle.json.specs.declared.JsonVerdict.{JsonVerdict}
-use Rattle.json.specs.declared.JsonVerdict.TheVariants.{Text, Fault}
+use Rattle.json_grammar.specs.Verdict.{IsText, CanBegin, FaultsFirstAt, IsVerdict}
+use Rattle.json_grammar.specs.declared.JsonVerdict.{JsonVerdict}
+use Rattle.json_grammar.specs.declared.JsonVerdict.TheVariants.{Text, Fault}
 use Rattle.json_machine.specs.Machine.{value_mode, nothing_open, json_verdict}
 use Rattle.json_laws.proofs.Coded.{stack_of}
 use Rattle.json_laws.proofs.Walk.{right_from}

@@ -10,7 +10,7 @@ use lib.ListN.{length, get_or}
 use borrow.Author.Tests.{lt-ltb, le-ltb, ne_eqb}
 use Rattle.octets.proofs.Lists.{each_below}
 use Rattle.octets.proofs.Logic.{both_none}
-use Rattle.json.specs.Verdict.{depth_limit}
+use Rattle.json_grammar.specs.Verdict.{depth_limit}
 use Rattle.json_machine.specs.Table.{classes}
 use Rattle.json_machine.specs.Machine.{first_item_mode, first_member_mode, key_mode, colon_mode, after_item_mode, after_member_mode, nothing_open, class_count, fault_entry, after_of, act_of, Kind, goes, stops, closes, faults, opens, kind_of, bit, turn_mode, turn_stack, ends_of}
 use Rattle.json_machine.proofs.Derive.{can_end}

@@ -3,7 +3,7 @@ use mathlib.Core.Path.{refl}
 use mathlib.Core.List.{[], ◌∷◌}
 use native.Mathlib.Omega.{arith}
 use lib.Dec.{lit<}
-use Rattle.json.specs.Verdict.{IsText, CanBegin, FaultsFirstAt}
+use Rattle.json_grammar.specs.Verdict.{IsText, CanBegin, FaultsFirstAt}
 use Rattle.json_machine.specs.Table.{classes, rows}
 use Rattle.json_machine.specs.Machine.{json_verdict, walk_from, ends_of, kind_of, act_of, entry_of, after_of}
 use Rattle.json_laws.proofs.Laws.{accepted_exactly_when, place_exactly_when}

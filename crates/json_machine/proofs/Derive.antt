@@ -10,7 +10,7 @@ use native.Mathlib.Nat.{le_refl}
 use borrow.Author.Tests.{le-leb, leb-true}
 use Rattle.octets.proofs.Logic.{both_true}
 use Rattle.octets.specs.Logic.{both, either}
-use Rattle.json.specs.Abnf.{Abnf, range, ◌·◌, ◌or◌, empty, many, Is, is_range, is_both, is_left, is_right, is_empty, is_none, is_more}
+use Rattle.json_grammar.specs.Abnf.{Abnf, range, ◌·◌, ◌or◌, empty, many, Is, is_range, is_both, is_left, is_right, is_empty, is_none, is_more}
 
 -- `Texts k s`: s is texts of the rules k, one after the other
 pub data Texts : List Abnf → List ℕ → Type 0 where

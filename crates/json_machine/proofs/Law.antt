@@ -4,9 +4,9 @@ use Prim.Native.Nat.{ℕ}
 use mathlib.Core.Path.{◌≡◌, sym, subst}
 use mathlib.Core.Bool.{Bool, true, false, false≢true}
 use mathlib.Core.List.{List, [], ◌∷◌, ◌++◌, append-nil}
-use Rattle.json.specs.Abnf.{Abnf, ◌·◌}
-use Rattle.json.specs.Grammar.{json_text}
-use Rattle.json.specs.Verdict.{depth_limit, IsText, CanBegin}
+use Rattle.json_grammar.specs.Abnf.{Abnf, ◌·◌}
+use Rattle.json_grammar.specs.Grammar.{json_text}
+use Rattle.json_grammar.specs.Verdict.{depth_limit, IsText, CanBegin}
 use Rattle.json_machine.proofs.Derive.{Texts, stop, seq, OneOf, here, rests_sound, rests_complete, texts_is, is_texts, can_end, texts_end, end_texts, texts_productive, none_left}
 use Rattle.json_machine.proofs.Spaces.{to_value, from_value}
 use Rattle.json_machine.proofs.Modes.{Mode, m-value}

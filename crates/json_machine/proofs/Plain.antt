@@ -2,8 +2,8 @@
 -- shows that it has the RFC's texts.
 -- Assumes nothing.
 use Prim.Native.Nat.{ℕ, zero, suc}
-use Rattle.json.specs.Abnf.{Abnf, ◌·◌, ◌or◌, many, byte}
-use Rattle.json.specs.Grammar.{ws, false, null, true, number, string}
+use Rattle.json_grammar.specs.Abnf.{Abnf, ◌·◌, ◌or◌, many, byte}
+use Rattle.json_grammar.specs.Grammar.{ws, false, null, true, number, string}
 
 abbrev pub items : Abnf → Abnf
 items v = many (byte 0x2C · ws · v · ws)

@@ -5,7 +5,7 @@ use mathlib.Core.Path.{◌≡◌, refl}
 use mathlib.Core.Bool.{Bool, true, false}
 use mathlib.Core.List.{List, [], ◌∷◌}
 use Rattle.octets.proofs.Lists.{values_below}
-use Rattle.json.specs.Abnf.{Abnf}
+use Rattle.json_grammar.specs.Abnf.{Abnf}
 use Rattle.json_machine.specs.Table.{classes}
 use Rattle.json_machine.proofs.Derive.{rests}
 use Rattle.json_machine.proofs.Modes.{Mode, m-value, m-after, m-firstItem, m-firstMember, m-key, m-colon, m_token, m_string, m_name, each_token, each_string}

@@ -4,8 +4,8 @@ use Prim.Native.Nat.{ℕ, zero, suc}
 use mathlib.Core.Path.{◌≡◌, sym, subst}
 use mathlib.Core.List.{List, [], ◌∷◌, ◌++◌, append_assoc, append-nil}
 use mathlib.Core.Logic.{◌⊎◌, inl, inr, ⊎_elim}
-use Rattle.json.specs.Abnf.{Abnf, ◌·◌, ◌or◌, many, Is, is_none, is_more, byte, opt}
-use Rattle.json.specs.Grammar.{ws, string, array, member, object, value}
+use Rattle.json_grammar.specs.Abnf.{Abnf, ◌·◌, ◌or◌, many, Is, is_none, is_more, byte, opt}
+use Rattle.json_grammar.specs.Grammar.{ws, string, array, member, object, value}
 use Rattle.json_machine.proofs.Derive.{Texts, stop, seq, left, right, skip, done, more, texts_is, Parts, last, part, parts, regroup}
 use Rattle.json_machine.proofs.Plain.{items, array_rest, plain_array, plain_member, members, object_rest, plain_object, plain_value}
 

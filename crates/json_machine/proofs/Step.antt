@@ -4,9 +4,9 @@ use Prim.Native.Nat.{ℕ, zero, suc}
 use mathlib.Core.Bool.{Bool, true, false}
 use mathlib.Core.List.{List, [], ◌∷◌}
 use lib.ListN.{get_or}
-use Rattle.json.specs.Abnf.{Abnf, range, ◌or◌, many, byte, opt, some}
-use Rattle.json.specs.Utf8.{utf8_tail}
-use Rattle.json.specs.Grammar.{ws, digit, minus, plus, int, frac, exp, hexdig, escaped, char}
+use Rattle.json_grammar.specs.Abnf.{Abnf, range, ◌or◌, many, byte, opt, some}
+use Rattle.json_grammar.specs.Utf8.{utf8_tail}
+use Rattle.json_grammar.specs.Grammar.{ws, digit, minus, plus, int, frac, exp, hexdig, escaped, char}
 use Rattle.json_machine.specs.Table.{classes, rows}
 use Rattle.json_machine.specs.Machine.{value_mode, first_item_mode, after_text_mode, after_item_mode, after_member_mode, first_member_mode, key_mode, colon_mode}
 use Rattle.json_machine.proofs.Plain.{items, array_rest, plain_member, members, object_rest, plain_value}

@@ -12,7 +12,7 @@ use lib.Dec.{ltb, leb}
 use lib.ListN.{get_or, get_or-eq_default}
 use Rattle.octets.proofs.Logic.{both_true, both_none, le_or_lt}
 use Rattle.octets.proofs.Lists.{each_below}
-use Rattle.json.specs.Abnf.{Abnf, range, ◌·◌, ◌or◌, empty, many}
+use Rattle.json_grammar.specs.Abnf.{Abnf, range, ◌·◌, ◌or◌, empty, many}
 use Rattle.json_machine.specs.Table.{classes}
 use Rattle.octets.specs.Logic.{both}
 use Rattle.json_machine.proofs.Derive.{derive, rests, is_productive, productive}

@@ -1,7 +1,7 @@
 -- What the law `same-or-21` of proofs/Strict.antt states.
 -- Assumes nothing.
 use Rattle.std.specs.Prelude.{ℕ, ◌<◌, ◌≡◌, List}
-use Rattle.json.specs.Verdict.{IsText}
+use Rattle.json_grammar.specs.Verdict.{IsText}
 use Rattle.eif.specs.Numbers.{metadata}
 use Rattle.eif.specs.Layout.{count_of, kind_at}
 use Rattle.eif.specs.Reading.{verdict_of, section_at, data_of}

@@ -6,7 +6,7 @@ use mathlib.Core.Bool.{true, false, not}
 use mathlib.Core.List.{List}
 use native.Mathlib.Omega.{arith}
 use borrow.Author.Tests.{eq-eqb, ne_eqb}
-use Rattle.json.specs.declared.JsonVerdict.{JsonVerdict}
+use Rattle.json_grammar.specs.declared.JsonVerdict.{JsonVerdict}
 use Rattle.json_machine.specs.Machine.{json_verdict}
 use Rattle.eif.specs.Numbers.{place_count, metadata}
 use Rattle.eif.specs.Layout.{view_of, count_of}

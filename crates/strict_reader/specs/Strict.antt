@@ -1,11 +1,11 @@
 -- The stricter reading (FORMAT.md, Stricter reading): the ordinary one, and then 21 for a metadata section whose data is not one JSON
--- text. What is a text is said by the grammar of the crate json; that the test here says the same: `strict_laws/Strict.strict-exactly-when`.
+-- text. What is a text is said by the grammar of the crate json_grammar; that the test here says the same: `strict_laws/Strict.strict-exactly-when`.
 -- Assumes nothing.
 use Rattle.std.specs.Prelude.{ℕ, ◌<◌, ◌≡◌, Bool, true, false, not, List, [], ◌∷◌, ◌++◌, ◌⊎◌, eqb}
 use Rattle.eif.specs.Table.{join_from}
-use Rattle.json.specs.Verdict.{IsText}
-use Rattle.json.specs.declared.JsonVerdict.{JsonVerdict}
-use Rattle.json.specs.declared.JsonVerdict.TheVariants.{Text, Fault}
+use Rattle.json_grammar.specs.Verdict.{IsText}
+use Rattle.json_grammar.specs.declared.JsonVerdict.{JsonVerdict}
+use Rattle.json_grammar.specs.declared.JsonVerdict.TheVariants.{Text, Fault}
 use Rattle.json_machine.specs.Machine.{json_verdict}
 use Rattle.eif.specs.Numbers.{metadata, metadata_not_json}
 use Rattle.octets.specs.Logic.{both, choose}

@@ -6,7 +6,7 @@ ghost use Rattle.eif.specs.Numbers.{place_count};
 ghost use Rattle.strict_reader.specs.Strict.{not_json, metadata_verdict, read_strict, StrictlyRead};
 
 use eif::{PLACES, Reading, Refusal, Section, SectionType, Verdict};
-use json::JsonVerdict;
+use json_grammar::JsonVerdict;
 
 // Whether a section is metadata and its data is no JSON text.
 fn not_json(image: &[u8], section: Section) -> bool

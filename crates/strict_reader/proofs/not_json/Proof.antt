@@ -1,7 +1,7 @@
 -- `strict_reader::not_json` meets its contract: the type, and then what the checker says of the data. Assumes nothing.
 use mathlib.Core.Path.{◌≡◌, sym, ap, ◌∙◌}
 use borrow.Author.Rules.{rules}
-use Rattle.json.specs.declared.JsonVerdict.TheVariants.{Text, Fault}
+use Rattle.json_grammar.specs.declared.JsonVerdict.TheVariants.{Text, Fault}
 use Rattle.json_machine.specs.Machine.{json_verdict}
 use Rattle.eif.specs.Reading.{data_of}
 use Rattle.strict_reader.proofs.Steps.{other_type, metadata_by}

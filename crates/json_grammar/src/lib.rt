@@ -1,11 +1,12 @@
 // JSON: RFC 8259's texts in UTF-8, and what a checker of them answers. The grammar stands in specs/, with no parser, to be read
 // beside RFC 8259 (JSON), RFC 3629 (UTF-8) and RFC 5234 (ABNF).
+#![tactic(auto)]
 
 // The most arrays or objects that may be open at once.
 pub const DEPTH_LIMIT: u64 = 32;
 
 // What a checker answers.
-#[derive(Drop)]
+#[derive(Clone, Copy)]
 pub enum JsonVerdict {
     // One JSON text within the depth limit.
     Text,

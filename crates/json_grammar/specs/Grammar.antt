@@ -1,8 +1,8 @@
 -- RFC 8259's ABNF over bytes, each rule under the RFC's own name, and a number of arrays or objects that may be open at once.
 -- Assumes nothing.
 use Rattle.std.specs.Prelude.{ℕ, zero, suc}
-use Rattle.json.specs.Abnf.{Abnf, range, ◌·◌, ◌or◌, many, byte, opt, some}
-use Rattle.json.specs.Utf8.{utf8_2, utf8_3, utf8_4}
+use Rattle.json_grammar.specs.Abnf.{Abnf, range, ◌·◌, ◌or◌, many, byte, opt, some}
+use Rattle.json_grammar.specs.Utf8.{utf8_2, utf8_3, utf8_4}
 
 -- ---- 2. JSON grammar: white space and the six structural characters
 

@@ -1,6 +1,6 @@
 -- RFC 3629, 4: the byte sequences of UTF-8. What it calls UTF8-1 is one byte below 80.
 -- Assumes nothing.
-use Rattle.json.specs.Abnf.{Abnf, range, ◌·◌, ◌or◌, byte}
+use Rattle.json_grammar.specs.Abnf.{Abnf, range, ◌·◌, ◌or◌, byte}
 
 abbrev pub utf8_tail : Abnf
 utf8_tail = range 0x80 0xBF

@@ -1,10 +1,10 @@
 -- Which verdict on bytes is the right one: said of the grammar, and of nothing that computes.
 -- Assumes nothing.
 use Rattle.std.specs.Prelude.{ℕ, suc, ◌≤◌, ◌<◌, List, ◌++◌, length, take}
-use Rattle.json.specs.Abnf.{Is}
-use Rattle.json.specs.Grammar.{json_text}
-use Rattle.json.specs.declared.JsonVerdict.{JsonVerdict}
-use Rattle.json.specs.declared.JsonVerdict.TheVariants.{Text, Fault}
+use Rattle.json_grammar.specs.Abnf.{Is}
+use Rattle.json_grammar.specs.Grammar.{json_text}
+use Rattle.json_grammar.specs.declared.JsonVerdict.{JsonVerdict}
+use Rattle.json_grammar.specs.declared.JsonVerdict.TheVariants.{Text, Fault}
 
 -- the most arrays or objects that may be open at once
 abbrev pub depth_limit : ℕ
