@@ -1,6 +1,8 @@
 // The rules that image, plan and boot roll have in common: 4 and 5 of image and plan, 12 of all three, 10 and 11 of plan and boot roll. The
 // image reader judges 10 and 11 in its own walk (`eif_judge`), which is left from inside the check of earlier types; the definition is one.
 // A caller lends the types of the sections that stand before, or of all sections, in file order.
+#![tactic(auto)]
+
 ghost use Rattle.std.specs.Prelude.{◌≡◌, length};
 ghost use Rattle.eif.specs.Rules.{field_fault, seen, order_fault, boot_missing, missing};
 ghost use Rattle.type_judge.specs.Kinds.{listed_kind};
