@@ -1,4 +1,6 @@
 // SHA-384's work on one block (FIPS 180-4, section 6.4.2): the hash value after a block of 128 bytes.
+#![tactic(auto)]
+
 ghost use Rattle.std.specs.Prelude.{◌≡◌, ◌+◌, ◌*◌, ◌%◌, ◌^◌, take};
 ghost use Rattle.sha384_block.specs.Fips.{ch, maj, big_sigma0, big_sigma1, small_sigma0, small_sigma1, round_constants, initial_hash, words_from, extend, round, rounds, vars_of, next_hash, compress_by};
 
@@ -179,7 +181,7 @@ fn sum5(a: u64, b: u64, c: u64, d: u64, e: u64) -> u64
 // ---- a block (FIPS 180-4, section 6.4.2)
 
 // The eight working variables.
-#[derive(Drop)]
+#[derive(Clone, Copy)]
 struct Vars {
     a: u64,
     b: u64,
