@@ -3,6 +3,8 @@
 // A state goes in by value and comes back: `new`, then `update` for each piece, then `finish`. A state may be kept and gone on from
 // more than once. Every public function is total: each contract holds for any state, and the laws of a state begun fresh are in
 // sha384_laws.
+#![tactic(auto)]
+
 ghost use Rattle.std.specs.Prelude.{◌≡◌, ◌+◌, ◌<◌, ◌≤◌, length, take};
 ghost use Rattle.sha384_block.specs.Fips.{block_size, least_padding, most_padding, round_constants, digest_of, padding, zeros_for};
 ghost use Rattle.sha384.specs.State.{no_bytes, take_bytes, initial_state, updated, more_hashed, digest_from};
@@ -29,7 +31,7 @@ const MOST_PADDING: usize = BLOCK_SIZE - 1 + LEAST_PADDING;
 // The hash value of the whole blocks so far, the bytes of the block that is being filled (the others zero), and how many bytes were
 // taken in all.
 #[repr(C)]
-#[derive(Drop)]
+#[derive(Clone, Copy)]
 pub struct State {
     pub words: [u64; 8],
     pub block: [u8; BLOCK_SIZE],
@@ -37,14 +39,14 @@ pub struct State {
 }
 
 // What a piece is answered with: beside a refusal, the state is as it was.
-#[derive(Drop)]
+#[derive(Clone, Copy)]
 pub struct Updated {
     pub verdict: Verdict,
     pub state: State,
 }
 
 // The same as a state, but for the total: how many bytes of the block are there.
-#[derive(Drop)]
+#[derive(Clone, Copy)]
 pub struct Filling {
     pub words: [u64; 8],
     pub block: [u8; BLOCK_SIZE],
