@@ -33,8 +33,8 @@ packed_reading p =
       version = p.version;
       flags = p.flags;
       architecture = architecture p.flags;
-      default_mem_holds = p.default_mem_holds;
-      default_cpus_holds = p.default_cpus_holds;
+      default_mem = p.default_mem;
+      default_cpus = p.default_cpus;
       count = p.count;
       sections = packed_sections p;
       ramdisk_mark = mark_of (packed_sections p);
@@ -44,7 +44,7 @@ packed_reading p =
 pub record SamePlan (p q : Plan) : Type 0 where
   pub version : p.version ≡ q.version
   pub flags : p.flags ≡ q.flags
-  pub default_mem_holds : p.default_mem_holds ≡ q.default_mem_holds
-  pub default_cpus_holds : p.default_cpus_holds ≡ q.default_cpus_holds
+  pub default_mem : p.default_mem ≡ q.default_mem
+  pub default_cpus : p.default_cpus ≡ q.default_cpus
   pub count : p.count ≡ q.count
   pub used : (i : ℕ) → i < p.count → place_at p.places i ≡ place_at q.places i

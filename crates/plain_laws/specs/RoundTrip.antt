@@ -13,14 +13,14 @@ use Rattle.plain_laws.specs.Packed.{packed_section, packed_reading, SamePlan}
 -- the numbers of a plan that no rule judges fit their fields
 pub record Fits (p : Plan) : Type 0 where
   pub flags : p.flags < 2 ^ 16
-  pub default_mem_holds : p.default_mem_holds < 2 ^ 64
-  pub default_cpus_holds : p.default_cpus_holds < 2 ^ 64
+  pub default_mem : p.default_mem < 2 ^ 64
+  pub default_cpus : p.default_cpus < 2 ^ 64
   pub section_flags : (i : ℕ) → i < p.count → (place_at p.places i).flags < 2 ^ 16
 
 -- ---- what is written is read back
 
 pub record ReadsBack (p : Plan) (d : List ℕ) : Type 0 where
-  -- the plain image is accepted, and its reading has the plan's version, flags, default_mem_holds, default_cpus_holds and count, of each used place
+  -- the plain image is accepted, and its reading has the plan's version, flags, default_mem, default_cpus and count, of each used place
   -- the type, flags, length and packed position, and unused places blank
   pub accepted : verdict_of (plain_image p d) ≡ Accepted
   pub reading : read_image (plain_image p d) ≡ packed_reading p
