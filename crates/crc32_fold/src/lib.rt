@@ -25,6 +25,8 @@
 // the window is a ring: each word takes the place of the one 3006 places before it, and nothing is moved.
 //
 // Each way five words are left at last, and a few bytes. They go by `steps64`, which makes 64 bit steps of the definition at once.
+#![tactic(auto)]
+
 ghost use Rattle.std.specs.Prelude.{◌≡◌, ◌<◌, ◌≤◌, ◌+◌, ◌*◌, ◌/◌, ◌%◌, ◌^◌, length, take, drop};
 ghost use Rattle.std.specs.Int.Bits.{bit_xor};
 ghost use Rattle.octets.specs.Bytes.{le_value};
@@ -241,7 +243,7 @@ fn tail(state: u32, s: &[u8], from: usize) -> u32
 // ---- a short slice: bits are folded
 
 // What the words that were taken away add to the five words after them.
-#[derive(Drop)]
+#[derive(Clone, Copy)]
 struct Carry {
     a: u64,
     b: u64,
