@@ -4,6 +4,8 @@
 // Outside strings each byte takes one lookup for its class and one for the entry of its class and mode; the byte after a number takes a
 // third. Inside strings, blocks of eight bytes that stand for themselves are passed at once, and so is each character beyond ASCII. The open
 // arrays and objects are a stack of bits in one number: there is no recursion, and the time is linear.
+#![tactic(auto)]
+
 mod tables;
 
 ghost use Rattle.std.specs.Prelude.{◌≡◌, ℕ, ◌+◌, ◌<◌, ◌≤◌, true, length, drop};
@@ -22,7 +24,7 @@ const STACK_LIMIT: u64 = 1 << json_grammar::DEPTH_LIMIT;
 const NOTHING_OPEN: u64 = 1;
 
 // Where the machine stands: a mode (tables.rt), and what is open.
-#[derive(Drop)]
+#[derive(Clone, Copy)]
 struct State {
     mode: usize,
     stack: u64,

@@ -124,7 +124,9 @@ none_left = elim [ ]
 -- the byte b, and then t
 module _ (b : ℕ) (t : List ℕ) where
   picked : {k : List Abnf} (c : Bool) → OneOf (pick c (k ∷ [])) t → (c ≡ true) × Texts k t
+  picked false x' = elim x' [ ]
   picked true (here r) = (refl, r)
+  picked true (there r) = elim r [ ]
 
   pub derive_sound : (x : Abnf) (k : List Abnf) (r : List (List Abnf)) → (OneOf r t → Texts k (b ∷ t)) → OneOf (derive b x k r) t → Texts (x ∷ k) (b ∷ t)
   derive_sound (range lo hi) k r f h =
@@ -138,6 +140,7 @@ module _ (b : ℕ) (t : List ℕ) where
       ⊎_elim (λ a. more (derive_sound x (many x ∷ k) [] (λ z. absurd (none_left z)) a)) (λ a. done (f a)) (one_of_cases (derive b x (many x ∷ k) []) h)
 
   pub rests_sound : (k : List Abnf) → OneOf (rests b k) t → Texts k (b ∷ t)
+  rests_sound [] h = elim h [ ]
   rests_sound (x ∷ k) h = derive_sound x k (rests b k) (rests_sound k) h
 
   mono : (x : Abnf) (k : List Abnf) (r q : List (List Abnf)) → (OneOf r t → OneOf q t) → OneOf (derive b x k r) t → OneOf (derive b x k q) t

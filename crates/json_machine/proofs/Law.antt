@@ -7,10 +7,9 @@ use mathlib.Core.List.{List, [], ◌∷◌, ◌++◌, append-nil}
 use Rattle.json_grammar.specs.Abnf.{Abnf, ◌·◌}
 use Rattle.json_grammar.specs.Grammar.{json_text}
 use Rattle.json_grammar.specs.Verdict.{depth_limit, IsText, CanBegin}
-use Rattle.json_machine.proofs.Derive.{Texts, stop, seq, OneOf, here, rests_sound, rests_complete, texts_is, is_texts, can_end, texts_end, end_texts, texts_productive, none_left}
+use Rattle.json_machine.proofs.Derive.{Texts, stop, seq, OneOf, here, there, rests_sound, rests_complete, texts_is, is_texts, can_end, texts_end, end_texts, texts_productive, none_left}
 use Rattle.json_machine.proofs.Spaces.{to_value, from_value}
 use Rattle.json_machine.proofs.Modes.{Mode, m-value}
-use Rattle.json_machine.proofs.Modes as T
 use Rattle.json_machine.proofs.Step.{Next, refused, at, still, next_at, stills}
 use Rattle.json_machine.proofs.Within.{productive_still, rests_are}
 
@@ -34,6 +33,7 @@ module _ (m : Mode) (d : ℕ) (fs : List Bool) (b : ℕ) (t : List ℕ) where
 
 only : {k : List Abnf} {s : List ℕ} → OneOf (k ∷ []) s → Texts k s
 only (here r) = r
+only (there r) = elim r [ ]
 
 flat_text : {x y z : Abnf} {s : List ℕ} → Texts (x · y · z ∷ []) s → Texts (x ∷ y ∷ z ∷ []) s
 flat_text (seq (seq r)) = r
