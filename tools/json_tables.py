@@ -13,6 +13,7 @@ json_check/proofs/Laws.antt compares the columns with the rows, and the proof of
 """
 
 import sys
+import textwrap
 
 WHITE_SPACE = b" \t\n\r"
 DIGITS = b"0123456789"
@@ -129,9 +130,9 @@ def cons(numbers, width):
 
 
 def const(name, numbers):
-    """One number to a line, which is the kit's layout."""
-    body = "".join(f"    {number},\n" for number in numbers)
-    return f"pub const {name}: [u8; {len(numbers)}] = [\n{body}];\n"
+    """As many numbers to a line as 99 columns hold, which is the kit's layout."""
+    body = textwrap.fill(", ".join(map(str, numbers)) + ",", 99, initial_indent="    ", subsequent_indent="    ")
+    return f"pub const {name}: [u8; {len(numbers)}] = [\n{body}\n];\n"
 
 
 def numbered(function, names, first):
@@ -139,7 +140,7 @@ def numbered(function, names, first):
 
 
 def each(law, names):
-    return "\n".join(f"  {law} {name} = same-at {i} e" for i, name in enumerate(names))
+    return "\n".join(f"  {law} {name} = same_at {i} e" for i, name in enumerate(names))
 
 
 TOKENS = ["t-" + name for name in TOKEN]
@@ -147,8 +148,7 @@ STRINGS = ["s-" + name for name in STRING]
 
 TABLE = f"""-- The tables of the machine, written by tools/json_tables.py. Nothing is assumed of them: proofs/Right.antt checks each entry
 -- against the grammar.
-use Prim.Native.Nat.{{ℕ}}
-use mathlib.Core.List.{{List, [], _∷_}}
+use Rattle.std.specs.Prelude.{{ℕ, List, [], ◌∷◌}}
 
 -- the class of each byte: the bytes of one are treated alike in every mode
 unfoldable pub classes : List ℕ
@@ -164,10 +164,10 @@ rows =
 
 MODES_FILE = f"""-- The modes of the machine, their numbers, and that what is computed of all of them holds of each. Written by tools/json_tables.py.
 -- Assumes nothing.
-use Prim.Native.Nat.{{ℕ, _+_}}
-use mathlib.Core.Path.{{_≡_, ap}}
-use mathlib.Core.List.{{List, [], _∷_, _++_, map}}
-use lib.ListN.{{getD}}
+use Prim.Native.Nat.{{ℕ, ◌+◌}}
+use mathlib.Core.Path.{{◌≡◌, ap}}
+use mathlib.Core.List.{{List, [], ◌∷◌, ◌++◌, map}}
+use lib.ListN.{{get_or}}
 
 -- in a number, or in false, null or true
 pub data Token : Type 0 where
@@ -180,9 +180,9 @@ pub data Str : Type 0 where
 -- in the four modes from m-firstItem on and in a member's name, which kind the innermost open one has is known by the mode
 pub data Mode : Type 0 where
   m-value m-after m-firstItem m-firstMember m-key m-colon : Mode
-  m-token : Token → Mode
-  m-string : Str → Mode
-  m-name : Str → Mode
+  m_token : Token → Mode
+  m_string : Str → Mode
+  m_name : Str → Mode
 
 -- what an entry of the tables says
 pub data Act : Type 0 where
@@ -200,28 +200,28 @@ strings = {" ∷ ".join(STRINGS)} ∷ []
 abbrev pub acts : List Act
 acts =
     to m-value ∷ to m-firstItem ∷ to m-firstMember ∷ to m-key ∷ to m-colon ∷ to m-after ∷ to m-after ∷ to m-after ∷
-    (map to (map m-token tokens ++ (map m-string strings ++ map m-name strings)) ++ (fault ∷ stop ∷ again ∷ openArray ∷ openObject ∷ close ∷ []))
+    (map to (map m_token tokens ++ (map m_string strings ++ map m_name strings)) ++ (fault ∷ stop ∷ again ∷ openArray ∷ openObject ∷ close ∷ []))
 
-abbrev pub tokenNumber : Token → ℕ
-{numbered("tokenNumber", TOKENS, NUMBER["minus"])}
+abbrev pub token_number : Token → ℕ
+{numbered("token_number", TOKENS, NUMBER["minus"])}
 
-abbrev pub stringNumber : Str → ℕ
-{numbered("stringNumber", STRINGS, NUMBER["char"])}
+abbrev pub string_number : Str → ℕ
+{numbered("string_number", STRINGS, NUMBER["char"])}
 
-abbrev pub nameNumber : Str → ℕ
-nameNumber s = stringNumber s + {len(STRINGS)}
+abbrev pub name_number : Str → ℕ
+name_number s = string_number s + {len(STRINGS)}
 
 -- two functions of a mode agree in each of these modes, if the lists of their values in all of them are the same
 module _ {{A : Type 0}} (f g : Mode → A) where
-  same-at : {{k l : List A}} (i : ℕ) → k ≡ l → getD k i (f m-value) ≡ getD l i (f m-value)
-  same-at i e = ap (λ l. getD l i (f m-value)) e
+  same_at : {{k l : List A}} (i : ℕ) → k ≡ l → get_or k i (f m-value) ≡ get_or l i (f m-value)
+  same_at i e = ap (λ l. get_or l i (f m-value)) e
 
-  pub each-token : map (λ t. f (m-token t)) tokens ≡ map (λ t. g (m-token t)) tokens → (t : Token) → f (m-token t) ≡ g (m-token t)
-{each("each-token e", TOKENS)}
+  pub each_token : map (λ t. f (m_token t)) tokens ≡ map (λ t. g (m_token t)) tokens → (t : Token) → f (m_token t) ≡ g (m_token t)
+{each("each_token e", TOKENS)}
 
-  -- m is m-string or m-name
-  pub each-string : (m : Str → Mode) → map (λ s. f (m s)) strings ≡ map (λ s. g (m s)) strings → (s : Str) → f (m s) ≡ g (m s)
-{each("each-string m e", STRINGS)}
+  -- m is m_string or m_name
+  pub each_string : (m : Str → Mode) → map (λ s. f (m s)) strings ≡ map (λ s. g (m s)) strings → (s : Str) → f (m s) ≡ g (m s)
+{each("each_string m e", STRINGS)}
 """
 
 CODE = f"""// The tables of the checker, written by tools/json_tables.py: Table.antt of json_machine says what the entries mean.
@@ -233,8 +233,7 @@ CODE = f"""// The tables of the checker, written by tools/json_tables.py: Table.
 
 COLUMNS = f"""-- The entries of the machine's tables as the code keeps them: for each class its entries, one for each mode. Written by tools/json_tables.py.
 -- Nothing is assumed of them: proofs/Laws.antt compares each with its entry of rows.
-use Prim.Native.Nat.{{ℕ}}
-use mathlib.Core.List.{{List, [], _∷_}}
+use Rattle.std.specs.Prelude.{{ℕ, List, [], ◌∷◌}}
 
 unfoldable pub columns : List ℕ
 columns =
