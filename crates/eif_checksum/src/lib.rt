@@ -1,5 +1,7 @@
 // The checksum of an image: CRC-32 of every byte but its own four, which are taken out and not read as zero. Total: of a
 // shorter slice, what there is.
+#![tactic(auto)]
+
 ghost use Rattle.std.specs.Prelude.{◌≡◌, ◌+◌, min, length, take, drop};
 ghost use Rattle.eif.specs.Layout.{checksum_end, checksum_at};
 ghost use Rattle.eif.specs.Reading.{checksum_of};
