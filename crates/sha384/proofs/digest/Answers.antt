@@ -1,9 +1,8 @@
-use Prim.Native.Nat.{◌-◌, ◌*◌}
+use Prim.Native.Nat.{◌*◌}
 use mathlib.Core.Path.{◌≡◌, refl, ap, ◌∙◌}
 use native.Mathlib.Omega.{arith}
 use lib.ListN.{length, get_or, replicate}
 use Rattle.octets.specs.Bytes.{be_bytes}
-use Rattle.octets.specs.Over.{over}
 use Rattle.octets.proofs.Over.{length_over}
 use Rattle.sha384_block.specs.Fips.{word_size, digest_size}
 use Rattle.sha384.proofs.Words.{word_next, digest_is}
