@@ -3,6 +3,8 @@
 //
 // `rest` is what follows the flags record. Places and starts of records count from there; indexes and positions in an answer count
 // from the roll's start.
+#![tactic(auto)]
+
 ghost use Rattle.std.specs.Prelude.{◌≡◌, ◌+◌, ◌^◌, ◌<◌, ◌≤◌, length};
 ghost use Rattle.eif.specs.Numbers.{place_count};
 ghost use Rattle.eif.specs.Table.{filled};
@@ -70,7 +72,7 @@ fn record_fault(rest: &[u8], kinds: &[u16], i: usize, at: usize) -> u8
 
 // The records up to the end record: their number, where the end record starts, their types, and what the answer lists.
 // Beside a refusal all but the verdict is zero.
-#[derive(Drop)]
+#[derive(Clone, Copy)]
 struct Walked {
     verdict: Verdict,
     count: usize,
