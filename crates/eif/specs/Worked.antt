@@ -1,6 +1,6 @@
 -- The worked example of FORMAT.md, The boot roll, by computation: the plain version 2 image with kernel 4b, command line 61 and
--- an empty ramdisk. Its checksum is the one that other programs compute; it is computed once, and the verdicts cite it. Answer numbers and
--- positions are written out, as FORMAT.md prints them, so that a wrong number behind a name falls here.
+-- an empty ramdisk. Answer numbers and positions are written out, as FORMAT.md prints them, so that a wrong number behind a name falls here.
+-- What rests on its checksum stands in proofs/Worked.antt.
 -- Assumes nothing.
 use Rattle.std.specs.Prelude.{ℕ, ◌≡◌, refl, List, [], ◌∷◌, ◌++◌, map, length, replicate, take}
 use Rattle.std.proofs.Common.{ap}
@@ -70,14 +70,6 @@ pub worked_offsets : map (offset_at worked_image) (0 ∷ 1 ∷ 2 ∷ []) ≡ 548
 unfolding field be_value
 worked_offsets = refl
 
-pub worked_checksum : checksum_of worked_image ≡ 0x86c22731
-unfolding checksum_of crc32 crc_from shift_bits shift_bit
-worked_checksum = refl
-
-pub worked_accepted : verdict_of worked_image ≡ Accepted
-unfolding verdict_in early judged header_fault field_fault first_refusal section_fault entry_fault allowed_in order_fault seen missing_fault tail_fault missing checksum_fault field be_value
-worked_accepted = ap (verdict_in (view_of worked_image)) worked_checksum
-
 -- a byte after the last section is told after 12 and before 13
 
 pub tail_before_checksum : verdict_of (worked_image ++ 0 ∷ []) ≡ refuse_at 20 0 586
@@ -114,7 +106,7 @@ abbrev pub other_checksum : List ℕ
 other_checksum = over worked_image 547 (0 ∷ [])
 
 -- 2 to 5; 6 and 20 at section 1, 7 at section 2; 8, 9 at section 1, 10 at section 0, 11 at section 2; 12, 20
-abbrev judged_before13 : List RefusedImage
+abbrev pub judged_before13 : List RefusedImage
 judged_before13 =
     refused_image (take 547 worked_image) (refuse_at 2 0 0)
     ∷ changed_image 3 (0x67 ∷ []) (refuse_at 3 0 0)
@@ -134,10 +126,6 @@ judged_before13 =
 -- these and 13; the order of two faults at once: `eif_laws/specs/Orders`
 abbrev pub refused_images : List RefusedImage
 refused_images = judged_before13 ++ refused_image other_checksum (refuse_at 13 0 544) ∷ []
-
-pub refusals_hold : map (λ (r : RefusedImage). verdict_of r.image) refused_images ≡ map (λ (r : RefusedImage). r.verdict) refused_images
-unfolding over verdict_in early judged position_in header_fault field_fault first_refusal section_fault entry_fault allowed_in order_fault seen missing_fault tail_fault missing checksum_fault field be_value checksum_of
-refusals_hold = ap (λ (sum : ℕ). map (λ (r : RefusedImage). verdict_of r.image) judged_before13 ++ verdict_in (view_of other_checksum) sum ∷ []) worked_checksum
 
 abbrev pub worked_section : ℕ → ℕ → ℕ → Section
 worked_section kind position size = record { kind = kind; flags = 0; position = record { 0 = position }; length = record { 0 = size } }
@@ -199,18 +187,6 @@ pub writes_refused :
     ≡ refuse 14 0 ∷ refuse 15 0 ∷ refuse 15 0 ∷ refuse 1 0 ∷ refuse 15 0 ∷ Accepted ∷ []
 unfolding in_table write_verdict plan_verdict field_fault first_refusal type_fault allowed_in order_fault seen types_verdict size_fault missing_fault missing packed_by data_before
 writes_refused = refl
-
-pub roll_refused : roll_verdict worked_image 53 ≡ refuse 14 0
-unfolding roll_verdict roll_bytes flags_record roll_of head_of measured_in field be_value
-roll_refused = ap (λ (v : Verdict). and_then v (room_verdict 53 (length (roll_bytes worked_image)))) worked_accepted
-
-pub copy_refused : copy_answer worked_image Whole 3 5 ≡ record { verdict = refuse 19 0; count = 0 }
-unfolding copy_answer copy_verdict stream_of kept keeps field be_value
-copy_refused = ap (λ (v : Verdict). copied_for (and_then v (past_end (stream_of worked_image Whole) 3)) (length (stream_part worked_image Whole 3 5))) worked_accepted
-
-pub worked_stream_length : length_answer worked_image Whole ≡ record { verdict = Accepted; length = record { 0 = 2 } }
-unfolding length_answer stream_of kept keeps field be_value
-worked_stream_length = ap (λ (v : Verdict). length_for v (length (stream_of worked_image Whole))) worked_accepted
 
 -- ---- the fields that no rule judges: each has another value, so that none is taken for another, and every flag but the architecture's is set
 

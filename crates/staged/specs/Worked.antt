@@ -3,7 +3,8 @@
 -- Assumes nothing.
 use Rattle.std.specs.Prelude.{ℕ, ◌≡◌, refl, List, [], ◌∷◌, map, eqb, length}
 use Rattle.std.proofs.Common.{ap, ap₂}
-use Rattle.eif.specs.Worked.{worked_place, plan_over, worked_image, worked_checksum, worked_accepted}
+use Rattle.eif.specs.Worked.{worked_place, plan_over, worked_image}
+use Rattle.eif.proofs.Worked.{worked_checksum, worked_accepted}
 use Rattle.octets.specs.Bytes.{field, be_value}
 use Rattle.octets.specs.Logic.{choose}
 use Rattle.octets.specs.Over.{over}

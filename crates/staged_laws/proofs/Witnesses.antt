@@ -9,7 +9,8 @@ use Rattle.eif.specs.Layout.{packed_by}
 use Rattle.eif.specs.Rules.{field_fault}
 use Rattle.eif.specs.Reading.{header_fault, judged, early, verdict_in, position_in, read_view}
 use Rattle.eif.specs.Plan.{data_before, fixed_fields, table_bytes, header_bytes, section_header, plain_image}
-use Rattle.eif.specs.Worked.{worked_image, worked_accepted}
+use Rattle.eif.specs.Worked.{worked_image}
+use Rattle.eif.proofs.Worked.{worked_accepted}
 use Rattle.eif.specs.declared.Verdict.TheVariants.{Accepted}
 use Rattle.eif_lemmas.proofs.Verdicts.{never}
 use Rattle.plain_laws.proofs.Witnesses.{worked_are_bytes}

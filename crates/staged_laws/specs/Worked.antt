@@ -8,7 +8,8 @@ use Rattle.eif.specs.Rules.{allowed_in, seen, missing}
 use Rattle.eif.specs.Layout.{packed_by}
 use Rattle.eif.specs.Reading.{checksum_of, read_view}
 use Rattle.eif.specs.Order.{view_rules, header_rules, section_rules, type_rules, order_rules}
-use Rattle.eif.specs.Worked.{worked_image, other_checksum, worked_checksum, worked_accepted}
+use Rattle.eif.specs.Worked.{worked_image, other_checksum}
+use Rattle.eif.proofs.Worked.{worked_checksum, worked_accepted}
 use Rattle.eif_laws.specs.Orders.{first_two}
 use Rattle.staged.specs.Staged.{staged_plan}
 use Rattle.staged.specs.Order.{staged_rules}
