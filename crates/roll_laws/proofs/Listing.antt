@@ -32,7 +32,7 @@ found_from t (r ∷ rs) at e =
 -- a list has an entry for each record
 pub length_list : (at : ℕ) (rs : List Record) → length (list_from at rs) ≡ length rs
 length_list at [] = refl
-length_list at (r ∷ rs) = ap suc (length_list _ rs)
+length_list at (r ∷ rs) = ap suc (length_list (at + record_head_size + length r.bytes) rs)
 
 -- the records of a roll's rest from record i on are as in a list
 pub record AreAt (t : List ℕ) (i : ℕ) (rs : List Record) : Type 0 where
