@@ -1,12 +1,14 @@
 // An image that comes in pieces, in any order and more than once (FORMAT.md, Pieces out of order): the vocabulary. The definitions stand in
 // specs/, the refusals in `assembler_judge`, the call in `assembler_step`.
+#![tactic(auto)]
+
 use eif::{RecordHead, Verdict};
 
 // The bytes of every piece but the last.
 pub const PIECE_SIZE: u64 = 4096;
 
 // A record's kind.
-#[derive(Drop)]
+#[derive(Clone, Copy)]
 pub struct PieceRecordKind;
 
 impl PieceRecordKind {
@@ -18,7 +20,7 @@ impl PieceRecordKind {
 }
 
 // What follows a record's head: an open's image length, a piece's start and its data.
-#[derive(Drop)]
+#[derive(Clone, Copy)]
 pub struct PieceRecord;
 
 impl PieceRecord {
@@ -31,7 +33,7 @@ impl PieceRecord {
 
 // Whether a transfer is open (0: no), its image length, and the lengths of the image buffer and of the mark buffer when it was opened.
 #[repr(C)]
-#[derive(Drop)]
+#[derive(Clone, Copy)]
 pub struct State {
     pub opened: u64,
     pub length: u64,
@@ -40,7 +42,7 @@ pub struct State {
 }
 
 // What a call answers: the verdict, the next state, and at a close the image length, else 0.
-#[derive(Drop)]
+#[derive(Clone, Copy)]
 pub struct Stepped {
     pub verdict: Verdict,
     pub state: State,

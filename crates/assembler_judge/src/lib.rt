@@ -1,4 +1,6 @@
 // The rules that refuse a record of a transfer (FORMAT.md, Pieces out of order), all of them before anything is written.
+#![tactic(auto)]
+
 ghost use Rattle.std.specs.Prelude.{◌≡◌, ◌+◌, ◌<◌, ◌≤◌, length};
 ghost use Rattle.assembler.specs.Records.{data_at, number_in, data_in, formed, pieces_of, off_grid, place_in};
 ghost use Rattle.assembler.specs.Rules.{all_held, is_held, held_with_other, too_small, short_for, fault_of};
