@@ -3,6 +3,8 @@
 //
 // Every call has an answer, for every state, record and pair of buffers. All rules are judged before the first write, so a refusal changes
 // nothing. The laws of a run of calls are in assembler_laws.
+#![tactic(auto)]
+
 ghost use Rattle.std.specs.Prelude.{◌≡◌, ◌+◌, ◌<◌, ◌≤◌, length, replicate};
 ghost use Rattle.octets.specs.Over.{over};
 ghost use Rattle.eif.specs.declared.Verdict.TheVariants.{Accepted};

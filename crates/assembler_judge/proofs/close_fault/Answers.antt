@@ -43,12 +43,12 @@ module _ (c : Else-is_short) where
 
 pub slice_bounds-all_held-end : goal.slice_bounds-all_held-end
 slice_bounds-all_held-end c = let e = c.pieces-count.ensures in
-    let h = room (goal.at.slice_bounds-all_held-end c).After-is_short in
+    let h = room (goal.at.slice_bounds-all_held-end c).Else-is_short in
     sym (length-take-le c.pieces-count.result _ (omega arith))
 
 module _ (c : After-all_held) where
   abbrev q : Else-is_short
-  q = (goal.at.After-all_held c).After-is_short
+  q = (goal.at.After-all_held c).Else-is_short
 
   held-is : all_held (take (pieces_of (st q).length) (y q)) ≡ c.all_held.result
   held-is = sym (c.all_held.ensures ∙ ap (λ (n : ℕ). all_held (take n (y q))) c.pieces-count.ensures)

@@ -2,8 +2,7 @@ use Prim.Native.Nat.{ℕ}
 use mathlib.Core.Path.{◌≡◌, sym, ap, ◌∙◌}
 use mathlib.Core.Bool.{true, not}
 use mathlib.Core.List.{List}
-use borrow.Author.Rules.{rules}
-use borrow.Author.Tests.{eq-eqb, ne_eqb, not-true, not-false}
+use borrow.Author.Tests.{eq-eqb, ne_eqb}
 use lib.Dec.{eqb}
 use lib.ListN.{length}
 use Rattle.assembler.specs.Records.{open_kind, piece_kind, kind_in, formed}
@@ -30,7 +29,7 @@ module _ (c : After-le16-kind) where
   y = c.args.marks.now
 
   ok : formed r ≡ true
-  ok = sym c.is_formed.ensures ∙ not-false _ c.if-not-is_formed.false
+  ok = sym c.is_formed.ensures ∙ c.if-not-is_formed.false
 
   kind-is : (k : ℕ) → c.le16-kind.result ≡ k → kind_in r ≡ k
   kind-is k e = sym c.le16-kind.ensures ∙ e
@@ -40,7 +39,7 @@ module _ (c : After-le16-kind) where
 
 pub returns-then-not-is_formed : goal.returns-then-not-is_formed
 returns-then-not-is_formed c = let a = c.args in
-    fault_form a.state a.sent.now a.image.now a.marks.now (sym c.is_formed.ensures ∙ not-true _ c.if-not-is_formed.true)
+    fault_form a.state a.sent.now a.image.now a.marks.now (sym c.is_formed.ensures ∙ c.if-not-is_formed.true)
 
 pub returns-then-state-ne0 : goal.returns-then-state-ne0
 returns-then-state-ne0 c = let t = (goal.at.returns-then-state-ne0 c).Then-kind-eq-OPEN in

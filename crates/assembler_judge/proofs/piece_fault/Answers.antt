@@ -77,7 +77,11 @@ pub returns-then-is_short : goal.returns-then-is_short
 returns-then-is_short c = pick_yes _ _ _ (sym c.is_short.ensures ∙ c.if-is_short.true) ∙ rest (goal.at.returns-then-is_short c).Else-off_grid
 
 pub is_held_with_other-requires : goal.is_held_with_other-requires
-is_held_with_other-requires c = ((p c).requires, ((fits c).0, (fits c).1))
+is_held_with_other-requires c = record {
+  data_at_in_bounds = (p (goal.at.is_held_with_other-requires c).Else-is_short).requires;
+  sent_in_bounds = (fits (goal.at.is_held_with_other-requires c).Else-is_short).0;
+  sent_in_bounds_2 = (fits (goal.at.is_held_with_other-requires c).Else-is_short).1;
+}
 
 pub returns-then-is_held_with_other : goal.returns-then-is_held_with_other
 returns-then-is_held_with_other c = pick_yes _ _ _ (sym c.is_held_with_other.ensures ∙ c.if-is_held_with_other.true) ∙ last (goal.at.returns-then-is_held_with_other c).Else-is_short
