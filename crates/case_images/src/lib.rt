@@ -1,5 +1,7 @@
 // Images for the programs that run cases, damaged ones too: built in a lent buffer, field by field, and given the right
 // checksum. Every function is total: what would lie past the buffer is left out.
+#![tactic(auto)]
+
 ghost use Rattle.std.specs.Prelude.{◌≡◌, ◌≤◌, min, length, take};
 ghost use Rattle.eif.specs.Worked.{worked_plan};
 ghost use Rattle.eif_checksum.specs.Put.{with_checksum};
@@ -94,7 +96,7 @@ pub const WORKED_SIZE: usize = Header::SIZE + 3 * SectionHeader::SIZE + 2;
 pub const MOST: usize = 6;
 
 // An image of packed sections: its header's fields, and of each section its type, its flags and the length of its data.
-#[derive(Drop)]
+#[derive(Clone, Copy)]
 pub struct Shape {
     pub version: u16,
     pub flags: u16,
