@@ -264,6 +264,7 @@ fn stray(b: u8) -> u8
 
 // The size of the character beyond ASCII at place i. 0 if there is none, if it begins with F4, or if fewer than four bytes are left: then the
 // tables decide.
+#[tactic(auto, using(crate::proofs::Beyond::passed_none))]
 fn wide_char(s: &[u8], i: usize) -> usize
     requires { i ≤ length s.now }
     ensures { (i + result ≤ length s.now) × Skipped s.now i (i + result) }

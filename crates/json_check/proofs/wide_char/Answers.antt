@@ -1,5 +1,5 @@
 use native.Mathlib.Omega.{arith}
-use Rattle.json_check.proofs.Beyond.{passed_none, passed_two, passed_low3, passed_cut3, passed_three, passed_low4, passed_four}
+use Rattle.json_check.proofs.Beyond.{passed_two, passed_low3, passed_cut3, passed_three, passed_low4, passed_four}
 use Rattle.json_check.proofs.wide_char.Goals as goal
 use Rattle.json_check.proofs.wide_char.Goals.{Else-a-lt240, Else-stray-ne0, Else-stray-ne0-2, Else-stray-ne0-3}
 
@@ -30,7 +30,7 @@ returns-then-a-3 c = let e11 = (goal.at.returns-then-a-3 c).Else-stray-ne0-3 in
     let e5 = (goal.at.Else-stray-ne0-3 e11).Else-stray-ne0-2 in
     let e3 = (goal.at.Else-stray-ne0-2 e5).Else-stray-ne0 in (
       omega arith,
-      passed_low4 _ _ (omega arith) c.if-a-3.true c.if-b-lt144.false (e3.stray.ensures e3.if-stray-ne0.false) (e5.stray-2.ensures e5.if-stray-ne0-2.false)
+      passed_low4 _ _ (omega arith) c.if-a-3.true (omega arith) (e3.stray.ensures e3.if-stray-ne0.false) (e5.stray-2.ensures e5.if-stray-ne0-2.false)
           (e11.stray-3.ensures e11.if-stray-ne0-3.false),
     )
 
@@ -43,30 +43,3 @@ returns-then-a-lt244 c = let e11 = (goal.at.returns-then-a-lt244 c).Else-stray-n
       passed_four _ _ (omega arith) e10.if-a-lt240.false c.if-a-3.false c.if-a-lt244.true (e3.stray.ensures e3.if-stray-ne0.false) (e5.stray-2.ensures e5.if-stray-ne0-2.false)
           (e11.stray-3.ensures e11.if-stray-ne0-3.false),
     )
-
-pub returns-then-s-i-lt4 : goal.returns-then-s-i-lt4
-returns-then-s-i-lt4 c = (omega arith, passed_none _ _)
-
-pub returns-then-a-lt194 : goal.returns-then-a-lt194
-returns-then-a-lt194 c = (omega arith, passed_none _ _)
-
-pub returns-then-stray-ne0 : goal.returns-then-stray-ne0
-returns-then-stray-ne0 c = (omega arith, passed_none _ _)
-
-pub returns-then-stray-ne0-2 : goal.returns-then-stray-ne0-2
-returns-then-stray-ne0-2 c = (omega arith, passed_none _ _)
-
-pub returns-then-b-lt160 : goal.returns-then-b-lt160
-returns-then-b-lt160 c = (omega arith, passed_none _ _)
-
-pub returns-then-a-2 : goal.returns-then-a-2
-returns-then-a-2 c = (omega arith, passed_none _ _)
-
-pub returns-then-stray-ne0-3 : goal.returns-then-stray-ne0-3
-returns-then-stray-ne0-3 c = (omega arith, passed_none _ _)
-
-pub returns-then-b-lt144 : goal.returns-then-b-lt144
-returns-then-b-lt144 c = (omega arith, passed_none _ _)
-
-pub returns : goal.returns
-returns c = (omega arith, passed_none _ _)
