@@ -13,7 +13,8 @@ use Rattle.eif.specs.Layout.{offset_at, end_at, kind_at}
 use Rattle.eif.specs.Reading.{checksum_of}
 use Rattle.eif.specs.Burst.{SameBut, DifferWithin}
 use Rattle.eif.specs.Acceptance.{AllowedType, Present, MeetsRules, InSection}
-use Rattle.eif.specs.Worked.{worked_image, worked_checksum, worked_accepted}
+use Rattle.eif.specs.Worked.{worked_image}
+use Rattle.eif.proofs.Worked.{worked_checksum, worked_accepted}
 use Rattle.eif_laws.proofs.Acceptance.{accepted_exactly_when}
 
 -- ---- five bytes: two that differ lie within four neighbours; a first and a last one do not

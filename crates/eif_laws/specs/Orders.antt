@@ -23,7 +23,8 @@ use Rattle.eif.specs.Plan.{data_before, plan_verdict, size_fault, write_verdict}
 use Rattle.eif.specs.Stream.{kept, keeps, stream_of, copy_verdict, past_end}
 use Rattle.eif.specs.Roll.{head_of, flags_record, flags_fault, record_at, head_fault, body_fault, end_from, roll_fault, read_rest, read_roll, roll_of, measured_in, roll_bytes, roll_verdict}
 use Rattle.eif.specs.Order.{Rule, order_rules, type_rules, header_rules, section_rules, view_rules, plan_rules, write_rules, flags_rules, head_rules, body_rules, end_rules, roll_rules_from, roll_rules}
-use Rattle.eif.specs.Worked.{worked_image, worked_place, plan_over, other_checksum, worked_checksum}
+use Rattle.eif.specs.Worked.{worked_image, worked_place, plan_over, other_checksum}
+use Rattle.eif.proofs.Worked.{worked_checksum}
 use Rattle.eif.specs.Rows.{worked_roll, no_flags, kernel_record, ramdisk_record, end_record, full_roll}
 use Rattle.eif.specs.declared.Plan.{Plan}
 use Rattle.eif.specs.declared.Stream.TheVariants.{Whole}

@@ -15,7 +15,8 @@ use Rattle.eif.specs.Layout.{packed_by}
 use Rattle.eif.specs.Rules.{seen, order_fault, missing}
 use Rattle.eif.specs.Roll.{Record, head_of, flags_record, measured_in, SameBoot, Begins, flags_fault, record_at, head_fault, body_fault, end_from, roll_fault, read_rest, read_roll, roll_of, roll_bytes, roll_verdict}
 use Rattle.eif.specs.Rows.{worked_roll}
-use Rattle.eif.specs.Worked.{worked_image, worked_accepted, worked_roll_holds}
+use Rattle.eif.specs.Worked.{worked_image, worked_roll_holds}
+use Rattle.eif.proofs.Worked.{worked_accepted}
 use Rattle.eif.specs.declared.RollReading.{RollReading}
 use Rattle.eif.specs.declared.Verdict.{Verdict}
 use Rattle.eif.specs.declared.Verdict.TheVariants.{Accepted}

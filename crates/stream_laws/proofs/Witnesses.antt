@@ -7,7 +7,8 @@ use lib.ListN.{length}
 use Rattle.octets.specs.Bytes.{field, be_value}
 use Rattle.eif.specs.Answers.{refuse, and_then}
 use Rattle.eif.specs.Stream.{keeps, kept, stream_of, stream_part, past_end, copy_verdict, copied_for, copy_answer}
-use Rattle.eif.specs.Worked.{worked_image, worked_accepted, copy_refused}
+use Rattle.eif.specs.Worked.{worked_image}
+use Rattle.eif.proofs.Worked.{worked_accepted, copy_refused}
 use Rattle.eif.specs.declared.Copied.{Copied}
 use Rattle.eif.specs.declared.Stream.TheVariants.{Whole}
 use Rattle.eif.specs.declared.Verdict.{Verdict}
