@@ -2,6 +2,8 @@
 //
 // `read` needs no file but the bytes that its checksum has not taken in yet. So a reader that has the whole file and one that sees it in
 // pieces share every rule. The verdict comes first and the sections are listed only where it accepts: a reading is large, and is made once.
+#![tactic(auto)]
+
 ghost use Rattle.std.specs.Prelude.{ℕ, ◌+◌, ◌*◌, ◌<◌, ◌≤◌, ◌≡◌, List, ltb, drop};
 ghost use Rattle.std.specs.Int.Bits.{bit_xor};
 ghost use Rattle.std.specs.Int.Count.{ones, count_trailing_zeros};
@@ -187,7 +189,7 @@ fn entry_fault(header: &[u8], headers: &[u8], size: u64, i: usize, begin: u64) -
 }
 
 // The verdict on the sections; where it accepts, their types, and where the last of them ends.
-#[derive(Drop)]
+#[derive(Clone, Copy)]
 struct Walked {
     verdict: Verdict,
     kinds: [u16; eif::PLACES],
