@@ -1,7 +1,7 @@
 -- The worked roll and its neighbours, R1 to R11 of FORMAT.md, The boot roll, each behind a flags record, and neighbours of the flags
 -- record: one table, one claim for all rows. Numbers are written out, as FORMAT.md prints them.
 -- Assumes nothing.
-use Rattle.std.specs.Prelude.{ℕ, zero, suc, ◌+◌, ◌-◌, ◌≡◌, refl, List, [], ◌∷◌, ◌++◌, map, length, replicate, take}
+use Rattle.std.specs.Prelude.{ℕ, zero, suc, ◌+◌, ◌≡◌, refl, List, [], ◌∷◌, ◌++◌, map, length, replicate, take}
 use Rattle.eif.specs.Layout.{packed_by}
 use Rattle.eif.specs.Table.{in_table}
 use Rattle.octets.specs.Bytes.{le_field}

@@ -3,20 +3,18 @@
 -- What rests on its checksum stands in proofs/Worked.antt.
 -- Assumes nothing.
 use Rattle.std.specs.Prelude.{ℕ, ◌≡◌, refl, List, [], ◌∷◌, ◌++◌, map, length, replicate, take}
-use Rattle.std.proofs.Common.{ap}
 use Rattle.eif.specs.Table.{in_table, join_from}
-use Rattle.eif.specs.Output.{room_verdict}
 use Rattle.octets.specs.Bytes.{be_value, field}
 use Rattle.octets.specs.Over.{over}
 use Rattle.crc32.specs.Crc.{crc32, crc_from, shift_bits, shift_bit}
 use Rattle.eif.specs.Numbers.{kernel, command_line, ramdisk, signature, metadata}
 use Rattle.eif.specs.Rules.{allowed_in, seen, order_fault, type_fault, missing, missing_fault, types_verdict, first_refusal, field_fault}
-use Rattle.eif.specs.Answers.{refuse, refuse_at, and_then}
+use Rattle.eif.specs.Answers.{refuse, refuse_at}
 use Rattle.eif.specs.Layout.{view_of, offset_at, packed_by}
-use Rattle.eif.specs.Reading.{header_fault, entry_fault, section_fault, tail_fault, checksum_fault, position_in, judged, early, verdict_in, checksum_of, verdict_of, blank_section, sections_of, reading_of, mark_of}
+use Rattle.eif.specs.Reading.{header_fault, entry_fault, section_fault, tail_fault, checksum_fault, position_in, judged, early, verdict_in, verdict_of, blank_section, sections_of, reading_of, mark_of}
 use Rattle.eif.specs.Plan.{blank_place, plan_verdict, data_before, fixed_fields, table_bytes, header_bytes, section_header, plain_image, write_verdict, size_fault, place_at}
-use Rattle.eif.specs.Roll.{head_of, flags_record, roll_of, measured_in, roll_bytes, roll_verdict}
-use Rattle.eif.specs.Stream.{keeps, kept, stream_sections, sections_answer, stream_part, copy_verdict, copied_for, copy_answer, length_for, length_answer, stream_of, past_end}
+use Rattle.eif.specs.Roll.{head_of, flags_record, roll_of, measured_in, roll_bytes}
+use Rattle.eif.specs.Stream.{keeps, kept, stream_sections, sections_answer}
 use Rattle.eif.specs.Rows.{worked_roll}
 use Rattle.eif.specs.declared.Place.{Place}
 use Rattle.eif.specs.declared.Plan.{Plan}
