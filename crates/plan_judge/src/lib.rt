@@ -1,4 +1,6 @@
 // Judging a plan of an image by the rules 4, 5, 9 to 12, 1 and 15 (FORMAT.md, Writing an image), before a byte is written.
+#![tactic(auto)]
+
 ghost use Rattle.std.specs.Prelude.{◌≡◌, ◌<◌, ◌≤◌, length};
 ghost use Rattle.eif.specs.Numbers.{place_count};
 ghost use Rattle.eif.specs.Rules.{type_fault, types_verdict};
