@@ -1,5 +1,7 @@
 // What the programs that run cases say. A verdict in words is bytes in a buffer, which a contract fixes; what is printed has no contract,
 // since none can say what arrives.
+#![tactic(auto)]
+
 ghost use Rattle.std.specs.Prelude.{◌≡◌};
 ghost use Rattle.io.specs.Counts.{IsPrefixLen};
 ghost use Rattle.eif_lines.specs.Lines.{in_buffer};
@@ -7,7 +9,7 @@ ghost use Rattle.case_lines.specs.Answers.{accepted_word, verdict_text};
 
 use eif::{Refusal, Verdict, Written};
 use eif_lines::Text;
-use libc::STDOUT_FILENO;
+use std::io;
 
 fn accepted() -> Text
     ensures value { result ≡ in_buffer accepted_word }
@@ -31,54 +33,48 @@ pub fn answer(verdict: Verdict) -> Text
 
 // ---- on standard output
 
-pub fn text(bytes: &[u8]) {
-    io::write_all(STDOUT_FILENO, bytes);
+pub fn text(rt: &impl Print, bytes: &[u8]) -> io::Result<()> {
+    rt.write_all(bytes)
 }
 
-pub fn number(n: u64) {
-    io::print_decimal(STDOUT_FILENO, n);
+pub fn number(rt: &impl Print, n: u64) -> io::Result<()> {
+    rt.print(n)
 }
 
 // Words, and a number after them.
-pub fn labelled(words: &[u8], n: u64) {
-    text(words);
-    number(n);
+pub fn labelled(rt: &impl Print, words: &[u8], n: u64) -> io::Result<()> {
+    text(rt, words)?;
+    number(rt, n)
 }
 
 // One text if it is so, another if not.
-pub fn tell(so: bool, yes: &[u8], no: &[u8]) {
-    if so {
-        text(yes);
-    } else {
-        text(no);
-    }
+pub fn tell(rt: &impl Print, so: bool, yes: &[u8], no: &[u8]) -> io::Result<()> {
+    if so { text(rt, yes) } else { text(rt, no) }
 }
 
 // In two hexadecimal digits.
-pub fn byte(b: u8) {
-    io::print_hex(STDOUT_FILENO, b as u64, 2);
+pub fn byte(rt: &impl Print, b: u8) -> io::Result<()> {
+    print!(rt; "{b:02x}")
 }
 
-pub fn hex(bytes: &[u8]) {
-    let mut i: usize = 0;
-    while i < bytes.len() {
-        byte(bytes[i]);
-        i += 1;
+pub fn hex(rt: &impl Print, bytes: &[u8]) -> io::Result<()> {
+    for b in bytes {
+        byte(rt, *b)?;
     }
+    Ok(())
 }
 
-pub fn say(verdict: Verdict) {
-    eif_print::print(answer(verdict));
+pub fn say(rt: &impl Print, verdict: Verdict) -> io::Result<()> {
+    eif_print::print(rt, answer(verdict))
 }
 
-pub fn written(answer: Written) {
-    let verdict = answer.verdict;
-    say(verdict);
-    labelled(b", length ", answer.length);
+pub fn written(rt: &impl Print, answer: Written) -> io::Result<()> {
+    say(rt, answer.verdict)?;
+    labelled(rt, b", length ", answer.length)
 }
 
 // Without the position, for calls whose refusals have none.
-pub fn refusal(r: Refusal) {
-    labelled(b"refused ", r.number as u64);
-    labelled(b" at ", r.index);
+pub fn refusal(rt: &impl Print, r: Refusal) -> io::Result<()> {
+    labelled(rt, b"refused ", u64::from(r.number))?;
+    labelled(rt, b" at ", r.index)
 }

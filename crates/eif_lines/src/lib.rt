@@ -1,5 +1,7 @@
 // The lines of the small programs, as bytes in a buffer: a line with an image's version and its number of sections, then a row for each
 // section; or a line for a refusal.
+#![tactic(auto)]
+
 ghost use Rattle.std.specs.Prelude.{◌≡◌, [], ◌+◌, ◌≤◌, min, length, take, replicate};
 ghost use Rattle.io.specs.Counts.{IsPrefixLen};
 ghost use Rattle.octets.specs.Over.{over};
@@ -18,7 +20,7 @@ const LINE: usize = 4 * (DIGITS + 1);
 pub const SIZE: usize = LINE * (1 + PLACES);
 
 // The text is the first `length` bytes, and the others are zero.
-#[derive(Drop)]
+#[derive(Clone, Copy)]
 pub struct Text {
     pub bytes: [u8; SIZE],
     pub length: usize,
