@@ -121,6 +121,6 @@ unfolding flags_record roll_of head_of
 worked_is = refl
 
 -- the lower byte of the flags comes first
-pub flags_bytes : flags_record 0x0201 ≡ head_of 2 256 ++ (0x01 ∷ 0x02 ∷ [])
+pub flags_bytes_holds : flags_record 0x0201 ≡ head_of 2 256 ++ (0x01 ∷ 0x02 ∷ [])
 unfolding flags_record
-flags_bytes = refl
+flags_bytes_holds = refl

@@ -19,7 +19,7 @@ use Rattle.octets.proofs.Logic.{choose_zero}
 use Rattle.eif_lemmas.proofs.Verdicts.{then_accepted, accepted_zero, walk_accepted, walk_all}
 use Rattle.eif_lemmas.proofs.Table.{all_filled, filled_at}
 use Rattle.eif_lemmas.proofs.Position.{located_accepted}
-use Rattle.eif_lemmas.proofs.View.{SoundHeader, header, header_fields, sound_of, order_of, Sound}
+use Rattle.eif_lemmas.proofs.View.{SoundHeader, header, header_fields, sound_of, order_of_holds, Sound}
 use Rattle.eif_lemmas.proofs.Fields.{fields_zero}
 
 pub record Passes (v : View) (computed : ℕ) : Type 0 where
@@ -89,4 +89,4 @@ module _ (s : List ℕ) (e : verdict_of s ≡ Accepted) where
   sound_at i h = sound_of (view_of s) i (passes.sections i h)
 
   pub order_at : (i : ℕ) → i < count_of s → order_fault (kind_at s) (kind_at s i) i ≡ 0
-  order_at i h = order_of (view_of s) i (passes.sections i h)
+  order_at i h = order_of_holds (view_of s) i (passes.sections i h)

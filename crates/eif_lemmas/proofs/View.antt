@@ -70,9 +70,9 @@ sound v i e =
     }
 
 module _ (v : View) (i : ℕ) where
-  pub fault_entry : (entry_fault v i ≡ 0 → ⊥) → section_fault v i ≡ entry_fault v i
+  pub fault_entry_holds : (entry_fault v i ≡ 0 → ⊥) → section_fault v i ≡ entry_fault v i
   unfolding section_fault
-  fault_entry h = simp (ne_eqb _ _ h)
+  fault_entry_holds h = simp (ne_eqb _ _ h)
 
   pub fault_order : entry_fault v i ≡ 0 → section_fault v i ≡ order_fault v.kind (v.kind i) i
   unfolding section_fault
@@ -127,5 +127,5 @@ entry_zero v i e = ⊎_elim (λ z. z) (λ z. simp (ne_eqb (entry_fault v i) 0 z)
 pub sound_of : (v : View) (i : ℕ) → section_fault v i ≡ 0 → Sound v i
 sound_of v i e = sound v i (entry_zero v i e)
 
-pub order_of : (v : View) (i : ℕ) → section_fault v i ≡ 0 → order_fault v.kind (v.kind i) i ≡ 0
-order_of v i e = simp (fault_order v i (entry_zero v i e)) at e
+pub order_of_holds : (v : View) (i : ℕ) → section_fault v i ≡ 0 → order_fault v.kind (v.kind i) i ≡ 0
+order_of_holds v i e = simp (fault_order v i (entry_zero v i e)) at e

@@ -15,7 +15,7 @@ use Rattle.eif.specs.declared.Verdict.{Verdict}
 use Rattle.eif_lemmas.proofs.Verdicts.{never, walk_stop, walk_on}
 use Rattle.eif_lemmas.proofs.Types.{order_none, order_kernel, order_lone, order_twice, order_more, order_more_ramdisk}
 use Rattle.eif_lemmas.proofs.Table.{filled_more, filled_at}
-use Rattle.eif_lemmas.proofs.View.{sound, fault_entry, fault_order}
+use Rattle.eif_lemmas.proofs.View.{sound, fault_entry_holds, fault_order}
 use Rattle.eif_judge.specs.Kept.{view_from}
 use Rattle.eif_judge.proofs.walk.Goals as goal
 use Rattle.eif_judge.proofs.walk.Goals.{After-kind_at-kind, At-sections, then-j-eq0+else-kind-eq-RAMDISK, else-j-eq0+then-kind-eq-RAMDISK-2+then-earlier-eq-KERNEL}
@@ -109,7 +109,7 @@ returns-then-count-i c = let l = c.sections in
 pub returns-then-fault-ne0 : goal.returns-then-fault-ne0
 returns-then-fault-ne0 c = let q = (goal.at.returns-then-fault-ne0 c).At-sections in
     let e = c.entry_fault-fault.ensures in
-    let r = c.refuse-verdict.ensures in record { verdict_value = stop q _ _ r c.if-count-i.false c.if-fault-ne0.true (fault_entry (view q) q.sections.i (λ z. c.if-fault-ne0.true (e ∙ z)) ∙ sym e); kinds_value = λ a. never _ (sym r ∙ a) }
+    let r = c.refuse-verdict.ensures in record { verdict_value = stop q _ _ r c.if-count-i.false c.if-fault-ne0.true (fault_entry_holds (view q) q.sections.i (λ z. c.if-fault-ne0.true (e ∙ z)) ∙ sym e); kinds_value = λ a. never _ (sym r ∙ a) }
 
 pub returns-then-kind-eq-RAMDISK : goal.returns-then-kind-eq-RAMDISK
 returns-then-kind-eq-RAMDISK c = let q = (goal.at.returns-then-kind-eq-RAMDISK c).After-kind_at-kind in
