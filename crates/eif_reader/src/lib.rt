@@ -1,4 +1,6 @@
 // The reader of an image: gathers the sections' own headers, and reads by the rules.
+#![tactic(auto)]
+
 ghost use Rattle.std.specs.Prelude.{min, ◌≡◌};
 ghost use Rattle.eif.specs.Numbers.{place_count};
 ghost use Rattle.eif.specs.Layout.{count_of};
