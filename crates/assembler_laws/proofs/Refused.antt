@@ -5,7 +5,6 @@ use mathlib.Core.Path.{◌≡◌, refl, sym, ap, ◌∙◌}
 use mathlib.Core.List.{List, [], ◌∷◌, ◌++◌}
 use mathlib.Core.Logic.{⊎_elim}
 use borrow.Author.Tests.{eq-eqb, ne_eqb}
-use lib.ListN.{length}
 use Rattle.octets.proofs.Logic.{equal_or_not}
 use Rattle.eif.specs.declared.Verdict.TheVariants.{Accepted}
 use Rattle.assembler_laws.specs.Run.{Memory, answer_to, memory_after, fault_at, run, taken_of, AllAccepted, EachCall, holding}

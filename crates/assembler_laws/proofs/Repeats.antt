@@ -114,7 +114,7 @@ pub repeat_changes_nothing : (w : Memory) (r : List ℕ) (rs : List (List ℕ)) 
 repeat_changes_nothing w r rs s h =
     let v = run (memory_after w r) rs in
     let first = all_stand (number_in r) (data_in r) rs (memory_after w r) h.stays_open (taken_stands w r (no_fault w r h.taken) h.kind) in
-    let bytes = subst (λ (l : List ℕ). Stands (number_in r) l v) (sym h.same_bytes) first in
+    let bytes = subst (λ (l : List ℕ). Stands (number_in r) l v) (sym h.same_bytes_holds) first in
     let g = subst (λ (n : ℕ). Stands n (data_in s) v) (sym h.same_start) bytes in
     let b = g.grid in
     let yes : is_held s v.marks ≡ true = ap not (ne_eqb _ _ g.held_now) in

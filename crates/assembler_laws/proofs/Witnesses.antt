@@ -303,7 +303,7 @@ repeat_holds =
       form_again = refl;
       kind_again = refl;
       same_start = refl;
-      same_bytes = refl;
+      same_bytes_holds = refl;
     }
 
 -- rejected: the piece was not taken, what was taken is a close, the transfer was closed; what comes again has no form, another start, other bytes
@@ -318,7 +318,7 @@ repeat_rejects = (
   λ r. false≢true r.stays_open.0,
   λ r. false≢true r.form_again,
   λ r. let h = r.same_start in omega arith,
-  λ r. apart 0x61 0x62 refl (sym (ap (λ (l : List ℕ). get_or l 0 0) r.same_bytes)),
+  λ r. apart 0x61 0x62 refl (sym (ap (λ (l : List ℕ). get_or l 0 0) r.same_bytes_holds)),
 )
 
 -- ---- any records between an open and a close

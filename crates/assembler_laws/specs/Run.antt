@@ -1,6 +1,6 @@
 -- Transfers: calls in turn, each given the state and both buffers as the last one left them, and what the pieces of an image are.
 -- Assumes nothing.
-use Rattle.std.specs.Prelude.{ℕ, ◌+◌, ◌-◌, ◌<◌, ◌≤◌, ◌%◌, ◌≡◌, true, false, List, [], ◌∷◌, ◌++◌, ◌⊎◌, length, take, drop, replicate, eqb}
+use Rattle.std.specs.Prelude.{ℕ, ◌+◌, ◌<◌, ◌≤◌, ◌%◌, ◌≡◌, true, false, List, [], ◌∷◌, ◌++◌, ◌⊎◌, length, take, drop, replicate, eqb}
 use Rattle.octets.specs.Logic.{choose}
 use Rattle.octets.specs.Lists.{All}
 use Rattle.eif.specs.Numbers.{size_limit}

@@ -45,7 +45,7 @@ pub returns-then-number-ne0 : goal.returns-then-number-ne0
 returns-then-number-ne0 c = let a = c.args in
     let j = c.judge-number in
     let s = step_refused a.state a.sent.now a.image.now a.marks.now j.result j.ensures c.if-number-ne0.true in
-    (ap (λ (v : Verdict). stepped v a.state 0) c.refuse.ensures ∙ s.0, (s.1, s.2))
+    record { value = ap (λ (v : Verdict). stepped v a.state 0) c.refuse.ensures ∙ s.0; image_after = s.1; marks_after = s.2 }
 
 -- an accepted answer with another state
 with : (n : ℕ) (s t : State) → s ≡ t → stepped Accepted s n ≡ stepped Accepted t n
@@ -65,7 +65,7 @@ returns-then-kind-eq-OPEN c = let p = (goal.at.returns-then-kind-eq-OPEN c).Afte
     let s = step_opened (st q) (r q) (x q) (y q) (fine q) (kind-is q open_kind l.if-kind-eq-OPEN.true) in
     let n = p.pieces.ensures ∙ ap pieces_of l.le64-length.ensures in
     let e = o.open_state-next.ensures ∙ ap (λ (m : ℕ). open_state m (length (x q)) (length (y q))) l.le64-length.ensures in
-    (c.accepted.ensures ∙ with 0 _ _ e ∙ s.0, (s.1, c.clear.ensures ∙ ap (λ (m : ℕ). over (y q) 0 (replicate m 0)) n ∙ s.2))
+    record { value = c.accepted.ensures ∙ with 0 _ _ e ∙ s.0; image_after = s.1; marks_after = c.clear.ensures ∙ ap (λ (m : ℕ). over (y q) 0 (replicate m 0)) n ∙ s.2 }
 
 pub take_piece-requires : goal.take_piece-requires
 take_piece-requires c = let q = (goal.at.take_piece-requires c).After-le16-kind in
@@ -77,7 +77,7 @@ returns-then-kind-eq-PIECE c = let p = (goal.at.returns-then-kind-eq-PIECE c).Af
     let t = (goal.at.After-take_piece p).Then-kind-eq-PIECE in
     let q = (goal.at.Then-kind-eq-PIECE t).After-le16-kind in
     let s = step_taken (st q) (r q) (x q) (y q) (fine q) (kind-is q piece_kind t.if-kind-eq-PIECE.true) in
-    (c.accepted-then-kind-eq-PIECE.ensures ∙ s.0, (p.take_piece.ensures.image_after ∙ s.1, p.take_piece.ensures.marks_after ∙ s.2))
+    record { value = c.accepted-then-kind-eq-PIECE.ensures ∙ s.0; image_after = p.take_piece.ensures.image_after ∙ s.1; marks_after = p.take_piece.ensures.marks_after ∙ s.2 }
 
 pub returns : goal.returns
 returns c = let e = (goal.at.returns c).Else-kind-eq-PIECE in
@@ -86,4 +86,4 @@ returns c = let e = (goal.at.returns c).Else-kind-eq-PIECE in
     formed_kinds (r q) (accepted_form (st q) (r q) (x q) (y q) (fine q)) (kind-not q open_kind e.if-kind-eq-OPEN.false) (kind-not q piece_kind e.if-kind-eq-PIECE.false)
     in
     let s = step_closed (st q) (r q) (x q) (y q) (fine q) k in
-    (c.accepted-2.ensures ∙ with (st q).length _ _ c.new.ensures ∙ s.0, (s.1, s.2))
+    record { value = c.accepted-2.ensures ∙ with (st q).length _ _ c.new.ensures ∙ s.0; image_after = s.1; marks_after = s.2 }
