@@ -1,32 +1,33 @@
 // Texts and bytes that are none through `json_check::check`, a line each: a label, and `text` or the place of the fault. They come over
 // standard input, a label, a tab and the bytes to a line, where %XX is the byte of two hexadecimal digits. Each production of RFC 8259 and
 // of RFC 3629 is accepted and refused; the answers in the file `stdout` were made from the RFCs.
+#![tactic(auto)]
+
 ghost use Rattle.std.specs.Prelude.{◌+◌, ◌≤◌, ◌<◌, length};
 
 use json_grammar::JsonVerdict;
-use libc::{STDIN_FILENO, STDOUT_FILENO};
+use std::io::{self, Write};
 
 // The most bytes to a line; more get no answer.
 const LONGEST: usize = 512;
 
 // ---- answers
 
-fn write(bytes: &[u8]) {
-    io::write_all(STDOUT_FILENO, bytes);
+fn write<W: Write>(out: &mut W, bytes: &[u8]) -> io::Result<()> {
+    out.write_all(bytes)
 }
 
-fn place(at: usize) {
-    write(b"fault at ");
-    io::print_decimal(STDOUT_FILENO, at as u64);
+fn place<W: Write>(out: &mut W, at: usize) -> io::Result<()> {
+    write!(out, "fault at {at}")
 }
 
-fn answer(text: &[u8]) {
+fn answer<W: Write>(out: &mut W, text: &[u8]) -> io::Result<()> {
     let verdict = json_check::check(text);
     match verdict {
-        JsonVerdict::Text => write(b"text"),
-        JsonVerdict::Fault(at) => place(at),
+        JsonVerdict::Text => write(out, b"text")?,
+        JsonVerdict::Fault(at) => place(out, at)?,
     }
-    write(b"\n");
+    write(out, b"\n")
 }
 
 // ---- the bytes of a line
@@ -51,7 +52,7 @@ fn digit(b: u8) -> u8
 }
 
 // A byte, and in how many it was written.
-#[derive(Drop)]
+#[derive(Clone, Copy)]
 struct Written {
     byte: u8,
     width: usize,
@@ -75,26 +76,27 @@ fn byte_at(line: &[u8], at: usize) -> Written
 }
 
 // The answer to the first n bytes, where there are so many.
-fn answer_first(text: &[u8], n: usize) {
+fn answer_first<W: Write>(out: &mut W, text: &[u8], n: usize) -> io::Result<()> {
     if n <= text.len() {
-        answer(&text[0..n]);
+        answer(out, &text[0..n])?;
     }
+    Ok(())
 }
 
-fn check(line: &[u8]) {
+fn check<W: Write>(out: &mut W, line: &[u8]) -> io::Result<()> {
     let mut text = [0u8; LONGEST];
     let mut n: usize = 0;
     let mut at: usize = 0;
     while at < line.len() {
         if n == LONGEST {
-            return;
+            return Ok(());
         }
         let next = byte_at(line, at);
         text[n] = next.byte;
         n += 1;
         at += next.width;
     }
-    answer_first(&text, n);
+    answer_first(out, &text, n)
 }
 
 // ---- the lines
@@ -114,29 +116,31 @@ fn find(bytes: &[u8], from: usize, byte: u8) -> usize
     i
 }
 
-fn row(line: &[u8]) {
+fn row<W: Write>(out: &mut W, line: &[u8]) -> io::Result<()> {
     let end = find(line, 0, b'\t');
-    write(&line[0..end]);
-    write(b": ");
+    write(out, &line[0..end])?;
+    write(out, b": ")?;
     if end < line.len() {
-        check(&line[end + 1..]);
+        check(out, &line[end + 1..])?;
     }
+    Ok(())
 }
 
-fn rows(input: &[u8]) {
+fn rows<W: Write>(out: &mut W, input: &[u8]) -> io::Result<()> {
     let mut at: usize = 0;
     while at < input.len() {
         let end = find(input, at, b'\n');
-        row(&input[at..end]);
+        row(out, &input[at..end])?;
         if end == input.len() {
-            return;
+            return Ok(());
         }
         at = end + 1;
     }
+    Ok(())
 }
 
-fn main() {
+fn main(rt: HostRuntime) -> io::Result<()> {
     let mut input = [0u8; 16384];
-    let n = io::read_full(STDIN_FILENO, &mut input);
-    rows(&input[..n]);
+    let n = block_reader::read_full(&mut rt.reader(), &mut input);
+    rows(&mut io::writer(&rt), &input[..n])
 }
