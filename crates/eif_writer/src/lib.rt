@@ -1,6 +1,8 @@
 // Writing the plain image of a plan: header, sections with the lent data in plan order, and the checksum.
 //
 // The plan is judged first, and a refusal leaves every byte of the output as it was.
+#![tactic(auto)]
+
 ghost use Rattle.std.specs.Prelude.{◌≡◌, ◌≤◌, length};
 ghost use Rattle.octets.specs.Bytes.{be_bytes_each};
 ghost use Rattle.octets.specs.Over.{over};
