@@ -3,6 +3,8 @@
 // A state goes in by value and comes back: `begin`, then `feed` for each piece, then `finish` when the file has ended. It keeps what
 // the rules look at and no more, and answers only at the end, by the whole reader's own rules. Every public function is total: each
 // contract holds for any state, and the laws of a state begun fresh are in arriving_laws.
+#![tactic(auto)]
+
 ghost use Rattle.std.specs.Prelude.{◌≡◌, [], ◌+◌, ◌-◌, ◌*◌, ◌<◌, ◌≤◌, length};
 ghost use Rattle.crc32.specs.Crc.{crc_from};
 ghost use Rattle.eif.specs.Numbers.{place_count};
@@ -19,7 +21,7 @@ pub const COUNT_LIMIT: u64 = 0xFFFFFFFFFFFFFFFF;
 // where they have not come; the checksum's remainder; and whether the end was told (0: no). In this order C leaves no room between
 // the fields.
 #[repr(C)]
-#[derive(Drop)]
+#[derive(Clone, Copy)]
 pub struct Arriving {
     pub taken: u64,
     pub header: [u8; Header::SIZE],
@@ -30,14 +32,14 @@ pub struct Arriving {
 
 // What a piece is answered with: the state after it, and how many of its bytes were taken.
 #[repr(C)]
-#[derive(Drop)]
+#[derive(Clone, Copy)]
 pub struct Fed {
     pub state: Arriving,
     pub count: u64,
 }
 
 // What telling the end is answered with: the state after it, and the reading of the bytes taken.
-#[derive(Drop)]
+#[derive(Clone, Copy)]
 pub struct Finished {
     pub state: Arriving,
     pub reading: Reading,
