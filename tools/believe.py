@@ -23,7 +23,7 @@ README, PROMISES = Path("README.md"), Path("docs/PROMISES.md")
 PRINTERS = ("eif_print", "case_lines")
 BEGIN, END = "<!-- written by tools/believe.py -->", "<!-- to here -->"
 
-USE = re.compile(r"^(?:ghost )?use Rattle·(\w+)(?:·\w+)?\.(specs|proofs)\.([\w.-]+)\.\{([^}]*)\}", re.M)
+USE = re.compile(r"^(?:ghost )?use Rattle\.(\w+)\.(specs|proofs)\.([\w.-]+)\.\{([^}]*)\}", re.M)
 WORD = re.compile(r"[^\s(){}\[\];,λ]+")
 FUNCTION = re.compile(
     r"^ *pub (?:extern \"C\" )?fn (?:(?!^ *(?:pub )?(?:extern \"C\" )?fn ).)*?(?:^ *\{|\{ *$)",

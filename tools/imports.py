@@ -39,8 +39,8 @@ def unused(path):
     names, rest = imported(COMMENT[kind].sub("", path.read_text(encoding="utf-8")), kind)
     found = set(tokens(rest))
     for name in filter(None, names):
-        operator = name == "[]" or name.startswith("_") or name.endswith("_")
-        if not (all(part in rest for part in name.split("_")) if operator else name in found):
+        operator = name == "[]" or "◌" in name
+        if not (all(part in rest for part in name.split("◌")) if operator else name in found):
             yield name
 
 
