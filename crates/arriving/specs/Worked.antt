@@ -10,9 +10,9 @@ use Rattle.arriving.specs.Calls.{grown, fed}
 use Rattle.arriving.specs.declared.Arriving.{Arriving}
 use Rattle.arriving.specs.declared.Fed.{Fed}
 
-pub fresh_state : state_of [] ≡ record { taken = 0; header = replicate 548 0; headers = replicate 384 0; checksum = 0xffffffff; ended = 0 }
+pub fresh_state_holds : state_of [] ≡ record { taken = 0; header = replicate 548 0; headers = replicate 384 0; checksum = 0xffffffff; ended = 0 }
 unfolding state_of kept_of padded headers_of join_from kept_from crc_from field be_value
-fresh_state = refl
+fresh_state_holds = refl
 
 -- ---- the counter: two bytes more pass 2 to the 32, and at 2 to the 64 less 1 it stops, while both bytes are reported as taken
 

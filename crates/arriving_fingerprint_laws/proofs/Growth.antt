@@ -26,7 +26,7 @@ use Rattle.arriving.specs.State.{count_limit, state_of}
 use Rattle.arriving.specs.Calls as arriving
 use Rattle.arriving.specs.declared.Arriving.{Arriving}
 use Rattle.arriving.specs.declared.Fed.{Fed as ArrivingFed}
-use Rattle.arriving_laws.proofs.Growth.{taken_of, open_of}
+use Rattle.arriving_laws.proofs.Growth.{taken_of_holds, open_of}
 use Rattle.arriving_laws.proofs.Runs.{fed_state}
 use Rattle.arriving_sections.specs.Span.{span_of, kept_kind}
 use Rattle.arriving_sections.specs.declared.Span.{Span}
@@ -121,7 +121,7 @@ choose_joined false h d p = refl
 -- ---- the state of bytes
 
 taken_is : (s : List ℕ) → (state_of s).taken ≡ min count_limit (length s)
-taken_is s = taken_of s ∙ length-take count_limit s
+taken_is s = taken_of_holds s ∙ length-take count_limit s
 
 -- no section has begun before the file's header is whole
 none_early : (s : List ℕ) → length s ≤ header_size → (i : ℕ) → record_so_far s i ≡ []

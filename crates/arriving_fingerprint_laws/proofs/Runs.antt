@@ -99,12 +99,12 @@ module _ (cs : List Call) where
   taken_is = ap (λ (m : Fingerprinting). fingerprinting_taken m cs) fresh_is ∙ taken_from [] cs
 
   -- the state is the defined state of exactly the bytes taken
-  pub run_state : fingerprinting_after fresh_fingerprinting cs ≡ fingerprinting_at (told cs) (fingerprinting_taken fresh_fingerprinting cs)
-  run_state = ap (λ (m : Fingerprinting). fingerprinting_after m cs) fresh_is ∙ run_from [] cs ∙ ap (fingerprinting_at (told cs)) (sym taken_is)
+  pub run_state_holds : fingerprinting_after fresh_fingerprinting cs ≡ fingerprinting_at (told cs) (fingerprinting_taken fresh_fingerprinting cs)
+  run_state_holds = ap (λ (m : Fingerprinting). fingerprinting_after m cs) fresh_is ∙ run_from [] cs ∙ ap (fingerprinting_at (told cs)) (sym taken_is)
 
   finish_same : finished_fingerprinting (fingerprinting_after fresh_fingerprinting cs) ≡ finished_fingerprinting (fingerprinting_state (fingerprinting_taken fresh_fingerprinting cs))
   finish_same =
-      ap finished_fingerprinting run_state
+      ap finished_fingerprinting run_state_holds
       ∙ choose_holds (λ (m : Fingerprinting). finished_fingerprinting m ≡ finished_fingerprinting (fingerprinting_state (fingerprinting_taken fresh_fingerprinting cs))) (told cs) _ _ (λ _. told_again (fingerprinting_state (fingerprinting_taken fresh_fingerprinting cs))) (λ _. refl)
 
   -- finishing gives the whole reader's answer on the bytes taken, also after an earlier finish
@@ -117,7 +117,7 @@ module _ (cs : List Call) where
 
   module _ (going : told cs ≡ false) where
     open_state_holds : fingerprinting_after fresh_fingerprinting cs ≡ fingerprinting_state (fingerprinting_taken fresh_fingerprinting cs)
-    open_state_holds = run_state ∙ ap (λ (b : Bool). fingerprinting_at b (fingerprinting_taken fresh_fingerprinting cs)) going
+    open_state_holds = run_state_holds ∙ ap (λ (b : Bool). fingerprinting_at b (fingerprinting_taken fresh_fingerprinting cs)) going
 
     -- before the end, a piece is taken up to the allowance
     pub count_open : (piece : List ℕ) (allowance : ℕ) → (fed_fingerprinting (fingerprinting_after fresh_fingerprinting cs) piece allowance).count ≡ min allowance (length piece)
@@ -125,7 +125,7 @@ module _ (cs : List Call) where
 
   module _ (ended : told cs ≡ true) where
     ended_state : fingerprinting_after fresh_fingerprinting cs ≡ ended_fingerprinting (fingerprinting_state (fingerprinting_taken fresh_fingerprinting cs))
-    ended_state = run_state ∙ ap (λ (b : Bool). fingerprinting_at b (fingerprinting_taken fresh_fingerprinting cs)) ended
+    ended_state = run_state_holds ∙ ap (λ (b : Bool). fingerprinting_at b (fingerprinting_taken fresh_fingerprinting cs)) ended
 
     -- after the end nothing is taken
     pub count_ended : (piece : List ℕ) (allowance : ℕ) → (fed_fingerprinting (fingerprinting_after fresh_fingerprinting cs) piece allowance).count ≡ 0

@@ -98,9 +98,9 @@ module _ (s t : List ℕ) where
 
 -- ---- and where the counter ends
 
-pub taken_of : (s : List ℕ) → (state_of s).taken ≡ length (take count_limit s)
+pub taken_of_holds : (s : List ℕ) → (state_of s).taken ≡ length (take count_limit s)
 unfolding state_of kept_of
-taken_of s = refl
+taken_of_holds s = refl
 
 pub open_of : (s : List ℕ) → (state_of s).ended ≡ 0
 unfolding state_of kept_of
@@ -109,7 +109,7 @@ open_of s = refl
 pub state_grows : (s t : List ℕ) → grown (state_of s) (take (count_limit - (state_of s).taken) t) ≡ state_of (s ++ t)
 unfolding state_of
 state_grows s t =
-    let room : count_limit - (state_of s).taken ≡ count_limit - length s = rw (taken_of s, length-take count_limit s) (omega arith) in
+    let room : count_limit - (state_of s).taken ≡ count_limit - length s = rw (taken_of_holds s, length-take count_limit s) (omega arith) in
     ap (λ (n : ℕ). grown (state_of s) (take n t)) room
     ∙ kept_grows (take count_limit s) (take (count_limit - length s) t)
     ∙ ap kept_of (sym (take_both count_limit s t))

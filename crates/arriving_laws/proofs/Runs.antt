@@ -20,7 +20,7 @@ use Rattle.arriving.specs.declared.Arriving.{Arriving}
 use Rattle.arriving.specs.declared.Fed.{Fed}
 use Rattle.arriving.proofs.Steps.{fed_open, fed_ended}
 use Rattle.arriving_laws.specs.Runs.{Call, feed, finish, after_call, after_calls, fresh, taken_by, taken_in, told, handed, state_at, Turn, CanTake, Sending, unsent, turn, turns}
-use Rattle.arriving_laws.proofs.Growth.{taken_of, open_of, state_grows}
+use Rattle.arriving_laws.proofs.Growth.{taken_of_holds, open_of, state_grows}
 use Rattle.arriving_laws.proofs.Answer.{image_too_long_holds, answer_of_holds}
 use Rattle.octets.proofs.Logic.{choose_holds}
 
@@ -114,22 +114,22 @@ module _ (cs : List Call) where
   taken_is = taken_from [] cs
 
   -- the state is the defined state of exactly the bytes taken
-  pub run_state : after_calls fresh cs ≡ state_at (told cs) (taken_in fresh cs)
-  run_state = run_from [] cs ∙ ap (state_at (told cs)) (sym taken_is)
+  pub run_state_holds : after_calls fresh cs ≡ state_at (told cs) (taken_in fresh cs)
+  run_state_holds = run_from [] cs ∙ ap (state_at (told cs)) (sym taken_is)
 
   -- finishing gives the whole reader's answer on the bytes taken, refusal and index included; also where the end was told before
   pub run_answer : (finished (after_calls fresh cs)).reading ≡ read_image (taken_in fresh cs)
   run_answer =
       let s = taken_in fresh cs in
-      finish_reading (after_calls fresh cs) ∙ ap answer_of run_state
+      finish_reading (after_calls fresh cs) ∙ ap answer_of run_state_holds
       ∙ choose_holds (λ (a : Arriving). answer_of a ≡ read_image s) (told cs) _ _ (λ _. told_answer (state_of s) ∙ answer_of_holds s) (λ _. answer_of_holds s)
 
   -- the counter has the number of bytes taken, and stops where 64 bits end
   pub run_counter : (after_calls fresh cs).taken ≡ min count_limit (length (taken_in fresh cs))
   run_counter =
       let s = taken_in fresh cs in
-      ap (λ (a : Arriving). a.taken) run_state
-      ∙ choose_holds (λ (a : Arriving). a.taken ≡ length (take count_limit s)) (told cs) _ _ (λ _. told_taken (state_of s) ∙ taken_of s) (λ _. taken_of s)
+      ap (λ (a : Arriving). a.taken) run_state_holds
+      ∙ choose_holds (λ (a : Arriving). a.taken ≡ length (take count_limit s)) (told cs) _ _ (λ _. told_taken (state_of s) ∙ taken_of_holds s) (λ _. taken_of_holds s)
       ∙ length-take count_limit s
 
   -- past the limit of an image, as where the counter stops, the answer is 1
@@ -138,7 +138,7 @@ module _ (cs : List Call) where
 
   module _ (going : told cs ≡ false) where
     open_state_holds : after_calls fresh cs ≡ state_of (taken_in fresh cs)
-    open_state_holds = run_state ∙ ap (λ (b : Bool). state_at b (taken_in fresh cs)) going
+    open_state_holds = run_state_holds ∙ ap (λ (b : Bool). state_at b (taken_in fresh cs)) going
 
     module _ (piece : List ℕ) (allowance : ℕ) where
       -- until the end is told, a piece is taken up to the allowance
@@ -151,7 +151,7 @@ module _ (cs : List Call) where
 
   module _ (ended : told cs ≡ true) where
     ended_state : after_calls fresh cs ≡ told_end (state_of (taken_in fresh cs))
-    ended_state = run_state ∙ ap (λ (b : Bool). state_at b (taken_in fresh cs)) ended
+    ended_state = run_state_holds ∙ ap (λ (b : Bool). state_at b (taken_in fresh cs)) ended
 
     -- after the end is told nothing is taken
     pub count_ended : (piece : List ℕ) (allowance : ℕ) → (fed (after_calls fresh cs) piece allowance).count ≡ 0

@@ -95,10 +95,10 @@ module _ (verdict : Verdict) (d : Streams) where
   unfolding three_digests
   zeros_beside r e = simp e
 
-  pub registers_beside : verdict ≡ Accepted → {a b c : List ℕ} → a ≡ register_from (digest_from d.whole) → b ≡ register_from (digest_from d.boot)
+  pub registers_beside_holds : verdict ≡ Accepted → {a b c : List ℕ} → a ≡ register_from (digest_from d.whole) → b ≡ register_from (digest_from d.boot)
       → c ≡ register_from (digest_from d.app) → as_digest a ∷ as_digest b ∷ as_digest c ∷ [] ≡ three_digests verdict d
   unfolding three_digests
-  registers_beside e p q r = simp e (one_each p q r)
+  registers_beside_holds e p q r = simp e (one_each p q r)
 
 pub finished_is : (m : Measuring) {f : Told} {l : List Digest} → f ≡ arriving.finished m.arriving → l ≡ three_digests f.reading.verdict m.streams
     → ◌≡◌ {A = Finished} (record { state = measuring_of f.state m.streams; reading = f.reading; registers = l }) (finished_measuring m)

@@ -109,12 +109,12 @@ module _ (cs : List Call) where
   taken_is = ap (λ (m : Measuring). measuring_taken m cs) fresh_is ∙ taken_from [] cs
 
   -- the state is the defined state of exactly the bytes taken
-  pub run_state : measuring_after fresh_measuring cs ≡ measuring_at (told cs) (measuring_taken fresh_measuring cs)
-  run_state = ap (λ (m : Measuring). measuring_after m cs) fresh_is ∙ run_from [] cs ∙ ap (measuring_at (told cs)) (sym taken_is)
+  pub run_state_holds : measuring_after fresh_measuring cs ≡ measuring_at (told cs) (measuring_taken fresh_measuring cs)
+  run_state_holds = ap (λ (m : Measuring). measuring_after m cs) fresh_is ∙ run_from [] cs ∙ ap (measuring_at (told cs)) (sym taken_is)
 
   finish_same : finished_measuring (measuring_after fresh_measuring cs) ≡ finished_measuring (measured_of (measuring_taken fresh_measuring cs))
   finish_same =
-      ap finished_measuring run_state
+      ap finished_measuring run_state_holds
       ∙ choose_holds (λ (m : Measuring). finished_measuring m ≡ finished_measuring (measured_of (measuring_taken fresh_measuring cs))) (told cs) _ _ (λ _. told_again (measured_of (measuring_taken fresh_measuring cs))) (λ _. refl)
 
   -- finishing gives the whole reader's answer on the bytes taken, also after an earlier finish
@@ -127,7 +127,7 @@ module _ (cs : List Call) where
 
   module _ (going : told cs ≡ false) where
     open_state_holds : measuring_after fresh_measuring cs ≡ measured_of (measuring_taken fresh_measuring cs)
-    open_state_holds = run_state ∙ ap (λ (b : Bool). measuring_at b (measuring_taken fresh_measuring cs)) going
+    open_state_holds = run_state_holds ∙ ap (λ (b : Bool). measuring_at b (measuring_taken fresh_measuring cs)) going
 
     -- before the end, a piece is taken up to the allowance
     pub count_open : (piece : List ℕ) (allowance : ℕ) → (fed_measuring (measuring_after fresh_measuring cs) piece allowance).count ≡ min allowance (length piece)
@@ -135,7 +135,7 @@ module _ (cs : List Call) where
 
   module _ (ended : told cs ≡ true) where
     ended_state : measuring_after fresh_measuring cs ≡ told_of (measured_of (measuring_taken fresh_measuring cs))
-    ended_state = run_state ∙ ap (λ (b : Bool). measuring_at b (measuring_taken fresh_measuring cs)) ended
+    ended_state = run_state_holds ∙ ap (λ (b : Bool). measuring_at b (measuring_taken fresh_measuring cs)) ended
 
     -- after the end nothing is taken
     pub count_ended : (piece : List ℕ) (allowance : ℕ) → (fed_measuring (measuring_after fresh_measuring cs) piece allowance).count ≡ 0

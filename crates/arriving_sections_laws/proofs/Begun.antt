@@ -19,7 +19,7 @@ use Rattle.arriving_sections.specs.Span.{kept_kind, used_places}
 use Rattle.arriving_sections_laws.specs.Given.{places_in_order, data_so_far}
 use Rattle.arriving_sections_laws.proofs.Order.{packed, packed_suc, packed_first, packed_le, ordered_most}
 use Rattle.arriving_sections_laws.proofs.Heads.{offset_same}
-use Rattle.arriving_sections_laws.proofs.Growth.{few_ordered, placed, data_in, data_none}
+use Rattle.arriving_sections_laws.proofs.Growth.{few_ordered, placed, data_in_holds, data_none}
 
 -- no section has more data than the longest image
 pub data_few : (s : List ℕ) (i : ℕ) → length (data_so_far s i) ≤ size_limit
@@ -28,7 +28,7 @@ data_few s i =
     (λ (g : places_in_order s ≤ i). rw (data_none s i g) (omega arith))
     (λ (g : i < places_in_order s).
     let z = (placed s i g).1 in
-    rw (data_in s i g, length-take (size_at s i) (drop (packed s i + section_header_size) s)) (omega (arith, packed_suc s i)))
+    rw (data_in_holds s i g, length-take (size_at s i) (drop (packed s i + section_header_size) s)) (omega (arith, packed_suc s i)))
     (le_or_lt (places_in_order s) i)
 
 -- ---- a section in order whose own header has arrived

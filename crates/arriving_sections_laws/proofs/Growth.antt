@@ -15,7 +15,7 @@ use Rattle.eif.specs.Numbers.{place_count}
 use Rattle.eif.specs.Layout.{header_size, section_header_size, size_at}
 use Rattle.arriving.specs.State.{padded, count_limit, kept_of, state_of}
 use Rattle.arriving_laws.proofs.Padded.{padded_first}
-use Rattle.arriving_laws.proofs.Growth.{taken_of}
+use Rattle.arriving_laws.proofs.Growth.{taken_of_holds}
 use Rattle.arriving_sections.specs.Span.{none_for, used_places, span_from, span_of}
 use Rattle.arriving_sections.specs.declared.Span.{Span}
 use Rattle.arriving_sections.proofs.Steps.{span_header, span_sections}
@@ -54,9 +54,9 @@ module _ (s : List ℕ) where
   pub placed : (i : ℕ) → i < places_in_order s → Placed s i
   placed i h = ordered_placed s (used_places s) 0 header_size (sym (packed_first s)) i (omega arith) h
 
-  pub data_in : (i : ℕ) → i < places_in_order s → data_so_far s i ≡ take (size_at s i) (drop (packed s i + section_header_size) s)
+  pub data_in_holds : (i : ℕ) → i < places_in_order s → data_so_far s i ≡ take (size_at s i) (drop (packed s i + section_header_size) s)
   unfolding data_so_far
-  data_in i h = simp (lt-ltb _ _ h) (ap (λ (n : ℕ). take (size_at s i) (drop (n + section_header_size) s)) (placed i h).0)
+  data_in_holds i h = simp (lt-ltb _ _ h) (ap (λ (n : ℕ). take (size_at s i) (drop (n + section_header_size) s)) (placed i h).0)
 
   pub data_none : (i : ℕ) → places_in_order s ≤ i → data_so_far s i ≡ []
   unfolding data_so_far
@@ -67,7 +67,7 @@ module _ (s : List ℕ) where
   data_ahead i h =
       ⊎_elim
       (λ g. data_none i g)
-      (λ g. data_in i g ∙ ap (take (size_at s i)) (drop_of_length-le s {i = packed s i + section_header_size} h) ∙ take-nil (size_at s i))
+      (λ g. data_in_holds i g ∙ ap (take (size_at s i)) (drop_of_length-le s {i = packed s i + section_header_size} h) ∙ take-nil (size_at s i))
       (le_or_lt (places_in_order s) i)
 
   pub data_early : (i : ℕ) → length s ≤ header_size → data_so_far s i ≡ []
@@ -88,12 +88,12 @@ module _ (s p : List ℕ) (whole : header_size ≤ length s) where
         data_none (s ++ p) i (omega (arith, o)) ∙ sym (ap₂ (λ (x y : List ℕ). x ++ y) (data_none s i g) (simp (ne_eqb _ _ no))))
         (λ (g : i < places_in_order s).
         let e : data_so_far (s ++ p) i ≡ take (size_at s i) (drop (packed s i + section_header_size) (s ++ p)) =
-        data_in (s ++ p) i (omega (arith, o))
+        data_in_holds (s ++ p) i (omega (arith, o))
         ∙ ap₂ (λ (k at : ℕ). take k (drop (at + section_header_size) (s ++ p))) (size_same (s ++ p) s same_head i h) (packed_same (s ++ p) s same_head i (omega arith)) in
         ⊎_elim
-        (λ (q : i ≡ r.place). e ∙ here i g q ∙ ap₂ (λ (x y : List ℕ). x ++ y) (sym (data_in s i g)) (sym (simp (eq-eqb _ _ (sym q)))))
+        (λ (q : i ≡ r.place). e ∙ here i g q ∙ ap₂ (λ (x y : List ℕ). x ++ y) (sym (data_in_holds s i g)) (sym (simp (eq-eqb _ _ (sym q)))))
         (λ (q : i ≡ r.place → ⊥).
-        e ∙ there i g q ∙ sym (data_in s i g) ∙ sym (append-nil (data_so_far s i)) ∙ ap (λ (x : List ℕ). data_so_far s i ++ x) (sym (simp (ne_eqb _ _ (λ k. q (sym k))))))
+        e ∙ there i g q ∙ sym (data_in_holds s i g) ∙ sym (append-nil (data_so_far s i)) ∙ ap (λ (x : List ℕ). data_so_far s i ++ x) (sym (simp (ne_eqb _ _ (λ k. q (sym k))))))
         (equal_or_not i r.place))
         (le_or_lt (places_in_order s) i)
       where
@@ -123,7 +123,7 @@ module _ (s : List ℕ) (n : ℕ) where
   header_of = refl
 
   taken_is : (state_of s).taken ≡ min count_limit (length s)
-  taken_is = taken_of s ∙ length-take count_limit s
+  taken_is = taken_of_holds s ∙ length-take count_limit s
 
   abbrev span_here : Span
   span_here = span_of (state_of s) n

@@ -41,8 +41,8 @@ module _ (s : List ℕ) (p : Part) where
   part_count : (fed_part (state_of s) p).count ≡ min (span_at (state_of s) p).length (length p.piece)
   part_count = ap (λ (f : Fed). f.count) part_fed
 
-  part_taken : taken_part (state_of s) p ≡ bytes
-  part_taken = ap (λ (n : ℕ). take n p.piece) part_count ∙ take_min (span_at (state_of s) p).length p.piece
+  part_taken_holds : taken_part (state_of s) p ≡ bytes
+  part_taken_holds = ap (λ (n : ℕ). take n p.piece) part_count ∙ take_min (span_at (state_of s) p).length p.piece
 
   bytes_few : length bytes ≤ (span_at (state_of s) p).length
   bytes_few = rw (length-take (span_at (state_of s) p).length p.piece) (omega arith)
@@ -56,7 +56,7 @@ state_from s (p ∷ ps) =
     ap (λ (a : Arriving). after_parts a ps) (part_state s p) ∙ state_from (s ++ bytes s p) ps
     ∙ ap state_of
     (append_assoc s (bytes s p) (taken_parts (state_of (s ++ bytes s p)) ps)
-    ∙ ap₂ (λ (x : List ℕ) (a : Arriving). s ++ (x ++ taken_parts a ps)) (sym (part_taken s p)) (sym (part_state s p)))
+    ∙ ap₂ (λ (x : List ℕ) (a : Arriving). s ++ (x ++ taken_parts a ps)) (sym (part_taken_holds s p)) (sym (part_state s p)))
 
 given_from : (i : ℕ) → i < place_count → (s : List ℕ) (ps : List Part)
     → data_so_far s i ++ given_in i (state_of s) ps ≡ data_so_far (s ++ taken_parts (state_of s) ps) i
@@ -64,29 +64,29 @@ unfolding given_in taken_parts
 given_from i h s [] = append-nil (data_so_far s i) ∙ ap (λ (l : List ℕ). data_so_far l i) (sym (append-nil s))
 given_from i h s (p ∷ ps) =
     let b = eqb (span_at (state_of s) p).place i in
-    ap₂ (λ (x : List ℕ) (a : Arriving). data_so_far s i ++ (choose b x [] ++ given_in i a ps)) (part_taken s p) (part_state s p)
+    ap₂ (λ (x : List ℕ) (a : Arriving). data_so_far s i ++ (choose b x [] ++ given_in i a ps)) (part_taken_holds s p) (part_state s p)
     ∙ sym (append_assoc (data_so_far s i) (choose b (bytes s p) []) (given_in i (state_of (s ++ bytes s p)) ps))
     ∙ ap (λ (l : List ℕ). l ++ given_in i (state_of (s ++ bytes s p)) ps) (sym (sections_grow s (bytes s p) p.asked (bytes_few s p) i h))
     ∙ given_from i h (s ++ bytes s p) ps
     ∙ ap (λ (l : List ℕ). data_so_far l i)
     (append_assoc s (bytes s p) (taken_parts (state_of (s ++ bytes s p)) ps)
-    ∙ ap₂ (λ (x : List ℕ) (a : Arriving). s ++ (x ++ taken_parts a ps)) (sym (part_taken s p)) (sym (part_state s p)))
+    ∙ ap₂ (λ (x : List ℕ) (a : Arriving). s ++ (x ++ taken_parts a ps)) (sym (part_taken_holds s p)) (sym (part_state s p)))
 
 -- ---- the laws of any run from the fresh state
 
 module _ (ps : List Part) where
   -- the state is the defined state of exactly the bytes taken, so finishing gives the whole reader's answer on them
-  pub run_state : after_parts fresh ps ≡ state_of (taken_parts fresh ps)
-  run_state = state_from [] ps
+  pub run_state_holds : after_parts fresh ps ≡ state_of (taken_parts fresh ps)
+  run_state_holds = state_from [] ps
 
   pub run_answer : (finished (after_parts fresh ps)).reading ≡ read_image (taken_parts fresh ps)
   unfolding finished
-  run_answer = ap answer_of run_state ∙ answer_of_holds (taken_parts fresh ps)
+  run_answer = ap answer_of run_state_holds ∙ answer_of_holds (taken_parts fresh ps)
 
   -- a call takes at least one byte if the piece is not empty and `next` was asked about at least one
   pub takes_one : (p : Part) → 0 < p.asked → 0 < length p.piece → 0 < (fed_part (after_parts fresh ps) p).count
   takes_one p h g =
-      let e = ap (λ (a : Arriving). (fed_part a p).count) run_state ∙ part_count (taken_parts fresh ps) p in
+      let e = ap (λ (a : Arriving). (fed_part a p).count) run_state_holds ∙ part_count (taken_parts fresh ps) p in
       omega (arith, e, span_some (state_of (taken_parts fresh ps)) p.asked h)
 
   module _ (i : ℕ) (place : i < place_count) where
@@ -116,7 +116,7 @@ taken_from s left (t ∷ ts) w h =
     let m : k ≤ t.size = omega arith in
     let b : bytes s p ≡ take k left = sym (take_min n (take t.size left)) ∙ take-take k t.size left m in
     let r : length (drop k left) ≤ length ts = rw (length-drop k left) (omega (arith, w.0.0)) in
-    ap₂ (λ (x : List ℕ) (f : Fed). x ++ taken_parts f.state (parts_of f.state (drop f.count left) ts)) (part_taken s p ∙ b) (part_fed s p)
+    ap₂ (λ (x : List ℕ) (f : Fed). x ++ taken_parts f.state (parts_of f.state (drop f.count left) ts)) (part_taken_holds s p ∙ b) (part_fed s p)
     ∙ ap (λ (x : List ℕ). take k left ++ x) (taken_from (s ++ bytes s p) (drop k left) ts w.1 r)
     ∙ take-append-drop k left
 

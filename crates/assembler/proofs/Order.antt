@@ -31,9 +31,9 @@ seven false false false false false false true = refl
 seven false false false false false false false = refl
 
 -- beside an answer that accepts, a refusal
-verdict_of : (t : Bool) (a : Stepped) (v : Verdict) (st : State) → a.verdict ≡ Accepted → (choose t a (stepped v st 0)).verdict ≡ choose t Accepted v
-verdict_of true a v st e = e
-verdict_of false a v st e = refl
+verdict_of_holds : (t : Bool) (a : Stepped) (v : Verdict) (st : State) → a.verdict ≡ Accepted → (choose t a (stepped v st 0)).verdict ≡ choose t Accepted v
+verdict_of_holds true a v st e = e
+verdict_of_holds false a v st e = refl
 
 accepts : (t u : Bool) (st : State) (n image marks : ℕ)
     → (choose t (stepped Accepted (open_state n image marks) 0) (choose u (stepped Accepted st 0) (stepped Accepted fresh_state st.length))).verdict ≡ Accepted
@@ -44,6 +44,6 @@ accepts false false st n image marks = refl
 pub step_first : (st : State) (r x y : List ℕ) → (step_answer st r x y).verdict ≡ first_that_applies (step_rules st r x y)
 unfolding step_answer fault_of first_that_applies step_rules
 step_first st r x y =
-    verdict_of (eqb (fault_of st r x y) 0) (accepted_step st r (length x) (length y)) (refuse (fault_of st r x y) 0) st
+    verdict_of_holds (eqb (fault_of st r x y) 0) (accepted_step st r (length x) (length y)) (refuse (fault_of st r x y) 0) st
     (accepts (is_open r) (is_piece r) st (number_in r) (length x) (length y))
     ∙ seven (not (formed r)) (out_of_turn st r) (misplaced st r) (too_long r) (too_short st r x y) (differs r x y) (lacks_piece st r y)

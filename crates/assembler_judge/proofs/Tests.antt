@@ -16,15 +16,15 @@ use Rattle.assembler.specs.Rules.{all_held}
 
 module _ (y : List ℕ) (k : ℕ) where
   module _ (h : k < length y) where
-    held_by : (t : Bool) → eqb (get_or y k 0) 0 ≡ t → both (not t) (all_held (drop (k + 1) y)) ≡ all_held (drop k y)
+    held_by_holds : (t : Bool) → eqb (get_or y k 0) 0 ≡ t → both (not t) (all_held (drop (k + 1) y)) ≡ all_held (drop k y)
     unfolding all_held
-    held_by t e = rw (add-one, drop-cons y k 0 h, e) refl
+    held_by_holds t e = rw (add-one, drop-cons y k 0 h, e) refl
 
     pub held_step : (get_or y k 0 ≡ 0 → ⊥) → all_held (drop (k + 1) y) ≡ all_held (drop k y)
-    held_step e = held_by false (ne_eqb _ _ e)
+    held_step e = held_by_holds false (ne_eqb _ _ e)
 
     pub held_gap : get_or y k 0 ≡ 0 → false ≡ all_held (drop k y)
-    held_gap e = held_by true (eq-eqb _ _ e)
+    held_gap e = held_by_holds true (eq-eqb _ _ e)
 
   pub held_end : length y ≤ k → true ≡ all_held (drop k y)
   unfolding all_held

@@ -16,7 +16,7 @@ use Rattle.assembler.proofs.Faults.{accepted_open, accepted_close}
 use Rattle.assembler_laws.specs.Run.{fault_at, Memory, answer_to, memory_after, run, Agrees, StaysOpen, AnyBetween, EachCall, holding, PieceFor}
 use Rattle.assembler_laws.proofs.Lists.{no_gap}
 use Rattle.assembler_laws.proofs.Calls.{no_fault, while_open, taken_fits}
-use Rattle.assembler_laws.proofs.Transfer.{InProgress, size_is, open_now, one_piece, close_answer, close_leaves, starts}
+use Rattle.assembler_laws.proofs.Transfer.{InProgress, size_is, open_now, one_piece, close_answer_holds, close_leaves, starts}
 
 module _ (m x y : List ℕ) (image_room : length m ≤ length x) (mark_room : pieces_of (length m) ≤ length y) where
   -- any record that agrees and after which the transfer is open
@@ -57,4 +57,4 @@ any_between m w o rs c h =
     let g = all_in_progress m x y i j rs (memory_after w o) (starts m x y i j w.state t.not_open s o h.opens) h.agree h.stays_open in
     let z = no_fault full c h.close_accepted in
     let k = complete m x y i j full g (accepted_close full.state c full.image full.marks z h.closes.kind).all_here in
-    (ap (λ (a : Stepped). a.length) (close_answer m x y i j full g k c z h.closes.kind), close_leaves m x y i j full g k c z h.closes.kind)
+    (ap (λ (a : Stepped). a.length) (close_answer_holds m x y i j full g k c z h.closes.kind), close_leaves m x y i j full g k c z h.closes.kind)

@@ -244,20 +244,20 @@ module _ (w : Memory) (o : List ℕ) (z : fault_at w o ≡ 0) (k : kind_in o ≡
   abbrev zeros : List ℕ
   zeros = replicate (pieces_of (number_in o)) 0
 
-  open_answer : StepAnswers w.state o w.image w.marks (stepped Accepted (open_state (number_in o) (length w.image) (length w.marks)) 0) w.image (over w.marks 0 zeros)
-  open_answer = step_opened w.state o w.image w.marks z k
+  open_answer_holds : StepAnswers w.state o w.image w.marks (stepped Accepted (open_state (number_in o) (length w.image) (length w.marks)) 0) w.image (over w.marks 0 zeros)
+  open_answer_holds = step_opened w.state o w.image w.marks z k
 
   pub opened_accepts : (answer_to w o).verdict ≡ Accepted
-  opened_accepts = sym (ap (λ (a : Stepped). a.verdict) open_answer.0)
+  opened_accepts = sym (ap (λ (a : Stepped). a.verdict) open_answer_holds.0)
 
   pub opened_state : (memory_after w o).state ≡ open_state (number_in o) (length w.image) (length w.marks)
-  opened_state = sym (ap (λ (a : Stepped). a.state) open_answer.0)
+  opened_state = sym (ap (λ (a : Stepped). a.state) open_answer_holds.0)
 
   pub opened_marks : (j : ℕ) → j < pieces_of (number_in o) → get_or (memory_after w o).marks j 0 ≡ 0
   opened_marks j h =
       let room = (accepted_open w.state o w.image w.marks z k).mark_room in
       let n = length-replicate {A = ℕ} (pieces_of (number_in o)) 0 in
-      ap (λ (l : List ℕ). get_or l j 0) (sym open_answer.2) ∙ sym (ap (λ (i : ℕ). get_or (over w.marks 0 zeros) i 0) (zero-add j))
+      ap (λ (l : List ℕ). get_or l j 0) (sym open_answer_holds.2) ∙ sym (ap (λ (i : ℕ). get_or (over w.marks 0 zeros) i 0) (zero-add j))
       ∙ over_in w.marks 0 zeros j (omega arith) (omega arith) ∙ get_or-replicate (pieces_of (number_in o)) j 0 0 h
 
 -- ---- calls in turn

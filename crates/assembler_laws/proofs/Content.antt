@@ -109,8 +109,8 @@ module _ (n : ℕ) (ps : List (List ℕ)) (all : CompleteSet n ps) where
         record { form = fit.form; kind = fit.kind; inside = omega arith; on_grid = fit.on_grid; bytes_are = bytes_are }
 
   -- the piece of each place
-  bytes_of : (k : ℕ) → k < pieces_of n → bytes_for ps k ≡ take piece_size (drop (k * piece_size) content)
-  bytes_of k h =
+  bytes_of_holds : (k : ℕ) → k < pieces_of n → bytes_for ps k ≡ take piece_size (drop (k * piece_size) content)
+  bytes_of_holds k h =
       let f = found ps k (all.cover k h) in
       let g = all.fit f.sent f.member in
       let a = g.on_grid in
@@ -123,7 +123,7 @@ module _ (n : ℕ) (ps : List (List ℕ)) (all : CompleteSet n ps) where
   piece_stands k h =
       let s : k * piece_size + piece_size ≡ suc k * piece_size = omega arith in
       sym (take-append-drop piece_size (drop (k * piece_size) content))
-      ∙ ap₂ (λ (a b : List ℕ). a ++ b) (sym (bytes_of k h)) (drop-drop piece_size (k * piece_size) content ∙ ap (λ (i : ℕ). drop i content) s)
+      ∙ ap₂ (λ (a b : List ℕ). a ++ b) (sym (bytes_of_holds k h)) (drop-drop piece_size (k * piece_size) content ∙ ap (λ (i : ℕ). drop i content) s)
 
   -- the pieces joined
   image_is : content ≡ joined_pieces n ps

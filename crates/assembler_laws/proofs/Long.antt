@@ -68,11 +68,11 @@ module _ (st : State) (r x y : List ℕ) (long : LongRecord r) where
         let d = length-drop data_at r in
         sym (pick_yes _ _ _ (long_off_grid st.length (number_in r) (length (data_in r)) (omega arith)) ∙ fault_piece st r x y ok k o)
 
-    is_piece : fault_of st r x y ≡ long_fault st (kind_in r)
-    is_piece = by_turn (is_opened st) refl ∙ long_by true (eq-eqb _ _ k)
+    is_piece_holds : fault_of st r x y ≡ long_fault st (kind_in r)
+    is_piece_holds = by_turn (is_opened st) refl ∙ long_by true (eq-eqb _ _ k)
 
   pub long_fault_holds : fault_of st r x y ≡ long_fault st (kind_in r)
-  long_fault_holds = ⊎_elim is_piece not_piece (equal_or_not (kind_in r) piece_kind)
+  long_fault_holds = ⊎_elim is_piece_holds not_piece (equal_or_not (kind_in r) piece_kind)
 
 -- one stands for the other
 pub long_alike : (st : State) (r s x y : List ℕ) → LongRecord r → LongRecord s → kind_in r ≡ kind_in s → fault_of st r x y ≡ fault_of st s x y

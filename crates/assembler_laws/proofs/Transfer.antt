@@ -226,8 +226,8 @@ module _ (m x y : List ℕ) (image_room : length m ≤ length x) (mark_room : pi
         (λ k h. g.marks_rest k (omega arith))
         ∙ ap (λ (j : ℕ). ones ++ drop j y) n
 
-    pub close_answer : answer_to full c ≡ stepped Accepted fresh_state (length m)
-    close_answer = (close_ends full c taken kind).0 ∙ ap (λ (n : ℕ). stepped Accepted fresh_state n) (size_is full g)
+    pub close_answer_holds : answer_to full c ≡ stepped Accepted fresh_state (length m)
+    close_answer_holds = (close_ends full c taken kind).0 ∙ ap (λ (n : ℕ). stepped Accepted fresh_state n) (size_is full g)
 
     pub close_leaves : memory_after full c ≡ holding m x y
     close_leaves = (close_ends full c taken kind).1 ∙ equal_parts refl image_is marks_are
@@ -280,7 +280,7 @@ module _ (m x y : List ℕ) (image_room : length m ≤ length x) (mark_room : pi
           ∙ all_held_holds full.marks (pieces_of (length m)) (omega arith) (λ k h z. let e = complete k h in omega arith))
 
       answer_is : answer_to full c ≡ stepped Accepted fresh_state (length m)
-      answer_is = close_answer full g complete c close_taken closes.kind
+      answer_is = close_answer_holds full g complete c close_taken closes.kind
 
       pub ends : Assembled m begun o rs c
       unfolding EachCall run

@@ -88,15 +88,15 @@ module _ (ks : List ℕ) (m b e : ℕ) (g : Spreads ks m (8 * b) e) (s : List �
       ∙ remainder_swap (i + b) (x / 2 ^ c) u n (xor_lt c (x % 2 ^ c) w (mod-lt x (pow_pos c)) h.1)
 
 -- ---- bytes
-bytes_of : (s : List ℕ) → ((k : ℕ) → get_or s k 0 < 256) → AreBytes s
-bytes_of [] h = tt
-bytes_of (b ∷ bs) h = (h 0, bytes_of bs (λ k. h (suc k)))
+bytes_of_holds : (s : List ℕ) → ((k : ℕ) → get_or s k 0 < 256) → AreBytes s
+bytes_of_holds [] h = tt
+bytes_of_holds (b ∷ bs) h = (h 0, bytes_of_holds bs (λ k. h (suc k)))
 
 pub remainder_crc : (s : List ℕ) (c : ℕ) → ((k : ℕ) → get_or s k 0 < 256) → remainder_from s 0 c ≡ crc_from c s
 unfolding remainder_from
 remainder_crc s c h =
     let z : length s - 0 ≡ length s = omega arith in
-    ap (λ (n : ℕ). shift_bits (8 * n) (bit_xor c (le_value s))) z ∙ sym (crc_from_value c s (bytes_of s h))
+    ap (λ (n : ℕ). shift_bits (8 * n) (bit_xor c (le_value s))) z ∙ sym (crc_from_value c s (bytes_of_holds s h))
 
 pub remainder_end : (s : List ℕ) (i c : ℕ) → i ≡ length s → remainder_from s i c ≡ c
 unfolding remainder_from shift_bits

@@ -16,7 +16,7 @@ use Rattle.crc32.specs.Crc.{crc_from, ones32}
 use Rattle.eif.specs.Numbers.{place_count}
 use Rattle.eif.specs.Layout.{section_header_size, checksum_at, checksum_end, offset_at, count_of}
 use Rattle.eif.specs.Reading.{read_view, read_image}
-use Rattle.eif_checksum.proofs.Parts.{in_parts}
+use Rattle.eif_checksum.proofs.Parts.{in_parts_holds}
 use Rattle.eif_judge.specs.Kept.{view_from}
 use Rattle.eif_judge.proofs.Kept.{read_kept}
 use Rattle.eif_reader.specs.Gathered.{Gathered}
@@ -70,5 +70,5 @@ module _ (image headers : List ℕ) (gathered : Gathered image headers (min plac
   pub read_parts : (front back : List ℕ) (before : ℕ) → front ≡ take checksum_at image → back ≡ drop checksum_end image → before ≡ crc_from ones32 front
       → read_view (view_from image headers (length image)) (bit_xor ones32 (crc_from before back)) ≡ read_image image
   read_parts front back before f b e =
-      ap (read_view (view_from image headers (length image))) (in_parts image front back before (crc_from before back) _ f b e refl refl)
+      ap (read_view (view_from image headers (length image))) (in_parts_holds image front back before (crc_from before back) _ f b e refl refl)
       ∙ read_kept image image headers (λ _. refl) (λ i l. gathered i (omega (arith, l.counted, l.place)) l.ends)

@@ -18,7 +18,7 @@ use Rattle.staged.specs.declared.Staged.{Staged}
 use Rattle.staged.proofs.Accept.{Stages, staged→}
 use Rattle.staged.proofs.Afresh.{parts_joined, changed_plan, afresh_is, changed_planned}
 use Rattle.staged.proofs.Held.{held_alone, within, staged_list, stream_is}
-use Rattle.staged_view.proofs.View.{view_verdict, view_sections}
+use Rattle.staged_view.proofs.View.{view_verdict_holds, view_sections}
 use Rattle.eif_registers.specs.Registers.{image_registers, no_registers, as_digest, staged_registers, step_registers, view_registers}
 use Rattle.eif_registers.proofs.Answers.{registers_are}
 
@@ -51,7 +51,7 @@ module _ (s r : List ℕ) (k : ℕ) where
   -- the base's own view
   module _ (x : Staged) (is : x ≡ staged_view s (length r) k k) where
     pub verdict_is : x.verdict ≡ staged_verdict s (length r) k k
-    verdict_is = view_verdict s (length r) k k x is
+    verdict_is = view_verdict_holds s (length r) k k x is
 
     pub view_is : x.verdict ≡ Accepted → view_registers s r x ≡ image_registers (afresh s r k)
     view_is told =

@@ -57,16 +57,16 @@ bare_small b e =
 abbrev pub Stays : ℕ → Type 0
 Stays mode = (b : ℕ) → bare b ≡ true → mode ≡ entry_of mode b
 
-by_table : (mode : ℕ) → ((b : ℕ) → b < 256 → choose (bare b) (entry_of mode b) mode ≡ mode) → Stays mode
-by_table mode f b e = sym (f b (bare_small b e)) ∙ ap (λ (x : Bool). choose x (entry_of mode b) mode) e
+by_table_holds : (mode : ℕ) → ((b : ℕ) → b < 256 → choose (bare b) (entry_of mode b) mode ≡ mode) → Stays mode
+by_table_holds mode f b e = sym (f b (bare_small b e)) ∙ ap (λ (x : Bool). choose x (entry_of mode b) mode) e
 
 pub char_stays : Stays char_mode
 unfolding entry_of classes rows
-char_stays = by_table char_mode (each_below 0 (λ (b : ℕ). choose (bare b) (entry_of char_mode b) char_mode) (λ (b : ℕ). char_mode) 256 refl)
+char_stays = by_table_holds char_mode (each_below 0 (λ (b : ℕ). choose (bare b) (entry_of char_mode b) char_mode) (λ (b : ℕ). char_mode) 256 refl)
 
 pub name_char_stays : Stays name_char_mode
 unfolding entry_of classes rows
-name_char_stays = by_table name_char_mode (each_below 0 (λ (b : ℕ). choose (bare b) (entry_of name_char_mode b) name_char_mode) (λ (b : ℕ). name_char_mode) 256 refl)
+name_char_stays = by_table_holds name_char_mode (each_below 0 (λ (b : ℕ). choose (bare b) (entry_of name_char_mode b) name_char_mode) (λ (b : ℕ). name_char_mode) 256 refl)
 
 -- so the walk over the rest of a text gives the same verdict from any place of such a run
 module _ (s : List ℕ) (mode stack : ℕ) (small : mode < fault_entry) (stays : Stays mode) where

@@ -85,9 +85,9 @@ le_byte (suc w) n (suc k) h =
     le_byte w (n / 256) k (omega arith)
     ∙ ap (λ (i : ℕ). i % 256) (div-div-eq-div-mul n 256 (256 ^ k) ∙ ap (λ (i : ℕ). n / i) (sym (pow-succ' 256 k)))
 
-pub byte_at : (order : ByteOrder) (w n k : ℕ) → k < w → get_or (bytes_of order w n) k 0 ≡ n / 256 ^ byte_weight order w k % 256
-byte_at Big w n k h = be_byte w n k h
-byte_at Little w n k h = le_byte w n k h
+pub byte_at_holds : (order : ByteOrder) (w n k : ℕ) → k < w → get_or (bytes_of order w n) k 0 ≡ n / 256 ^ byte_weight order w k % 256
+byte_at_holds Big w n k h = be_byte w n k h
+byte_at_holds Little w n k h = le_byte w n k h
 
 -- ---- a byte string taken apart at a field
 

@@ -144,8 +144,8 @@ module _ (value : List ℕ → ℕ) where
       let n : length (take w (drop at s)) ≤ w = simp length-take (omega arith) in
       lt_of_lt_of_le (lt (take w (drop at s)) (bytes_part w at s a)) (pow_le n)
 
-  part_at : (w n at : ℕ) (a x b : List ℕ) → length a ≡ at → length x ≡ w → value x ≡ n → part w at (a ++ (x ++ b)) ≡ n
-  part_at w n at a x b e l v = rw (drop_at a (x ++ b) at e, take_at x b w l) v
+  part_at_holds : (w n at : ℕ) (a x b : List ℕ) → length a ≡ at → length x ≡ w → value x ≡ n → part w at (a ++ (x ++ b)) ≡ n
+  part_at_holds w n at a x b e l v = rw (drop_at a (x ++ b) at e, take_at x b w l) v
 
   part_drop : (w k at : ℕ) (s : List ℕ) → part w (at + k) s ≡ part w k (drop at s)
   part_drop w k at s = ap (λ (x : List ℕ). value (take w x)) (sym (drop-drop k at s))
@@ -163,11 +163,11 @@ le_field_lt = part_lt le_value le_value_lt
 
 pub field_at : (w n at : ℕ) (a b : List ℕ) → length a ≡ at → n < 256 ^ w → field w at (a ++ (be_bytes w n ++ b)) ≡ n
 unfolding field
-field_at w n at a b e h = part_at be_value w n at a (be_bytes w n) b e (length_be_bytes w n) (be_value_be_bytes w n h)
+field_at w n at a b e h = part_at_holds be_value w n at a (be_bytes w n) b e (length_be_bytes w n) (be_value_be_bytes w n h)
 
 pub le_field_at : (w n at : ℕ) (a b : List ℕ) → length a ≡ at → n < 256 ^ w → le_field w at (a ++ (le_bytes w n ++ b)) ≡ n
 unfolding le_field
-le_field_at w n at a b e h = part_at le_value w n at a (le_bytes w n) b e (length_le_bytes w n) (le_value_le_bytes w n h)
+le_field_at w n at a b e h = part_at_holds le_value w n at a (le_bytes w n) b e (length_le_bytes w n) (le_value_le_bytes w n h)
 
 pub field_drop : (w k at : ℕ) (s : List ℕ) → field w (at + k) s ≡ field w k (drop at s)
 unfolding field

@@ -15,19 +15,19 @@ use Rattle.eif_lemmas.proofs.Table.{join_next, join_from_holds, join_end, join_s
 -- ---- lists of the planned lengths, joined: the pieces are the lists
 
 module _ (l : List Place) (count : ℕ) (f : ℕ → List ℕ) (sized : (i : ℕ) → i < count → length (f i) ≡ planned_size l i) where
-  abbrev all_pieces : List ℕ
-  all_pieces = join_from f count 0
+  abbrev all_pieces_holds : List ℕ
+  all_pieces_holds = join_from f count 0
 
   next_piece : (i : ℕ) → i < count → data_before l (suc i) ≡ data_before l i + length (f i)
   next_piece i h = before_suc l i ∙ ap (λ (m : ℕ). data_before l i + m) (sym (sized i h))
 
-  pub piece_is : (i : ℕ) → i < count → piece_at l all_pieces i ≡ f i
+  pub piece_is : (i : ℕ) → i < count → piece_at l all_pieces_holds i ≡ f i
   piece_is i h =
       ap (take (planned_size l i))
-      (join_from_holds f (data_before l) count next_piece all_pieces (ap (λ (n : ℕ). drop n all_pieces) (before_zero l)) i (omega arith) ∙ join_next f count i h)
+      (join_from_holds f (data_before l) count next_piece all_pieces_holds (ap (λ (n : ℕ). drop n all_pieces_holds) (before_zero l)) i (omega arith) ∙ join_next f count i h)
       ∙ take_at (f i) (join_from f (count - suc i) (suc i)) (planned_size l i) (sized i h)
 
-  pub length_joined : length all_pieces ≡ data_before l count
+  pub length_joined : length all_pieces_holds ≡ data_before l count
   length_joined = let e = join_end f (data_before l) count next_piece count 0 (omega arith) in let z = before_zero l in omega arith
 
 -- ---- data of the plan's sum of lengths: its pieces joined are the data

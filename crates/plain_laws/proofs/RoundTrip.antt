@@ -34,14 +34,14 @@ module _ (p : Plan) (d : List ℕ) (a : Planned p (length d)) where
   abbrev image : List ℕ
   image = plain_image p d
 
-  data_at : (i : ℕ) → i < p.count → data_of image (get_or (packed_reading p).sections i blank_section) ≡ piece_at p.places d i
-  data_at i h =
+  data_at_holds : (i : ℕ) → i < p.count → data_of image (get_or (packed_reading p).sections i blank_section) ≡ piece_at p.places d i
+  data_at_holds i h =
       ap (data_of image) (filled_at (packed_section p.places) blank_section blank_section place_count p.count i h a.fields.few)
       ∙ read_data p d a i h
 
   data_joined_holds : data_joined image (packed_reading p) ≡ d
   data_joined_holds =
-      join_same (λ i. data_of image (get_or (packed_reading p).sections i blank_section)) (piece_at p.places d) p.count 0 (λ i h. data_at i (omega arith))
+      join_same (λ i. data_of image (get_or (packed_reading p).sections i blank_section)) (piece_at p.places d) p.count 0 (λ i h. data_at_holds i (omega arith))
       ∙ pieces_joined p.places p.count d a.sized
 
   place_back : (i : ℕ) → i < p.count → place_at (plan_of (packed_reading p)).places i ≡ place_at p.places i

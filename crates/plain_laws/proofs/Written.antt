@@ -98,9 +98,9 @@ module _ (x : Place) (r : List ℕ) where
   unfolding section_header
   header_flags_holds h = skip 2 0 2 (be_bytes 2 x.kind) (be_bytes 2 x.flags ++ be_bytes 8 x.length.0) r refl ∙ here 2 x.flags (be_bytes 8 x.length.0) r h
 
-  header_size : x.length.0 < 2 ^ 64 → field 8 section_size_at (section_header x ++ r) ≡ x.length.0
+  header_size_holds : x.length.0 < 2 ^ 64 → field 8 section_size_at (section_header x ++ r) ≡ x.length.0
   unfolding section_header
-  header_size h =
+  header_size_holds h =
       skip 8 2 2 (be_bytes 2 x.kind) (be_bytes 2 x.flags ++ be_bytes 8 x.length.0) r refl
       ∙ skip 8 0 2 (be_bytes 2 x.flags) (be_bytes 8 x.length.0) r refl ∙ last 8 x.length.0 r h
 
@@ -178,10 +178,10 @@ module _ (p : Plan) (d : List ℕ) (a : Planned p (length d)) where
   read_count = let h = a.fields.few in ap (field 2 count_at) (parts p d) ∙ fixed_count p rest (omega arith)
 
   -- a table of numbers that fit in an entry, behind what comes before it in the image
-  entry_of : (f : ℕ → ℕ) (at : ℕ) (front after : List ℕ) → image ≡ front ++ (table_bytes f p.count ++ after) → length front ≡ at
+  entry_of_holds : (f : ℕ → ℕ) (at : ℕ) (front after : List ℕ) → image ≡ front ++ (table_bytes f p.count ++ after) → length front ≡ at
       → ((j : ℕ) → j < p.count → f j < 256 ^ entry_size) → (i : ℕ) → i < place_count → field entry_size (entry_at at i) image ≡ get_or (table_of f p.count) i 0
   unfolding table_bytes
-  entry_of f at front after e z small i h =
+  entry_of_holds f at front after e z small i h =
       let n : length (table_of f p.count) ≡ place_count = length_filled f 0 place_count p.count in
       ap (field entry_size (entry_at at i)) e
       ∙ field_past entry_size (entry_size * i) at front (table_bytes f p.count ++ after) z
@@ -189,7 +189,7 @@ module _ (p : Plan) (d : List ℕ) (a : Planned p (length d)) where
 
   pub offset_entry_holds : (i : ℕ) → i < place_count → offset_at image i ≡ get_or (table_of (packed_at l) p.count) i 0
   offset_entry_holds =
-      entry_of (packed_at l) offsets_at (fixed_fields p) (sizes p d ++ after_sizes p d) (parts p d) (length_fixed p)
+      entry_of_holds (packed_at l) offsets_at (fixed_fields p) (sizes p d ++ after_sizes p d) (parts p d) (length_fixed p)
       (λ j q. let m = packed_small j (omega arith) in omega arith)
 
   pub read_offset : (i : ℕ) → i < p.count → offset_at image i ≡ packed_at l i
@@ -197,7 +197,7 @@ module _ (p : Plan) (d : List ℕ) (a : Planned p (length d)) where
 
   pub size_entry : (i : ℕ) → i < place_count → size_at image i ≡ get_or (table_of (planned_size l) p.count) i 0
   size_entry =
-      entry_of (planned_size l) sizes_at (fixed_fields p ++ offsets p d) (after_sizes p d)
+      entry_of_holds (planned_size l) sizes_at (fixed_fields p ++ offsets p d) (after_sizes p d)
       (parts p d ∙ sym (append_assoc (fixed_fields p) (offsets p d) (sizes p d ++ after_sizes p d))) (length_to_sizes p d)
       (λ j q. let m = size_small j q in omega arith)
 
@@ -234,7 +234,7 @@ module _ (p : Plan) (d : List ℕ) (a : Planned p (length d)) where
   read_section_flags i h q = section_field 2 section_flags_at i h ∙ header_flags_holds (place_at l i) _ q
 
   pub read_own_size : (i : ℕ) → i < p.count → own_size_at image i ≡ planned_size l i
-  read_own_size i h = let m = size_small i h in section_field 8 section_size_at i h ∙ header_size (place_at l i) _ (omega arith)
+  read_own_size i h = let m = size_small i h in section_field 8 section_size_at i h ∙ header_size_holds (place_at l i) _ (omega arith)
 
   pub read_end : (i : ℕ) → i < p.count → end_at image i ≡ packed_at l (suc i)
   read_end i h = ap₂ (λ (x y : ℕ). x + section_header_size + y) (read_offset i h) (read_size i h) ∙ sym (packed_suc (planned_size l) i)

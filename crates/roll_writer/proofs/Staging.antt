@@ -20,14 +20,14 @@ use Rattle.staged.specs.declared.Staged.{Staged}
 use Rattle.staged.proofs.Accept.{Stages, staged→, base_flags}
 use Rattle.staged.proofs.Held.{listed_long, held_short}
 use Rattle.staged.proofs.Held as held
-use Rattle.staged_view.proofs.View.{view_verdict, view_sections, view_flags}
+use Rattle.staged_view.proofs.View.{view_verdict_holds, view_sections, view_flags}
 use Rattle.roll_writer.specs.Write.{sections_roll, view_roll_bytes, view_roll_answer, view_roll_output, view_roll_length}
 use Rattle.roll_writer.proofs.Steps.{size_bound, roll_short}
 use Rattle.roll_writer.proofs.After.{same_written, same_output, same_length}
 
 module _ (s r : List ℕ) (k : ℕ) (x : Staged) (is : x ≡ staged_view s (length r) k k) where
   pub verdict_is : x.verdict ≡ staged_verdict s (length r) k k
-  verdict_is = view_verdict s (length r) k k x is
+  verdict_is = view_verdict_holds s (length r) k k x is
 
   module _ (told : x.verdict ≡ Accepted) where
     stages : Stages s (length r) k k

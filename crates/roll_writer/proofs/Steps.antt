@@ -38,9 +38,9 @@ module _ (held : Section → List ℕ) where
     length_record = simp (length-append, length_head)
 
     module _ (e : boot_type x.kind ≡ true) where
-      pub size_in : length (roll_part held x) ≡ record_head_size + length (held x)
+      pub size_in_holds : length (roll_part held x) ≡ record_head_size + length (held x)
       unfolding roll_part
-      size_in = rw e length_record
+      size_in_holds = rw e length_record
 
       -- its head and then its data
       pub part_over : (d : List ℕ) (at : ℕ)

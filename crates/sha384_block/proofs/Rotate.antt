@@ -33,17 +33,17 @@ module _ (n k : ℕ) where
 
 -- one after the other
 module _ (m k l h : ℕ) where
-  in_parts : l * 2 ^ (k + m) + h ≡ (l * 2 ^ k + h / 2 ^ m) * 2 ^ m + h % 2 ^ m
-  in_parts =
+  in_parts_holds : l * 2 ^ (k + m) + h ≡ (l * 2 ^ k + h / 2 ^ m) * 2 ^ m + h % 2 ^ m
+  in_parts_holds =
       ap₂ (λ (p q : ℕ). p + q) (ap (λ (e : ℕ). l * e) (pow-add 2 k m) ∙ sym (mul_assoc l (2 ^ k) (2 ^ m))) (sym (split h m))
       ∙ sym (add_assoc (l * 2 ^ k * 2 ^ m) (h / 2 ^ m * 2 ^ m) (h % 2 ^ m))
       ∙ ap (λ (p : ℕ). p + h % 2 ^ m) (sym (add-mul (l * 2 ^ k) (h / 2 ^ m) (2 ^ m)))
 
   top : (l * 2 ^ (k + m) + h) / 2 ^ m ≡ l * 2 ^ k + h / 2 ^ m
-  top = ap (λ (p : ℕ). p / 2 ^ m) in_parts ∙ high (l * 2 ^ k + h / 2 ^ m) m (mod-lt h (pow_pos m))
+  top = ap (λ (p : ℕ). p / 2 ^ m) in_parts_holds ∙ high (l * 2 ^ k + h / 2 ^ m) m (mod-lt h (pow_pos m))
 
   bottom : (l * 2 ^ (k + m) + h) % 2 ^ m ≡ h % 2 ^ m
-  bottom = ap (λ (p : ℕ). p % 2 ^ m) in_parts ∙ low (l * 2 ^ k + h / 2 ^ m) m (mod-lt h (pow_pos m))
+  bottom = ap (λ (p : ℕ). p % 2 ^ m) in_parts_holds ∙ low (l * 2 ^ k + h / 2 ^ m) m (mod-lt h (pow_pos m))
 
 pub turned_turned : (m n k x : ℕ) → turned m (k + n) (turned n (k + m) x) ≡ turned (m + n) k x
 turned_turned m n k x =

@@ -107,16 +107,16 @@ module _ (s r : List ℕ) (k : ℕ) (ok : verdict_of s ≡ Accepted) where
     pub places_long : length l ≡ place_count
     places_long = length-map (sections_of s) place_of ∙ length_filled (section_at s) blank_section place_count (count_of s)
 
-    pub in_places : k < length l
-    in_places = let n = places_long in let f = (sound_head s ok).fields.few in omega arith
+    pub in_places_holds : k < length l
+    in_places_holds = let n = places_long in let f = (sound_head s ok).fields.few in omega arith
 
     pub size_kept : (j : ℕ) → j < count_of s → length (part_at j) ≡ planned_size (changed_plan (length r)).places j
     size_kept j q =
         ⊎_elim
         (λ (e : j ≡ k).
-        rw e (ap length part_replaced ∙ sym (ap (λ (x : Place). x.length.0) (place_same l k (length r) in_places))))
+        rw e (ap length part_replaced ∙ sym (ap (λ (x : Place). x.length.0) (place_same l k (length r) in_places_holds))))
         (λ (n : j ≡ k → ⊥).
-        ap length (part_kept j n) ∙ length_own s ok j q ∙ sym (ap (λ (x : Place). x.length.0) (place_other l k (length r) in_places j n)))
+        ap length (part_kept j n) ∙ length_own s ok j q ∙ sym (ap (λ (x : Place). x.length.0) (place_other l k (length r) in_places_holds j n)))
         (equal_or_not j k)
 
     -- ---- and the image written afresh is within the limit
@@ -126,7 +126,7 @@ module _ (s r : List ℕ) (k : ℕ) (ok : verdict_of s ≡ Accepted) where
       m = (changed_plan (length r)).places
 
       same_kind : (j : ℕ) → planned_kind m j ≡ planned_kind l j
-      same_kind = kind_kept l k (length r) in_places
+      same_kind = kind_kept l k (length r) in_places_holds
 
       pub changed_planned : Planned (changed_plan (length r)) (length parts_joined)
       changed_planned =

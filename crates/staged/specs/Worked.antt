@@ -97,16 +97,16 @@ staged_joined_holds =
     join_from (λ j. choose (eqb j 2) (0x63 ∷ []) (data_of worked_image (section_in x.sections j))) x.count 0)
     worked_accepted
 
-pub staged_roll_length : length (roll_bytes (afresh worked_image (0x63 ∷ []) 2)) ≡ 55
+pub staged_roll_length_holds : length (roll_bytes (afresh worked_image (0x63 ∷ []) 2)) ≡ 55
 unfolding afresh roll_bytes flags_record roll_of head_of measured_in field be_value plain_image header_bytes fixed_fields table_bytes packed_by join_from section_header data_before in_table
-staged_roll_length = ap₂ (λ (p : Plan) (d : List ℕ). length (roll_bytes (plain_image p d))) staged_plan_holds staged_joined_holds
+staged_roll_length_holds = ap₂ (λ (p : Plan) (d : List ℕ). length (roll_bytes (plain_image p d))) staged_plan_holds staged_joined_holds
 
 -- 27 before 14; no room, one byte too few, and enough
 pub rolls_refused :
     staged_roll_verdict worked_image [] 3 0 ∷ map (staged_roll_verdict worked_image (0x63 ∷ []) 2) (0 ∷ 54 ∷ 55 ∷ [])
     ≡ refuse 27 0 ∷ refuse 14 0 ∷ refuse 14 0 ∷ Accepted ∷ []
 unfolding staged_roll_verdict staged_verdict staged_plan read_view packed_by field be_value
-rolls_refused = rw (worked_accepted, staged_roll_length) refl
+rolls_refused = rw (worked_accepted, staged_roll_length_holds) refl
 
 -- 1 before 14, of any replacement of that length
 pub long_roll : (r : List ℕ) → length r ≡ 1073741239 → staged_roll_verdict worked_image r 2 0 ≡ refuse 1 0

@@ -22,7 +22,7 @@ use Rattle.plain_laws.proofs.WriteBack.{plan}
 use Rattle.plain_laws.proofs.Plainness.{plan_accepted}
 use Rattle.staged.specs.Staged.{staged_plan, staged_verdict}
 use Rattle.staged.proofs.Accept.{count_is}
-use Rattle.staged.proofs.Afresh.{changed_plan, plan_is, in_places, kind_kept}
+use Rattle.staged.proofs.Afresh.{changed_plan, plan_is, in_places_holds, kind_kept}
 
 -- 1, or nothing
 abbrev long : ℕ → Verdict
@@ -33,7 +33,7 @@ module _ (s : List ℕ) (size k j : ℕ) (ok : verdict_of s ≡ Accepted) (repla
   p = changed_plan s [] k ok size
 
   same_kinds : planned_kind p.places ≡ planned_kind (plan s).places
-  same_kinds = λ t i. kind_kept (plan s).places k size (in_places s [] k ok replaced) i t
+  same_kinds = λ t i. kind_kept (plan s).places k size (in_places_holds s [] k ok replaced) i t
 
   -- the base's own plan meets the rules on fields and types, and these do not ask for a length
   planned : plan_verdict p (data_before p.places p.count) ≡ long (plain_size p)

@@ -54,13 +54,13 @@ boot_empty before (x ∷ xs) some lacks =
     ∙ boot_empty (before + ramdisk_in x.kind) xs (omega arith) (λ i h. lacks (suc i) (after x xs i h))
 
 -- one section more: kept by none, by Whole and Boot, or by Whole and App, where Boot then keeps nothing after it
-parts_joined : (t later : Bool) (x : Section) (w b a : List Section) → w ≡ b ++ a → (later ≡ true → b ≡ []) → both later (not t) ≡ false
+parts_joined_holds : (t later : Bool) (x : Section) (w b a : List Section) → w ≡ b ++ a → (later ≡ true → b ≡ []) → both later (not t) ≡ false
     → choose t (x ∷ w) w ≡ choose (both t (not later)) (x ∷ b) b ++ choose later (x ∷ a) a
-parts_joined true true x w b a e n z =
+parts_joined_holds true true x w b a e n z =
     ap (λ (l : List Section). x ∷ l) (e ∙ ap (λ (l : List Section). l ++ a) (n refl)) ∙ sym (ap (λ (l : List Section). l ++ (x ∷ a)) (n refl))
-parts_joined true false x w b a e n z = ap (λ (l : List Section). x ∷ l) e
-parts_joined false true x w b a e n z = not_both (sym z)
-parts_joined false false x w b a e n z = e
+parts_joined_holds true false x w b a e n z = ap (λ (l : List Section). x ∷ l) e
+parts_joined_holds false true x w b a e n z = not_both (sym z)
+parts_joined_holds false false x w b a e n z = e
 
 -- a kernel or a command line has at most one ramdisk before it
 abbrev Early : ℕ → List Section → Type 0
@@ -82,7 +82,7 @@ unfolding kept keeps
 whole_is_parts before [] h = refl
 whole_is_parts before (x ∷ xs) h =
     let next : ℕ = before + ramdisk_in x.kind in
-    parts_joined (boot_type x.kind) (later_ramdisk x.kind before) x (kept Whole section_kind next xs) (kept Boot section_kind next xs) (kept App section_kind next xs)
+    parts_joined_holds (boot_type x.kind) (later_ramdisk x.kind before) x (kept Whole section_kind next xs) (kept Boot section_kind next xs) (kept App section_kind next xs)
     (whole_is_parts next xs (early_rest before x xs h))
     (nothing_after before x xs h)
     (later_in x.kind before (eqb x.kind ramdisk) refl)

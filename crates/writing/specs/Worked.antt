@@ -57,9 +57,9 @@ unfolding writing_stepped data_step header_step begins_section section_step
 section_limits = refl
 
 -- the bytes of the second place's own header
-pub section_bytes : step_bytes (writing_with 548 1 0 0 2) [] 20 ≡ 0 ∷ 2 ∷ 0 ∷ 7 ∷ 0 ∷ 0 ∷ 0 ∷ 0 ∷ 0 ∷ 0 ∷ 0 ∷ 3 ∷ []
+pub section_bytes_holds : step_bytes (writing_with 548 1 0 0 2) [] 20 ≡ 0 ∷ 2 ∷ 0 ∷ 7 ∷ 0 ∷ 0 ∷ 0 ∷ 0 ∷ 0 ∷ 0 ∷ 0 ∷ 3 ∷ []
 unfolding step_bytes data_bytes header_part begins_section next_header section_header
-section_bytes = refl
+section_bytes_holds = refl
 
 -- finish: 15 where the plan was refused (count 0) or data is missing
 pub finish_numbers :

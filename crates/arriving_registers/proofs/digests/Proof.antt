@@ -2,7 +2,7 @@
 use mathlib.Core.Path.{sym}
 use borrow.Author.Rules.{rules}
 use Rattle.eif_registers.specs.Registers.{no_registers}
-use Rattle.arriving_registers.proofs.Steps.{zeros_beside, registers_beside}
+use Rattle.arriving_registers.proofs.Steps.{zeros_beside, registers_beside_holds}
 use Rattle.arriving_registers.proofs.digests.Statement.{statement}
 use Rattle.arriving_registers.proofs.digests.Tie as tie
 
@@ -17,7 +17,7 @@ returns-2 : tie.Need-returns-2
 returns-2 c =
     let k = c.before.before.before.before.before.before in
     let a = k.before.before.args in
-    registers_beside a.verdict a.streams k.enum_told.given.1 c.before.before.register.ensures c.before.register2.ensures c.register3.ensures
+    registers_beside_holds a.verdict a.streams k.enum_told.given.1 c.before.before.register.ensures c.before.register2.ensures c.register3.ensures
 
 pub digests-spec : {M : Type 1} → statement M
 digests-spec =

@@ -7,7 +7,7 @@ use lib.ListN.{drop, length-drop, length-set}
 use Rattle.octets.specs.ByteOrder.{bytes_of, byte_weight}
 use Rattle.octets.proofs.Value.{pow_bytes}
 use Rattle.octets.proofs.Over.{over_step, over_end}
-use Rattle.octets.proofs.Fields.{length_bytes, byte_at}
+use Rattle.octets.proofs.Fields.{length_bytes, byte_at_holds}
 use Rattle.octets.proofs.put.Goals as goal
 
 -- `octets::put` meets its contract: after each store, the bytes of `n` that are left over the output as it stands give all of them over
@@ -22,7 +22,7 @@ loop-k-preserved c = let l = c.loop-k in
     let p = ap (λ (i : ℕ). 2 ^ (8 * i)) c.weight-i.ensures.value ∙ pow_bytes (byte_weight a.order a.width l.k) in (
       omega arith,
       simp length-set l.invariant.1,
-      over_step l.out (bytes_of a.order a.width a.n) a.at l.k _ (omega arith) (ap (λ (u : ℕ). a.n / u % 256) p ∙ sym (byte_at a.order a.width a.n l.k (omega arith)))
+      over_step l.out (bytes_of a.order a.width a.n) a.at l.k _ (omega arith) (ap (λ (u : ℕ). a.n / u % 256) p ∙ sym (byte_at_holds a.order a.width a.n l.k (omega arith)))
           ∙ l.invariant.2,
     )
 
