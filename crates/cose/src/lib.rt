@@ -1,6 +1,8 @@
 // One signature of a signature section: a COSE_Sign1 (RFC 9052) whose payload is a register's index and value, as the EIF
 // specification describes it under EifSectionSignature. This is the vocabulary; the definitions that all contracts cite stand in
 // specs/. What is signed is read and written here and never verified.
+#![tactic(auto)]
+
 ghost use Rattle.std.specs.Prelude.{◌≡◌};
 ghost use Rattle.cose.specs.Sign1.{longest};
 
@@ -22,7 +24,7 @@ pub fn longest() -> usize
 
 // The algorithms that may sign. Their numbers in the COSE registry are -7, -35 and -36; here the sign is left off. And the bytes of
 // their signatures.
-#[derive(Drop)]
+#[derive(Clone, Copy)]
 pub struct Algorithm;
 
 impl Algorithm {
@@ -41,7 +43,7 @@ impl Algorithm {
 
 // The first byte of a CBOR head (RFC 8949, 3), beside the major type: the number itself where it is below IN_ONE_BYTE, or one of these
 // where it follows in 1, 2, 4 or 8 bytes. And what the numbers of one, two and four bytes are below.
-#[derive(Drop)]
+#[derive(Clone, Copy)]
 pub struct Head;
 
 impl Head {
@@ -62,12 +64,12 @@ impl Head {
 
 // A position in a COSE_Sign1, from its first byte.
 #[repr(C)]
-#[derive(Drop)]
+#[derive(Clone, Copy)]
 pub struct Sign1Position(pub u64);
 
 // What is signed: by which algorithm, which register, and its value.
 #[repr(C)]
-#[derive(Drop)]
+#[derive(Clone, Copy)]
 pub struct Claim {
     pub algorithm: u64,
     pub register_index: u64,
@@ -75,7 +77,7 @@ pub struct Claim {
 }
 
 // What a reading says: the claim, and where the signature's own bytes stand. Beside a refusal all is zero.
-#[derive(Drop)]
+#[derive(Clone, Copy)]
 pub struct Sign1Reading {
     pub verdict: Verdict,
     pub claim: Claim,
