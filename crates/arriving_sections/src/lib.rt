@@ -3,6 +3,8 @@
 // A caller asks `next` before each `arriving::feed` and hands over at most as many bytes as it answers. All bytes of that call are then data
 // of one section, or of no section, and the caller may write them out or hash them. `next` is total: its contract holds for any state. The
 // laws of a run from the fresh state are in arriving_sections_laws.
+#![tactic(auto)]
+
 ghost use Rattle.std.specs.Prelude.{◌≡◌, ◌≤◌, ◌<◌, min};
 ghost use Rattle.eif.specs.Numbers.{place_count};
 ghost use Rattle.eif.specs.Layout.{header_size, size_at};
@@ -14,7 +16,7 @@ use eif::{Header, SectionHeader};
 // The next bytes that belong together. `length` is their number. `place` is the section whose data they are; it is eif::PLACES if they are no
 // section's data. `begun` is the number of sections whose own headers have arrived whole.
 #[repr(C)]
-#[derive(Drop)]
+#[derive(Clone, Copy)]
 pub struct Span {
     pub place: u64,
     pub length: u64,
