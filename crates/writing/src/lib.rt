@@ -3,6 +3,8 @@
 // A state goes in by value and comes back: `begin`, then `step` until the image is complete, then `finish` for its checksum. A step writes
 // bytes of the header, one section's own header, or data of the section begun last. Every public function is total: each contract holds
 // for any state, and the laws of a state from `begin` are in writing_laws.
+#![tactic(auto)]
+
 ghost use Rattle.std.specs.Prelude.{◌≡◌, ◌-◌, ◌<◌, ◌≤◌, length};
 ghost use Rattle.octets.specs.Over.{over};
 ghost use Rattle.crc32.specs.Crc.{crc_from};
@@ -16,7 +18,7 @@ use eif::{DataLength, Header, PLACES, Place, Plan, Refusal, SectionHeader, Verdi
 // What is still to be written of an image, and the checksum's remainder over the header and what was written after it. In this order C leaves
 // no room between the fields.
 #[repr(C)]
-#[derive(Drop)]
+#[derive(Clone, Copy)]
 pub struct Writing {
     pub header_written: u64,
     pub sections_begun: u64,
@@ -29,7 +31,7 @@ pub struct Writing {
 }
 
 // The answer to `begin`: the state, and the image's length or the plan's refusal.
-#[derive(Drop)]
+#[derive(Clone, Copy)]
 pub struct Begun {
     pub state: Writing,
     pub written: Written,
@@ -37,7 +39,7 @@ pub struct Begun {
 
 // The answer to a step: the state after it, how many bytes of data it took, and how many bytes it wrote.
 #[repr(C)]
-#[derive(Drop)]
+#[derive(Clone, Copy)]
 pub struct Stepped {
     pub state: Writing,
     pub taken: u64,
@@ -45,7 +47,7 @@ pub struct Stepped {
 }
 
 // The answer to `finish`: the checksum, which is 0 beside a refusal.
-#[derive(Drop)]
+#[derive(Clone, Copy)]
 pub struct Summed {
     pub verdict: Verdict,
     pub checksum: u32,
