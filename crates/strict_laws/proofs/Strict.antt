@@ -7,7 +7,6 @@ use mathlib.Core.List.{List}
 use mathlib.Core.Logic.{◌⊎◌, inl, inr, ⊎_elim}
 use native.Mathlib.Omega.{arith}
 use Rattle.eif.specs.Table.{join_from}
-use Rattle.json_laws.proofs.Laws.{accepted_exactly_when}
 use Rattle.eif.specs.Numbers.{metadata_version}
 use Rattle.eif.specs.Layout.{view_of, count_of, version_of}
 use Rattle.eif.specs.Reading.{verdict_of, section_at, reading_of, read_view, read_image}

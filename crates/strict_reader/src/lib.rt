@@ -1,5 +1,7 @@
 // The stricter reading of an image (FORMAT.md, Stricter reading): the ordinary reading, and then number 21 for a metadata section
 // whose data is not one JSON text.
+#![tactic(auto)]
+
 ghost use Rattle.std.specs.Prelude.{◌≡◌, ◌≤◌};
 ghost use Rattle.eif.specs.Reading.{section_in};
 ghost use Rattle.eif.specs.Numbers.{place_count};
