@@ -1,5 +1,7 @@
 // The three measured streams: which sections one has, copying from it, and how long it is. A stream is the data of the sections that
 // it keeps of an image, in file order; which these are is decided by `is_kept` alone.
+#![tactic(auto)]
+
 ghost use Rattle.std.specs.Prelude.{◌≡◌, ◌+◌, ◌-◌, ◌^◌, ◌<◌, ◌≤◌, min, length, drop};
 ghost use Rattle.octets.specs.Over.{over};
 ghost use Rattle.eif.specs.Reading.{ramdisk_in, data_of};
@@ -81,7 +83,7 @@ pub fn section_data(image: &[u8], section: Section) -> &[u8]
 }
 
 // How much of a stream is still to be passed over, and how much of it is copied.
-#[derive(Drop)]
+#[derive(Clone, Copy)]
 struct Progress {
     skip: usize,
     done: usize,
