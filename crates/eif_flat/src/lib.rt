@@ -1,5 +1,7 @@
 // Answers as C sees them: flat structs with the answer number (0: accepted), its index and its position instead of a verdict; and a
 // section of such an answer as a section again.
+#![tactic(auto)]
+
 ghost use Rattle.std.specs.Prelude.{◌≡◌, map};
 ghost use Rattle.eif.specs.Answers.{number_of, index_of, position_of};
 ghost use Rattle.eif_flat.specs.Flat.{flat, flat_written, flat_copied, flat_length, flat_section, flat_reading, flat_record, flat_roll_reading, read_section};
@@ -13,7 +15,7 @@ use eif::{
 // are equal byte for byte, and none carries bytes of an earlier call.
 
 #[repr(C)]
-#[derive(Drop)]
+#[derive(Clone, Copy)]
 pub struct EifSection {
     pub kind: u16,
     pub flags: u16,
@@ -24,7 +26,7 @@ pub struct EifSection {
 
 // `first_ramdisk` is computed from the mark, so it is 32, none, beside a refusal.
 #[repr(C)]
-#[derive(Drop)]
+#[derive(Clone, Copy)]
 pub struct EifReading {
     pub number: u8,
     pub reserved: u8,
@@ -45,7 +47,7 @@ pub struct EifReading {
 
 // A writer's answer, a copier's, and that of a length: `length` is the length written, the number copied, the length.
 #[repr(C)]
-#[derive(Drop)]
+#[derive(Clone, Copy)]
 pub struct EifAnswer {
     pub number: u8,
     pub reserved: [u8; 7],
@@ -55,7 +57,7 @@ pub struct EifAnswer {
 }
 
 #[repr(C)]
-#[derive(Drop)]
+#[derive(Clone, Copy)]
 pub struct EifRollRecord {
     pub kind: u16,
     pub reserved: u16,
@@ -65,7 +67,7 @@ pub struct EifRollRecord {
 }
 
 #[repr(C)]
-#[derive(Drop)]
+#[derive(Clone, Copy)]
 pub struct EifRollReading {
     pub number: u8,
     pub reserved: u8,

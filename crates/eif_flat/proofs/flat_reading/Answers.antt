@@ -1,9 +1,6 @@
--- `flat_reading` meets its contract: what it calls ensures the fields that are not taken over as they are.
--- Assumes nothing.
 use Prim.Native.Nat.{ℕ}
 use mathlib.Core.Path.{◌≡◌}
 use mathlib.Core.List.{List, map}
-use borrow.Author.Rules.{rules}
 use lib.Count.{ones, count_trailing_zeros}
 use Rattle.eif.specs.Numbers.{place_count}
 use Rattle.eif.specs.Answers.{number_of, index_of, position_of}
@@ -11,9 +8,10 @@ use Rattle.eif.specs.declared.Reading.{Reading}
 use Rattle.eif_flat.specs.Flat.{flat_section, flat_reading}
 use Rattle.eif_flat.specs.declared.EifSection.{EifSection}
 use Rattle.eif_flat.specs.declared.EifReading.{EifReading}
-use Rattle.eif_flat.proofs.flat_reading.Statement.{statement}
-use Rattle.eif_flat.proofs.flat_reading.Tie as tie
+use Rattle.eif_flat.proofs.flat_reading.Goals as goal
 
+-- `flat_reading` meets its contract: what it calls ensures the fields that are not taken over as they are.
+-- Assumes nothing.
 abbrev with : Reading → ℕ → ℕ → ℕ → ℕ → ℕ → List EifSection → EifReading
 with r number index position count first sections =
     record {
@@ -39,24 +37,5 @@ flat-is : (r : Reading) {number index position count first : ℕ} {sections : Li
     → sections ≡ map flat_section r.sections → with r number index position count first sections ≡ flat_reading r
 flat-is r a b p c d e = cc
 
-returns : tie.Need-returns
-returns c =
-    let first = c.before in
-    let count = first.before in
-    let position = count.before in
-    let index = position.before in
-    let number = index.before in
-    flat-is number.before.before.args.reading number.number_of_lem.ensures index.index_of.ensures position.position-of.ensures
-    count.ramdisk-count.ensures first.first-ramdisk.ensures c.flat-sections.ensures
-
-pub flat-reading-spec : {M : Type 1} → statement M
-flat-reading-spec =
-    tie.close
-    (tie.spec
-    (λ c κs. search rules)
-    (λ c κs. search rules)
-    (λ c κs. search rules)
-    (λ c κs. search rules)
-    (λ c κs. search rules)
-    (λ c κs. search rules)
-    returns)
+pub returns : goal.returns
+returns c = flat-is c.args.reading c.number_of.ensures c.index_of.ensures c.position_of.ensures c.ramdisk_count.ensures c.first_ramdisk.ensures c.flat_sections.ensures
