@@ -35,8 +35,8 @@ else
 override EIF_LIB_DIR := $(abspath $(EIF_LIB_DIR))
 ARCHIVE := $(EIF_LIB_DIR)/libeif_c.a
 endif
-# What the archive is proved and compiled from. A folder is newer when a file in it is removed.
-CRATE_FILES = $(shell find crates -name must-fail -prune -o \( -type d -o -name '*.rt' -o -name '*.antt' \) -print)
+# What the archive is proved and compiled from. A folder of sources is newer when a file in it is removed.
+CRATE_FILES = $(shell find crates/*/src crates/*/specs crates/*/proofs -type d -o -name '*.rt' -o -name '*.antt')
 
 help:
 	@echo 'make eif                  the command: target/bin/eif'
@@ -62,15 +62,14 @@ python:
 
 run: kit
 	@mkdir -p target
-	@test -x target/bin/eif_check || echo 'proving and building the program first: a minute or two' >&2
-	@$(RT) check eif_check >target/run.log 2>&1 || { cat target/run.log; exit 1; }
+	@tools/program.sh $(RT) eif_check target/bin
 	@target/bin/eif_check <'$(IMAGE)'
 
 # The proofs come first, and the tests use what they built; the archive is built once. The last line says the kit's verdict again; where there is
 # no cargo that is new enough, and none could be installed, all the rest is tried and the last line says what is missing.
 test: kit
-	@tests/prove.sh $(RT)
-	@tests/edits.sh
+	@tests/prove.sh $(RT) target
+	@tests/edits.sh target/ci.log
 	@$(MAKE) --no-print-directory written-test show-test $(archive)
 	@if [ -n '$(archive)' ]; then tests/again.sh '$(MAKE)'; fi
 	@$(MAKE) --no-print-directory EIF_LIB_DIR='$(EIF_LIB_DIR)' c-test
@@ -85,7 +84,7 @@ staticlib: target/staticlib/libeif_c.a
 
 # Proved again only where a file of a crate, or the kit, has changed.
 target/staticlib/libeif_c.a: crates.txt target/kit $(CRATE_FILES)
-	tools/module.sh $(RT)
+	tools/staticlib.sh $(RT) target/staticlib
 	@touch $@
 
 target/kit: kit
@@ -107,20 +106,19 @@ map: python
 	tools/map.py
 	tools/believe.py
 
-# What tools/ has written is what it would write, what the documents name is there, the name of a definition has one meaning, each import is
-# used, and the layout is that of rt fmt.
-written-test: kit python
+# What tools/ has written is what it would write, what the documents name is there, the name of a definition has one meaning, and each import is
+# used. The layout is tested by rt ci.
+written-test: python
 	tools/map.py --check
 	tools/believe.py --check
 	tools/json_tables.py --check
 	tools/names.py --check
 	tools/meanings.py
 	tools/imports.py
-	$(RT) fmt --check
 
 show-test: kit python
 	for name in show check assemble; do \
-	    $(RT) check eif_$$name && \
+	    tools/program.sh $(RT) eif_$$name target/bin && \
 	    tests/$$name.sh target/bin/eif_$$name || exit 1; \
 	done
 
