@@ -161,7 +161,7 @@ class Tree:
                 yield " ".join(function.split())
 
     def laws(self):
-        """The laws whose names stand in docs/PROMISES.md. One that is named alone has a hyphen in its name, and is of the file that its line
+        """The laws whose names stand in docs/PROMISES.md. One that is named alone has an underscore in its name, and is of the file that its line
         named before, or else of every file that has it."""
         stated = {}
         for crate in self.libraries:
@@ -174,7 +174,7 @@ class Tree:
                 *path, name = re.split(r"[./]", token)
                 where = path or before
                 laws = stated.get(name, [])
-                yield from [law for law in laws if where == [law[0], law[2]]] or ([] if path else laws if "-" in name else [])
+                yield from [law for law in laws if where == [law[0], law[2]]] or ([] if path else laws if "_" in name else [])
                 before = path if len(path) == 2 else [*path, name] if len(path) == 1 else before
 
     def believed(self):
