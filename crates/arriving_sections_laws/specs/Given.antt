@@ -1,6 +1,6 @@
 -- The data of the sections of an arriving image: what has arrived of it, and what a run of calls gives out. Each call gets the state that the
 -- call before it left, and hands over at most as many bytes as `next` answered (FORMAT.md, Check while it arrives).
-use Rattle.std.specs.Prelude.{ℕ, zero, suc, ◌+◌, List, [], ◌∷◌, ◌++◌, ltb, leb, eqb, length, take, drop}
+use Rattle.std.specs.Prelude.{ℕ, zero, suc, ◌+◌, List, [], ◌∷◌, ◌++◌, ltb, leb, eqb, take, drop}
 use Rattle.octets.specs.Logic.{both, choose}
 use Rattle.eif.specs.Numbers.{size_limit}
 use Rattle.eif.specs.Layout.{header_size, section_header_size, offset_at, size_at}

@@ -1,6 +1,6 @@
 -- Computed sections of the worked example of FORMAT.md (kernel 4b, command line 61, an empty ramdisk) while it arrives, and of the same example
 -- with tables that are refused: one gives the kernel the largest size of eight bytes, the other puts the command line too early by one byte.
-use Rattle.std.specs.Prelude.{ℕ, ◌+◌, ◌≡◌, refl, List, [], ◌∷◌, ◌++◌, map, take, drop, replicate}
+use Rattle.std.specs.Prelude.{ℕ, ◌≡◌, refl, List, [], ◌∷◌, ◌++◌, map, take, drop, replicate}
 use Rattle.octets.specs.Bytes.{field, be_value}
 use Rattle.octets.specs.Over.{over}
 use Rattle.eif.specs.Worked.{worked_image}
