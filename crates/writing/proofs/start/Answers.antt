@@ -1,9 +1,7 @@
 use Prim.Native.Nat.{ℕ}
-use mathlib.Core.Path.{sym, ap, ap₂, ◌∙◌}
+use mathlib.Core.Path.{◌≡◌, sym, ap, ap₂, ◌∙◌}
 use mathlib.Core.List.{List}
-use lib.ListN.{take}
 use Rattle.crc32.specs.Crc.{crc_from, ones32}
-use Rattle.eif.specs.Layout.{checksum_at}
 use Rattle.eif.specs.Plan.{data_before, header_bytes}
 use Rattle.eif.specs.declared.Plan.{Plan}
 use Rattle.eif_writer.proofs.Image.{header_some}
@@ -37,6 +35,6 @@ returns c = let d = (goal.at.returns c).After-data_size in
     let some = has_image a.plan a.checksum h.requires.0 h.requires.1 in
     let e = h.header-header.ensures ∙ sym (header_some a.plan a.checksum some) in
     let size = d.data_size.ensures ∙ sym (data_some a.plan some) in
-    let sum = c.update.ensures ∙ ap (crc_from ones32) (c.front.ensures.result_value ∙ ap (take checksum_at) e ∙ header_front a.plan a.checksum) in
+    let sum : c.update.result ≡ crc_from ones32 (header_bytes a.plan) = cc (e, header_front a.plan a.checksum) in
     ap₂ (λ (x y : ℕ). with a.plan x h.header-header.result y) size sum
     ∙ ap (λ (l : List ℕ). with a.plan (data_before a.plan.places a.plan.count) l (crc_from ones32 (header_bytes a.plan))) e
