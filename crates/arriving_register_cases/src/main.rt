@@ -2,6 +2,8 @@
 // compared with the answers for the whole image. Each image has a line with its results and one with its fingerprint. A size is followed by four
 // results: registers and fingerprint in pieces of that size, then both with that allowance. The fingerprint of the whole image is computed twice:
 // by eif_fingerprint, and as SHA-384 of the roll that roll_writer writes.
+#![tactic(auto)]
+
 use arriving_fingerprint::Fingerprinting;
 use arriving_registers::Measuring;
 use case_images::{Shape, WORKED_SIZE};
@@ -9,6 +11,7 @@ use case_lines::{hex, labelled, say, tell, text};
 use eif::{Header, SectionHeader, SectionType, Verdict};
 use eif_registers::{Digest, Measurement};
 use sha384_block::DIGEST_SIZE;
+use std::io;
 
 // Room for the longest image.
 const ROOM: usize = 1165;
@@ -126,19 +129,21 @@ fn fingerprints_agree(image: &[u8], whole: [u8; DIGEST_SIZE], size: usize, allow
     check::same(&digest, &whole)
 }
 
-fn compare_once(image: &[u8], size: usize, allowance: u64) {
+fn compare_once(rt: &impl Print, image: &[u8], size: usize, allowance: u64) -> io::Result<()> {
     let whole = eif_registers::registers(image);
     let roll = roll_digest(image);
     tell(
+        rt,
         registers_agree(image, whole, size, allowance),
         b" same",
         b" DIFFERENT",
-    );
+    )?;
     tell(
+        rt,
         fingerprints_agree(image, roll, size, allowance),
         b" same",
         b" DIFFERENT",
-    );
+    )
 }
 
 // ---- cases
@@ -155,133 +160,138 @@ const SIZES: [usize; 8] = [
 ];
 
 // In pieces of `size` bytes, and with the allowance `size`.
-fn with_size(image: &[u8], size: usize) {
-    labelled(b"; ", size as u64);
-    compare_once(image, size, ALL);
-    compare_once(image, ROOM, size as u64);
+fn with_size(rt: &impl Print, image: &[u8], size: usize) -> io::Result<()> {
+    labelled(rt, b"; ", size as u64)?;
+    compare_once(rt, image, size, ALL)?;
+    compare_once(rt, image, ROOM, size as u64)
 }
 
-fn with_each_size(image: &[u8]) {
+fn with_each_size(rt: &impl Print, image: &[u8]) -> io::Result<()> {
     let sizes = SIZES;
     let mut i: usize = 0;
     while i < 8 {
-        with_size(image, sizes[i]);
+        with_size(rt, image, sizes[i])?;
         i += 1;
     }
+    Ok(())
 }
 
 // The fingerprint of the whole image, and whether it is the digest of the roll.
-fn fingerprint(image: &[u8]) {
+fn fingerprint(rt: &impl Print, image: &[u8]) -> io::Result<()> {
     let answer = eif_fingerprint::fingerprint(image);
     let digest = answer.digest;
     let roll = roll_digest(image);
-    text(b"\n  fingerprint ");
-    hex(&digest);
-    tell(check::same(&digest, &roll), b" same\n", b" DIFFERENT\n");
+    text(rt, b"\n  fingerprint ")?;
+    hex(rt, &digest)?;
+    tell(rt, check::same(&digest, &roll), b" same\n", b" DIFFERENT\n")
 }
 
-fn compare(label: &[u8], image: &[u8]) {
-    text(label);
-    text(b": ");
+fn compare(rt: &impl Print, label: &[u8], image: &[u8]) -> io::Result<()> {
+    text(rt, label)?;
+    text(rt, b": ")?;
     let read = eif_reader::read(image);
     let verdict = read.verdict;
-    say(verdict);
-    with_each_size(image);
-    fingerprint(image);
+    say(rt, verdict)?;
+    with_each_size(rt, image)?;
+    fingerprint(rt, image)
 }
 
-fn compare_shape(label: &[u8], shape: Shape, lent: &[u8]) {
+fn compare_shape(rt: &impl Print, label: &[u8], shape: Shape, lent: &[u8]) -> io::Result<()> {
     let mut image = [0u8; ROOM];
     let size = case_images::put_image(&mut image, shape, lent);
-    compare(label, &image[..size]);
+    compare(rt, label, &image[..size])
 }
 
-fn shapes() {
-    compare_shape(b"the worked example", Shape::WORKED, b"Ka");
-    compare_shape(b"no ramdisk", Shape::NO_RAMDISK, b"Ka");
+fn shapes(rt: &impl Print) -> io::Result<()> {
+    compare_shape(rt, b"the worked example", Shape::WORKED, b"Ka")?;
+    compare_shape(rt, b"no ramdisk", Shape::NO_RAMDISK, b"Ka")?;
     compare_shape(
+        rt,
         b"command line before the kernel",
         Shape::COMMAND_LINE_FIRST,
         b"cmdkernelram",
-    );
+    )?;
     compare_shape(
+        rt,
         b"command line between two ramdisks",
         Shape::COMMAND_LINE_BETWEEN,
         b"kernelonecmdtwo",
-    );
+    )?;
     compare_shape(
+        rt,
         b"command line after the ramdisks",
         Shape::COMMAND_LINE_LAST,
         b"kernelonetwocmd",
-    );
+    )
 }
 
-fn long_sections() {
+fn long_sections(rt: &impl Print) -> io::Result<()> {
     let lent = [b'x'; 569];
     compare_shape(
+        rt,
         b"sections longer than a block",
         case_images::without_flags(2, 4, [1, 2, 3, 3, 0, 0], [129, 127, 13, 300, 0, 0]),
         &lent,
-    );
+    )
 }
 
-fn refused(image: &mut [u8]) {
+fn refused(rt: &impl Print, image: &mut [u8]) -> io::Result<()> {
     octets::put_be16(image, Header::FLAGS_AT, 1);
-    compare(b"its checksum wrong", image);
+    compare(rt, b"its checksum wrong", image)?;
     octets::put_be16(image, 598, SectionType::KERNEL);
-    compare(b"a second kernel", image);
+    compare(rt, b"a second kernel", image)?;
     octets::put_be64(image, Header::OFFSETS_AT + Header::ENTRY_SIZE, 700);
-    compare(b"a section elsewhere by the table", image);
+    compare(rt, b"a section elsewhere by the table", image)
 }
 
 // ---- the section of the next bytes, and a piece after the end
 
 // Prints what the next thousand bytes belong to, after the first `taken` bytes of an image.
-fn span(image: &[u8], taken: usize) {
+fn span(rt: &impl Print, image: &[u8], taken: usize) -> io::Result<()> {
     let fed = arriving::feed(arriving::begin(), part(image, 0, taken), ALL);
     let state = fed.state;
     let found = arriving_sections::next(state, 1000);
-    labelled(b"after ", taken as u64);
-    labelled(b" bytes: section ", found.place);
-    labelled(b", together ", found.length);
-    labelled(b", begun ", found.begun);
-    text(b"\n");
+    labelled(rt, b"after ", taken as u64)?;
+    labelled(rt, b" bytes: section ", found.place)?;
+    labelled(rt, b", together ", found.length)?;
+    labelled(rt, b", begun ", found.begun)?;
+    text(rt, b"\n")
 }
 
 // The rows of FORMAT.md, Check while it arrives.
-fn spans() {
+fn spans(rt: &impl Print) -> io::Result<()> {
     let mut image = [0u8; WORKED_SIZE];
     case_images::put_image(&mut image, Shape::WORKED, b"Ka");
-    span(&image, 0);
-    span(&image, 547);
-    span(&image, 548);
-    span(&image, 560);
-    span(&image, 561);
-    span(&image, 573);
-    span(&image, 574);
-    span(&image, 586);
+    span(rt, &image, 0)?;
+    span(rt, &image, 547)?;
+    span(rt, &image, 548)?;
+    span(rt, &image, 560)?;
+    span(rt, &image, 561)?;
+    span(rt, &image, 573)?;
+    span(rt, &image, 574)?;
+    span(rt, &image, 586)
 }
 
-fn after_the_end(image: &[u8]) {
+fn after_the_end(rt: &impl Print, image: &[u8]) -> io::Result<()> {
     let done = arriving_registers::finish(measured(image, 100, ALL));
     let ended = done.state;
     let more = arriving_registers::feed(ended, b"more", ALL);
-    labelled(b"after the end: registers take ", more.count);
+    labelled(rt, b"after the end: registers take ", more.count)?;
     let told = arriving_fingerprint::finish(fingerprinted(image, 100, ALL));
     let last = told.state;
     let again = arriving_fingerprint::feed(last, b"more", ALL);
-    labelled(b", the fingerprint takes ", again.count);
-    text(b"\n");
+    labelled(rt, b", the fingerprint takes ", again.count)?;
+    text(rt, b"\n")
 }
 
-fn main() {
+fn main(rt: HostRuntime) -> io::Result<()> {
     let mut image = [0u8; 633];
     case_images::put_image(&mut image, Shape::IN_ORDER, b"kernelcmdfirstsecondthird");
-    shapes();
-    compare(b"three ramdisks", &image);
-    long_sections();
-    spans();
-    after_the_end(&image);
-    refused(&mut image);
-    compare(b"nothing", b"");
+    shapes(&rt)?;
+    compare(&rt, b"three ramdisks", &image)?;
+    long_sections(&rt)?;
+    spans(&rt)?;
+    after_the_end(&rt, &image)?;
+    refused(&rt, &mut image)?;
+    compare(&rt, b"nothing", b"")
 }

@@ -1,12 +1,15 @@
 // Runs transfers, one line a call: shuffled with repeats and refusals, the same pieces in another order, buffers that are shorter than at
 // open, and marks too short. The image is 8,195 bytes: two whole pieces and one of three bytes. A line has the record, the answer, the state,
 // the marks and a sum of the image buffer's bytes.
+#![tactic(auto)]
+
 ghost use Rattle.std.specs.Prelude.{◌+◌, ◌≤◌, ◌<◌, length};
 ghost use Rattle.assembler.specs.Records.{piece_size, number_size, data_at};
 
 use assembler::{PIECE_SIZE, PieceRecord, PieceRecordKind, State};
 use case_lines::{labelled, number, say, tell, text};
 use eif::RecordHead;
+use std::io;
 
 // The longest record.
 const LONGEST: usize = PieceRecord::DATA_AT + PIECE_SIZE as usize;
@@ -19,12 +22,13 @@ fn wide(b: u8) -> u64
     b as u64
 }
 
-fn list(bytes: &[u8]) {
+fn list(rt: &impl Print, bytes: &[u8]) -> io::Result<()> {
     let mut i: usize = 0;
     while i < bytes.len() {
-        labelled(b" ", wide(bytes[i]));
+        labelled(rt, b" ", wide(bytes[i]))?;
         i += 1;
     }
+    Ok(())
 }
 
 // A sum in which each byte's place counts.
@@ -38,31 +42,37 @@ fn sum(bytes: &[u8]) -> u64 {
     total
 }
 
-fn state_text(state: State) {
-    tell(state.opened == 0, b" closed ", b" open ");
-    number(state.length);
+fn state_text(rt: &impl Print, state: State) -> io::Result<()> {
+    tell(rt, state.opened == 0, b" closed ", b" open ")?;
+    number(rt, state.length)
 }
 
 // One call, and what it answers and leaves.
-fn call(state: State, sent: &[u8], image: &mut [u8], marks: &mut [u8]) -> State {
+fn call(
+    rt: &impl Print,
+    state: State,
+    sent: &[u8],
+    image: &mut [u8],
+    marks: &mut [u8],
+) -> io::Result<State> {
     let stepped = assembler_step::step(state, sent, image, marks);
     let verdict = stepped.verdict;
     let next = stepped.state;
-    say(verdict);
-    labelled(b", ", stepped.length);
-    state_text(next);
-    text(b", marks");
-    list(marks);
-    labelled(b", sum ", sum(image));
-    text(b"\n");
-    next
+    say(rt, verdict)?;
+    labelled(rt, b", ", stepped.length)?;
+    state_text(rt, next)?;
+    text(rt, b", marks")?;
+    list(rt, marks)?;
+    labelled(rt, b", sum ", sum(image))?;
+    text(rt, b"\n")?;
+    Ok(next)
 }
 
 // ---- records
 
 // A record to send: its kind, its number, so many bytes of the image from there on, and a mask that changes each of them; and by how much the
 // image buffer and the mark buffer are cut for the call.
-#[derive(Drop)]
+#[derive(Clone, Copy)]
 struct Sending(u16, u64, usize, u8, usize, usize);
 
 // The byte at a place of the image that is sent.
@@ -100,12 +110,12 @@ fn put_head(sent: &mut [u8], size: u64, kind: u16, number: u64) {
     octets::put_le64(sent, PieceRecord::NUMBER_AT, number);
 }
 
-fn record_text(s: Sending) {
-    labelled(b"kind ", s.0 as u64);
-    labelled(b" number ", s.1);
-    labelled(b" bytes ", s.2 as u64);
-    labelled(b" change ", wide(s.3));
-    text(b": ");
+fn record_text(rt: &impl Print, s: Sending) -> io::Result<()> {
+    labelled(rt, b"kind ", s.0 as u64)?;
+    labelled(rt, b" number ", s.1)?;
+    labelled(rt, b" bytes ", s.2 as u64)?;
+    labelled(rt, b" change ", wide(s.3))?;
+    text(rt, b": ")
 }
 
 // Makes a record over a slice with room for the longest, and answers its length after the head.
@@ -122,11 +132,17 @@ fn make(sent: &mut [u8], s: Sending) -> usize
 }
 
 // The call with a record that is made here.
-fn send(state: State, s: Sending, image: &mut [u8], marks: &mut [u8]) -> State {
+fn send(
+    rt: &impl Print,
+    state: State,
+    s: Sending,
+    image: &mut [u8],
+    marks: &mut [u8],
+) -> io::Result<State> {
     let mut sent = [0u8; LONGEST];
     let size = make(&mut sent, s);
-    record_text(s);
-    call(state, &sent[..RecordHead::SIZE + size], image, marks)
+    record_text(rt, s)?;
+    call(rt, state, &sent[..RecordHead::SIZE + size], image, marks)
 }
 
 // The length of a buffer that is cut.
@@ -136,10 +152,16 @@ fn cut(length: usize, by: usize) -> usize
     length - octets::lesser(by, length)
 }
 
-fn send_cut(state: State, s: Sending, image: &mut [u8], marks: &mut [u8]) -> State {
+fn send_cut(
+    rt: &impl Print,
+    state: State,
+    s: Sending,
+    image: &mut [u8],
+    marks: &mut [u8],
+) -> io::Result<State> {
     let room = cut(image.len(), s.4);
     let places = cut(marks.len(), s.5);
-    send(state, s, &mut image[..room], &mut marks[..places])
+    send(rt, state, s, &mut image[..room], &mut marks[..places])
 }
 
 // ---- the cases, a row a call
@@ -185,28 +207,35 @@ const SENDINGS: [Sending; ROWS] = [
 ];
 
 // The rows from the first to before the end, from a fresh state.
-fn rows(first: usize, end: usize, image: &mut [u8], marks: &mut [u8]) {
+fn rows(
+    rt: &impl Print,
+    first: usize,
+    end: usize,
+    image: &mut [u8],
+    marks: &mut [u8],
+) -> io::Result<()> {
     let sendings = SENDINGS;
     let bound = octets::lesser(end, ROWS);
     let mut state = assembler_step::new();
     let mut i = first;
     while i < bound {
-        let next = send_cut(state, sendings[i], image, marks);
+        let next = send_cut(rt, state, sendings[i], image, marks)?;
         state = next;
         i += 1;
     }
+    Ok(())
 }
 
-fn transfer(label: &[u8], first: usize, end: usize) {
+fn transfer(rt: &impl Print, label: &[u8], first: usize, end: usize) -> io::Result<()> {
     let mut image = [9u8; 8204];
     let mut marks = [7u8; 5];
-    text(label);
-    rows(first, end, &mut image, &mut marks);
+    text(rt, label)?;
+    rows(rt, first, end, &mut image, &mut marks)
 }
 
-fn main() {
-    transfer(b"shuffled, with repeats and refusals\n", 0, 22);
-    transfer(b"in another order\n", 22, 27);
-    transfer(b"buffers shorter than at open\n", 27, 34);
-    transfer(b"marks too short\n", 34, ROWS);
+fn main(rt: HostRuntime) -> io::Result<()> {
+    transfer(&rt, b"shuffled, with repeats and refusals\n", 0, 22)?;
+    transfer(&rt, b"in another order\n", 22, 27)?;
+    transfer(&rt, b"buffers shorter than at open\n", 27, 34)?;
+    transfer(&rt, b"marks too short\n", 34, ROWS)
 }

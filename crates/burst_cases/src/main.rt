@@ -1,11 +1,14 @@
 // Runs cases of what the checksum promises, a line each: damage within four neighbouring bytes that are checked and damage to the checksum
 // alone, each tried at every place of a small image and never accepted; and a stretch that reaches into the checksum, of which nothing is
 // promised: two images that differ in four neighbouring bytes of the file, and both are accepted. Section types are FORMAT.md's numbers.
+#![tactic(auto)]
+
 ghost use Rattle.std.specs.Prelude.{◌<◌, ◌≤◌};
 ghost use Rattle.burst_cases.specs.Sizes.{damaged_size, stretch_count};
 
 use case_lines::{byte, labelled, tell, text};
 use eif::{Header, Verdict};
+use std::io;
 
 // ---- the image and its damage
 
@@ -101,65 +104,71 @@ fn count_field_slips(at: usize) -> usize
 
 // ---- the cases
 
-fn damage(a: u8, b: u8, c: u8, d: u8) {
-    text(b"four neighbouring checked bytes inverted by ");
-    byte(a);
-    byte(b);
-    byte(c);
-    byte(d);
-    labelled(b", at each of ", STRETCHES as u64);
-    labelled(b" places: accepted ", count_slips(a, b, c, d) as u64);
-    text(b"\n");
+fn damage(rt: &impl Print, a: u8, b: u8, c: u8, d: u8) -> io::Result<()> {
+    text(rt, b"four neighbouring checked bytes inverted by ")?;
+    byte(rt, a)?;
+    byte(rt, b)?;
+    byte(rt, c)?;
+    byte(rt, d)?;
+    labelled(rt, b", at each of ", STRETCHES as u64)?;
+    labelled(rt, b" places: accepted ", count_slips(a, b, c, d) as u64)?;
+    text(rt, b"\n")
 }
 
-fn field_damage(at: usize) {
-    labelled(b"byte ", at as u64);
+fn field_damage(rt: &impl Print, at: usize) -> io::Result<()> {
+    labelled(rt, b"byte ", at as u64)?;
     labelled(
+        rt,
         b" alone, in each of 255 ways: accepted ",
         count_field_slips(at) as u64,
-    );
-    text(b"\n");
+    )?;
+    text(rt, b"\n")
 }
 
 // Each byte in which two images differ.
-fn differences(one: &[u8; SIZE], other: &[u8; SIZE]) {
+fn differences(rt: &impl Print, one: &[u8; SIZE], other: &[u8; SIZE]) -> io::Result<()> {
     let mut i: usize = 0;
     while i < SIZE {
-        difference(i, one[i], other[i]);
+        difference(rt, i, one[i], other[i])?;
         i += 1;
     }
+    Ok(())
 }
 
-fn difference(at: usize, one: u8, other: u8) {
+fn difference(rt: &impl Print, at: usize, one: u8, other: u8) -> io::Result<()> {
     if one != other {
-        labelled(b"byte ", at as u64);
-        text(b": ");
-        byte(one);
-        text(b" and ");
-        byte(other);
-        text(b"\n");
+        labelled(rt, b"byte ", at as u64)?;
+        text(rt, b": ")?;
+        byte(rt, one)?;
+        text(rt, b" and ")?;
+        byte(rt, other)?;
+        text(rt, b"\n")?;
     }
+    Ok(())
 }
 
-fn answer(image: &[u8]) {
-    tell(accepted(image), b"accepted\n", b"refused\n");
+fn answer(rt: &impl Print, image: &[u8]) -> io::Result<()> {
+    tell(rt, accepted(image), b"accepted\n", b"refused\n")
 }
 
-fn main() {
-    damage(1, 0, 0, 0);
-    damage(0x80, 0, 0, 1);
-    damage(0xFF, 0xFF, 0xFF, 0xFF);
-    damage(0xED, 0xB8, 0x83, 0x20);
-    field_damage(Header::CHECKSUM_AT);
-    field_damage(Header::CHECKSUM_AT + 1);
-    field_damage(Header::CHECKSUM_AT + 2);
-    field_damage(Header::CHECKSUM_AT + 3);
-    text(b"a stretch that reaches into the checksum, found by search:\n");
+fn main(rt: HostRuntime) -> io::Result<()> {
+    damage(&rt, 1, 0, 0, 0)?;
+    damage(&rt, 0x80, 0, 0, 1)?;
+    damage(&rt, 0xFF, 0xFF, 0xFF, 0xFF)?;
+    damage(&rt, 0xED, 0xB8, 0x83, 0x20)?;
+    field_damage(&rt, Header::CHECKSUM_AT)?;
+    field_damage(&rt, Header::CHECKSUM_AT + 1)?;
+    field_damage(&rt, Header::CHECKSUM_AT + 2)?;
+    field_damage(&rt, Header::CHECKSUM_AT + 3)?;
+    text(
+        &rt,
+        b"a stretch that reaches into the checksum, found by search:\n",
+    )?;
     let mut one = [0u8; SIZE];
     build(&mut one, 0);
     let mut other = [0u8; SIZE];
     build(&mut other, 0x0019F999);
-    differences(&one, &other);
-    answer(&one);
-    answer(&other);
+    differences(&rt, &one, &other)?;
+    answer(&rt, &one)?;
+    answer(&rt, &other)
 }

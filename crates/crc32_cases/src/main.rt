@@ -1,11 +1,13 @@
 // Published CRC-32 vectors through `crc32_fold::checksum`, a line each: a label, and the checksum in eight hexadecimal digits.
-use libc::STDOUT_FILENO;
+#![tactic(auto)]
 
-fn show(label: &[u8], bytes: &[u8]) {
-    io::write_all(STDOUT_FILENO, label);
-    io::write_all(STDOUT_FILENO, b" ");
-    io::print_hex(STDOUT_FILENO, crc32_fold::checksum(bytes) as u64, 8);
-    io::write_all(STDOUT_FILENO, b"\n");
+use std::io;
+
+fn show(rt: &impl Print, label: &[u8], bytes: &[u8]) -> io::Result<()> {
+    rt.write_all(label)?;
+    rt.write_all(b" ")?;
+    print!(rt; "{:08x}", crc32_fold::checksum(bytes))?;
+    rt.write_all(b"\n")
 }
 
 // Each byte value in order.
@@ -19,10 +21,10 @@ fn every_value() -> [u8; 256] {
     values
 }
 
-fn main() {
-    show(b"empty", b"");
-    show(b"one-zero-byte", b"\0");
-    show(b"123456789", b"123456789");
-    show(b"every-byte-value", &every_value());
-    show(b"32768-zero-bytes", &[0u8; 32768]);
+fn main(rt: HostRuntime) -> io::Result<()> {
+    show(&rt, b"empty", b"")?;
+    show(&rt, b"one-zero-byte", b"\0")?;
+    show(&rt, b"123456789", b"123456789")?;
+    show(&rt, b"every-byte-value", &every_value())?;
+    show(&rt, b"32768-zero-bytes", &[0u8; 32768])
 }

@@ -1,8 +1,11 @@
 // Checks an image of any size that comes over standard input, by the reader that is handed pieces: the rows and refusal lines of
 // eif_show, with a buffer of 32 KiB and a state of less than one.
+#![tactic(auto)]
+
 ghost use Rattle.eif_check.specs.Pieces.{FirstPastLimit};
 
 use arriving::Arriving;
+use std::io::{self, Read};
 
 const PIECE: usize = 32768;
 
@@ -13,16 +16,16 @@ fn most_pieces() -> usize
     eif::SIZE_LIMIT / PIECE + 1
 }
 
-#[derive(Drop)]
+#[derive(Clone, Copy)]
 struct Taken {
     state: Arriving,
     more: bool,
 }
 
 // The state after the next piece. A piece that is not full is the last.
-fn take_piece(state: Arriving) -> Taken {
+fn take_piece<R: Read>(input: &mut R, state: Arriving) -> Taken {
     let mut piece = [0u8; PIECE];
-    let n = io::read_full(libc::STDIN_FILENO, &mut piece);
+    let n = block_reader::read_full(input, &mut piece);
     let fed = arriving::feed(state, &piece[..n], n as u64);
     let next = fed.state;
     Taken {
@@ -32,11 +35,11 @@ fn take_piece(state: Arriving) -> Taken {
 }
 
 // The state at the end of the input, or when the image is too long.
-fn arrived() -> Arriving {
+fn arrived<R: Read>(input: &mut R) -> Arriving {
     let mut state = arriving::begin();
     let mut left = most_pieces();
     while 0 < left {
-        let taken = take_piece(state);
+        let taken = take_piece(input, state);
         let next = taken.state;
         state = next;
         if taken.more {
@@ -48,8 +51,8 @@ fn arrived() -> Arriving {
     state
 }
 
-fn main() {
-    let finished = arriving::finish(arrived());
+fn main(rt: HostRuntime) -> io::Result<()> {
+    let finished = arriving::finish(arrived(&mut rt.reader()));
     let reading = finished.reading;
-    eif_print::print(eif_lines::lines(reading));
+    eif_print::print(&rt, eif_lines::lines(reading))
 }

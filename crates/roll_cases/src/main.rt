@@ -1,8 +1,11 @@
 // Runs the cases of the boot roll, one line each: the roll's reader over the worked roll and its neighbours, and the roll's writer
 // over small images. Section types are FORMAT.md's numbers, and R3 is the roll that it prints, byte for byte.
+#![tactic(auto)]
+
 use case_images::{Shape, WORKED_SIZE};
 use case_lines::{hex, labelled, say, tell, text};
 use eif::{FlagsRecord, Header, PLACES, RecordHead, RollReading, RollRecord, SectionType};
+use std::io;
 
 // ---- lines
 
@@ -17,50 +20,51 @@ fn is_blank(r: RollRecord) -> bool {
 }
 
 // A record's type, data position and length; nothing where all are zero.
-fn listed(r: RollRecord) {
+fn listed(rt: &impl Print, r: RollRecord) -> io::Result<()> {
     if is_blank(r) {
-        return;
+        return Ok(());
     }
-    labelled(b" (", r.kind as u64);
-    labelled(b" ", r.position.0);
-    labelled(b" ", r.length.0);
-    text(b")");
+    labelled(rt, b" (", r.kind as u64)?;
+    labelled(rt, b" ", r.position.0)?;
+    labelled(rt, b" ", r.length.0)?;
+    text(rt, b")")
 }
 
 // ---- reading a roll
 
 // Every place of the list that is not all zero.
-fn list(records: [RollRecord; PLACES]) {
+fn list(rt: &impl Print, records: [RollRecord; PLACES]) -> io::Result<()> {
     let mut i: usize = 0;
     while i < PLACES {
-        listed(records[i]);
+        listed(rt, records[i])?;
         i += 1;
     }
+    Ok(())
 }
 
 // The verdict, the flags and the count.
-fn head_line(label: &[u8], reading: RollReading) {
+fn head_line(rt: &impl Print, label: &[u8], reading: RollReading) -> io::Result<()> {
     let verdict = reading.verdict;
-    text(label);
-    text(b": ");
-    say(verdict);
-    labelled(b", flags ", reading.flags as u64);
-    labelled(b", ", reading.count);
-    text(b" records");
+    text(rt, label)?;
+    text(rt, b": ")?;
+    say(rt, verdict)?;
+    labelled(rt, b", flags ", reading.flags as u64)?;
+    labelled(rt, b", ", reading.count)?;
+    text(rt, b" records")
 }
 
 // These and the list, or its last place alone.
-fn shown(label: &[u8], roll: &[u8], last: bool) {
+fn shown(rt: &impl Print, label: &[u8], roll: &[u8], last: bool) -> io::Result<()> {
     let reading = roll_reader::read(roll);
     let records = reading.records;
-    head_line(label, reading);
+    head_line(rt, label, reading)?;
     if last {
-        text(b", last");
-        listed(records[PLACES - 1]);
+        text(rt, b", last")?;
+        listed(rt, records[PLACES - 1])?;
     } else {
-        list(records);
+        list(rt, records)?;
     }
-    text(b"\n");
+    text(rt, b"\n")
 }
 
 // ---- rolls of a few records
@@ -101,19 +105,35 @@ fn put_records(roll: &mut [u8], kinds: [u16; RECORDS], lengths: [u64; RECORDS], 
 }
 
 // The first bytes of a roll of such records.
-fn read(label: &[u8], kinds: [u16; RECORDS], lengths: [u64; RECORDS], lent: &[u8], size: usize) {
+fn read(
+    rt: &impl Print,
+    label: &[u8],
+    kinds: [u16; RECORDS],
+    lengths: [u64; RECORDS],
+    lent: &[u8],
+    size: usize,
+) -> io::Result<()> {
     let mut roll = [0u8; ROOM];
     put_records(&mut roll, kinds, lengths, lent);
     if size <= ROOM {
-        shown(label, &roll[0..size], false);
+        shown(rt, label, &roll[0..size], false)?;
     }
+    Ok(())
 }
 
 // The lengths in the roll that FORMAT.md, The boot roll, prints: a flags record, kernel, command line and an empty ramdisk; 54 bytes.
 const LENGTHS: [u64; RECORDS] = [FlagsRecord::LENGTH, 1, 1, 0, 0];
 
 // The first bytes of a roll with three types after the flags record, and other data.
-fn three(label: &[u8], first: u16, second: u16, third: u16, lent: &[u8], size: usize) {
+fn three(
+    rt: &impl Print,
+    label: &[u8],
+    first: u16,
+    second: u16,
+    third: u16,
+    lent: &[u8],
+    size: usize,
+) -> io::Result<()> {
     let kinds = [
         FlagsRecord::TYPE,
         first,
@@ -121,158 +141,187 @@ fn three(label: &[u8], first: u16, second: u16, third: u16, lent: &[u8], size: u
         third,
         RecordHead::END_TYPE,
     ];
-    read(label, kinds, LENGTHS, lent, size);
+    read(rt, label, kinds, LENGTHS, lent, size)
 }
 
-fn worked(label: &[u8], size: usize) {
-    three(label, 1, 2, 3, b"\0\0Ka", size);
+fn worked(rt: &impl Print, label: &[u8], size: usize) -> io::Result<()> {
+    three(rt, label, 1, 2, 3, b"\0\0Ka", size)
 }
 
-fn types(label: &[u8], first: u16, second: u16, third: u16) {
-    three(label, first, second, third, b"\0\0Ka", 54);
+fn types(rt: &impl Print, label: &[u8], first: u16, second: u16, third: u16) -> io::Result<()> {
+    three(rt, label, first, second, third, b"\0\0Ka", 54)
 }
 
 // The same types with other lengths.
-fn lengths(label: &[u8], told: [u64; RECORDS], lent: &[u8], size: usize) {
-    read(label, [FlagsRecord::TYPE, 1, 2, 3, 0], told, lent, size);
+fn lengths(
+    rt: &impl Print,
+    label: &[u8],
+    told: [u64; RECORDS],
+    lent: &[u8],
+    size: usize,
+) -> io::Result<()> {
+    read(rt, label, [FlagsRecord::TYPE, 1, 2, 3, 0], told, lent, size)
 }
 
 // R1 to R6.
-fn rows() {
-    worked(b"R1 no bytes", 12);
+fn rows(rt: &impl Print) -> io::Result<()> {
+    worked(rt, b"R1 no bytes", 12)?;
     read(
+        rt,
         b"R2 ten zero bytes",
         [FlagsRecord::TYPE, 0, 0, 0, 0],
         [FlagsRecord::LENGTH, 0, 0, 0, 0],
         b"\0\0",
         22,
-    );
+    )?;
     shown(
+        rt,
         b"R3 the worked roll",
         b"\x02\0\0\0\0\0\0\0\0\x01\0\0\x01\0\0\0\0\0\0\0\x01\0K\x01\0\0\0\0\0\0\0\x02\0a\0\0\0\0\0\0\0\0\x03\0\0\0\0\0\0\0\0\0\0\0",
         false,
-    );
-    worked(b"R4 without its last byte", 53);
-    worked(b"R5 with a byte 00 added", 55);
+    )?;
+    worked(rt, b"R4 without its last byte", 53)?;
+    worked(rt, b"R5 with a byte 00 added", 55)?;
     three(
+        rt,
         b"R6 kernel and command line exchanged",
         2,
         1,
         3,
         b"\0\0aK",
         54,
-    );
+    )
 }
 
 // R7 to R11.
-fn later_rows() {
+fn later_rows(rt: &impl Print) -> io::Result<()> {
     read(
+        rt,
         b"R7 ramdisk first",
         [FlagsRecord::TYPE, 3, 1, 2, 0],
         [FlagsRecord::LENGTH, 0, 1, 1, 0],
         b"\0\0Ka",
         54,
-    );
+    )?;
     read(
+        rt,
         b"R8 kernel twice",
         [FlagsRecord::TYPE, 1, 1, 2, 3],
         [FlagsRecord::LENGTH, 1, 1, 1, 0],
         b"\0\0KKa",
         65,
-    );
-    types(b"R9 first type 4", 4, 2, 3);
-    types(b"R10 type 0 with length 1", 0, 2, 3);
+    )?;
+    types(rt, b"R9 first type 4", 4, 2, 3)?;
+    types(rt, b"R10 type 0 with length 1", 0, 2, 3)?;
     lengths(
+        rt,
         b"R11 length of eight ff",
         [FlagsRecord::LENGTH, 18446744073709551615, 0, 0, 0],
         b"\0\0",
         22,
-    );
+    )
 }
 
 // At an inner record and the last.
-fn inner() {
-    worked(b"without its end record", 44);
+fn inner(rt: &impl Print) -> io::Result<()> {
+    worked(rt, b"without its end record", 44)?;
     lengths(
+        rt,
         b"second record's data past the end",
         [FlagsRecord::LENGTH, 1, 65537, 0, 0],
         b"\0\0Ka",
         54,
-    );
-    types(b"second type 4", 1, 4, 3);
+    )?;
+    types(rt, b"second type 4", 1, 4, 3)?;
     lengths(
+        rt,
         b"end record with length 1",
         [FlagsRecord::LENGTH, 1, 1, 0, 1],
         b"\0\0Ka",
         54,
-    );
-    three(b"ramdisk second, before the kernel", 2, 3, 1, b"\0\0ar", 54);
-    types(b"command line twice", 1, 2, 2);
+    )?;
+    three(
+        rt,
+        b"ramdisk second, before the kernel",
+        2,
+        3,
+        1,
+        b"\0\0ar",
+        54,
+    )?;
+    types(rt, b"command line twice", 1, 2, 2)?;
     read(
+        rt,
         b"a byte after the end record, and no kernel",
         [FlagsRecord::TYPE, 0, 0, 0, 0],
         [FlagsRecord::LENGTH, 0, 0, 0, 0],
         b"\0\0",
         23,
-    );
+    )
 }
 
 // Neighbours of the flags record.
-fn flags() {
-    worked(b"no bytes", 0);
+fn flags(rt: &impl Print) -> io::Result<()> {
+    worked(rt, b"no bytes", 0)?;
     read(
+        rt,
         b"ten zero bytes, no flags record",
         [0; RECORDS],
         [0; RECORDS],
         b"",
         10,
-    );
+    )?;
     read(
+        rt,
         b"no flags record",
         [1, 2, 3, 0, 0],
         [1, 1, 0, 0, 0],
         b"Ka",
         42,
-    );
-    worked(b"nine bytes of a flags record", 9);
-    worked(b"its data cut", 11);
-    worked(b"a lone flags record", 12);
+    )?;
+    worked(rt, b"nine bytes of a flags record", 9)?;
+    worked(rt, b"its data cut", 11)?;
+    worked(rt, b"a lone flags record", 12)?;
     read(
+        rt,
         b"a second flags record",
         [FlagsRecord::TYPE, FlagsRecord::TYPE, 1, 2, 3],
         [FlagsRecord::LENGTH, FlagsRecord::LENGTH, 1, 1, 0],
         b"\0\0\0\0Ka",
         66,
-    );
-    three(b"every flag", 1, 2, 3, b"\xff\xffKa", 54);
+    )?;
+    three(rt, b"every flag", 1, 2, 3, b"\xff\xffKa", 54)?;
     lengths(
+        rt,
         b"a flags record of length 3",
         [3, 1, 1, 0, 0],
         b"\0\0\0Ka",
         55,
-    );
+    )
 }
 
 // Data one byte past the end is refused before the order of types.
-fn before_order() {
-    three(b"ramdisk first, data whole", 3, 0, 0, b"\0\0r", 23);
+fn before_order(rt: &impl Print) -> io::Result<()> {
+    three(rt, b"ramdisk first, data whole", 3, 0, 0, b"\0\0r", 23)?;
     three(
+        rt,
         b"ramdisk first, data one byte past the end",
         3,
         0,
         0,
         b"\0\0r",
         22,
-    );
-    three(b"second kernel, data whole", 1, 1, 0, b"\0\0KK", 34);
+    )?;
+    three(rt, b"second kernel, data whole", 1, 1, 0, b"\0\0KK", 34)?;
     three(
+        rt,
         b"second kernel, data one byte past the end",
         1,
         1,
         0,
         b"\0\0KK",
         33,
-    );
+    )
 }
 
 // ---- as many records as an image has places, and one more
@@ -305,95 +354,105 @@ fn put_heads(roll: &mut [u8]) {
 }
 
 // These, a head after them, and of all that the first bytes.
-fn many(label: &[u8], kind: u16, length: u64, size: usize) {
+fn many(rt: &impl Print, label: &[u8], kind: u16, length: u64, size: usize) -> io::Result<()> {
     let mut roll = [0u8; ONE_MORE];
     put_record(&mut roll, 0, FlagsRecord::TYPE, FlagsRecord::LENGTH, b"");
     put_heads(&mut roll);
     put_record(&mut roll, RECORDS_END as u16, kind, length, b"");
     if size <= ONE_MORE {
-        shown(label, &roll[0..size], true);
+        shown(rt, label, &roll[0..size], true)?;
     }
+    Ok(())
 }
 
-fn many_records() {
-    many(b"32 records", 0, 0, ENDED);
-    many(b"a 33rd record", 3, 0, ONE_MORE);
+fn many_records(rt: &impl Print) -> io::Result<()> {
+    many(rt, b"32 records", 0, 0, ENDED)?;
+    many(rt, b"a 33rd record", 3, 0, ONE_MORE)?;
     many(
+        rt,
         b"a 33rd record with its data past the end",
         3,
         18446744073709551615,
         ONE_MORE,
-    );
-    many(b"a 33rd record with a cut head", 0, 0, ENDED - 1);
-    many(b"a 33rd record with a bad head", 4, 0, ONE_MORE);
+    )?;
+    many(rt, b"a 33rd record with a cut head", 0, 0, ENDED - 1)?;
+    many(rt, b"a 33rd record with a bad head", 4, 0, ONE_MORE)
 }
 
 // ---- writing a roll
 
 // The answer, the length and every byte of the output.
-fn write(label: &[u8], image: &[u8], out: &mut [u8]) {
+fn write(rt: &impl Print, label: &[u8], image: &[u8], out: &mut [u8]) -> io::Result<()> {
     let written = roll_writer::write(image, out);
-    text(label);
-    text(b": ");
-    case_lines::written(written);
-    text(b", ");
-    hex(out);
-    text(b"\n");
+    text(rt, label)?;
+    text(rt, b": ")?;
+    case_lines::written(rt, written)?;
+    text(rt, b", ")?;
+    hex(rt, out)?;
+    text(rt, b"\n")
 }
 
-fn rooms(image: &[u8]) {
+fn rooms(rt: &impl Print, image: &[u8]) -> io::Result<()> {
     let mut short = [0xeeu8; 53];
-    write(b"the worked image, room 53", image, &mut short);
+    write(rt, b"the worked image, room 53", image, &mut short)?;
     let mut exact = [0xeeu8; 54];
-    write(b"the worked image, room 54", image, &mut exact);
-    shown(b"its roll read", &exact, false);
+    write(rt, b"the worked image, room 54", image, &mut exact)?;
+    shown(rt, b"its roll read", &exact, false)?;
     let mut long = [0xeeu8; 55];
-    write(b"the worked image, room 55", image, &mut long);
+    write(rt, b"the worked image, room 55", image, &mut long)
 }
 
-fn refused(image: &mut [u8]) {
+fn refused(rt: &impl Print, image: &mut [u8]) -> io::Result<()> {
     let mut out = [0xeeu8; 54];
     octets::put_be16(image, Header::FLAGS_AT, 1);
-    write(b"its flags changed, its checksum not", image, &mut out);
+    write(rt, b"its flags changed, its checksum not", image, &mut out)?;
     let shape = case_images::without_flags(2, 3, [2, 3, 3, 0, 0, 0], [1, 1, 0, 0, 0, 0]);
     case_images::put_image(image, shape, b"Ka");
-    write(b"a ramdisk before the kernel", image, &mut out);
+    write(rt, b"a ramdisk before the kernel", image, &mut out)
 }
 
 // The worked image again, by its plan and the image writer.
-fn planned() {
+fn planned(rt: &impl Print) -> io::Result<()> {
     let mut image = [0u8; WORKED_SIZE];
     let written = eif_writer::write(case_images::worked_plan(), b"Ka", &mut image);
-    text(b"the worked plan: ");
-    case_lines::written(written);
-    text(b"\n");
+    text(rt, b"the worked plan: ")?;
+    case_lines::written(rt, written)?;
+    text(rt, b"\n")?;
     let mut out = [0xeeu8; 54];
-    write(b"its image's roll", &image, &mut out);
+    write(rt, b"its image's roll", &image, &mut out)
 }
 
 // ---- two images
 
 // The two rolls, by their lengths, and whether they are equal.
-fn compare(label: &[u8], one: &[u8], other: &[u8]) {
+fn compare(rt: &impl Print, label: &[u8], one: &[u8], other: &[u8]) -> io::Result<()> {
     let mut x = [0u8; 76];
     let first = roll_writer::write(one, &mut x);
     let mut y = [0u8; 76];
     let second = roll_writer::write(other, &mut y);
-    text(label);
-    text(b": ");
-    case_lines::written(first);
-    text(b"; ");
-    case_lines::written(second);
-    tell(check::same(&x, &y), b"; equal\n", b"; different\n");
+    text(rt, label)?;
+    text(rt, b": ")?;
+    case_lines::written(rt, first)?;
+    text(rt, b"; ")?;
+    case_lines::written(rt, second)?;
+    tell(rt, check::same(&x, &y), b"; equal\n", b"; different\n")
 }
 
 // Of two images, the second over bytes that are not zero where `fill` is not.
-fn images(label: &[u8], one: Shape, first: &[u8], other: Shape, second: &[u8], fill: u8) {
+fn images(
+    rt: &impl Print,
+    label: &[u8],
+    one: Shape,
+    first: &[u8],
+    other: Shape,
+    second: &[u8],
+    fill: u8,
+) -> io::Result<()> {
     let mut x = [0u8; 636];
     let end = case_images::put_image(&mut x, one, first);
     let mut y = [fill; 636];
     let last = case_images::put_image(&mut y, other, second);
-    compare(label, &x[..end], &y[..last]);
+    compare(rt, label, &x[..end], &y[..last])
 }
 
 // The worked image with other flags.
@@ -418,65 +477,84 @@ const SIGNED: Shape = Shape {
     lengths: [1, 1, 6, 3, 3, 2],
 };
 
-fn pairs() {
+fn pairs(rt: &impl Print) -> io::Result<()> {
     let two = case_images::without_flags(2, 4, [1, 2, 3, 3, 0, 0], [1, 1, 3, 3, 0, 0]);
-    images(b"ramdisks exchanged", two, b"Kaoldnew", two, b"Kanewold", 0);
     images(
+        rt,
+        b"ramdisks exchanged",
+        two,
+        b"Kaoldnew",
+        two,
+        b"Kanewold",
+        0,
+    )?;
+    images(
+        rt,
         b"version, signature, unused entries",
         two,
         b"Kaoldnew",
         SIGNED,
         b"Kasignedoldnew{}",
         0xaa,
-    );
+    )?;
     images(
+        rt,
         b"another architecture",
         Shape::WORKED,
         b"Ka",
         flagged(1),
         b"Ka",
         0,
-    );
+    )?;
     images(
+        rt,
         b"another flag",
         Shape::WORKED,
         b"Ka",
         flagged(32768),
         b"Ka",
         0,
-    );
+    )
 }
 
-fn flags_written(image: &mut [u8]) {
+fn flags_written(rt: &impl Print, image: &mut [u8]) -> io::Result<()> {
     case_images::put_image(image, flagged(0x1234), b"Ka");
     let mut out = [0xeeu8; 54];
-    write(b"flags 1234", image, &mut out);
-    shown(b"its roll read", &out, false);
+    write(rt, b"flags 1234", image, &mut out)?;
+    shown(rt, b"its roll read", &out, false)
 }
 
-fn byte_moved() {
+fn byte_moved(rt: &impl Print) -> io::Result<()> {
     let one = case_images::without_flags(2, 2, [1, 2, 0, 0, 0, 0], [2, 1, 0, 0, 0, 0]);
     let other = case_images::without_flags(2, 2, [1, 2, 0, 0, 0, 0], [1, 2, 0, 0, 0, 0]);
-    images(b"kernel's last byte moved", one, b"abc", other, b"abc", 0);
+    images(
+        rt,
+        b"kernel's last byte moved",
+        one,
+        b"abc",
+        other,
+        b"abc",
+        0,
+    )
 }
 
-fn reading() {
-    rows();
-    later_rows();
-    inner();
-    flags();
-    many_records();
-    before_order();
+fn reading(rt: &impl Print) -> io::Result<()> {
+    rows(rt)?;
+    later_rows(rt)?;
+    inner(rt)?;
+    flags(rt)?;
+    many_records(rt)?;
+    before_order(rt)
 }
 
-fn main() {
-    reading();
+fn main(rt: HostRuntime) -> io::Result<()> {
+    reading(&rt)?;
     let mut image = [0u8; WORKED_SIZE];
     case_images::put_image(&mut image, Shape::WORKED, b"Ka");
-    rooms(&image);
-    planned();
-    refused(&mut image);
-    pairs();
-    flags_written(&mut image);
-    byte_moved();
+    rooms(&rt, &image)?;
+    planned(&rt)?;
+    refused(&rt, &mut image)?;
+    pairs(&rt)?;
+    flags_written(&rt, &mut image)?;
+    byte_moved(&rt)
 }

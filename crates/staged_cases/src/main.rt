@@ -1,64 +1,84 @@
 // Runs cases of the staged view, one line each: what is shown of each section, and the roll beside that of the image written afresh.
+#![tactic(auto)]
+
 use case_images::Shape;
 use case_lines::{hex, labelled, say, tell, text};
 use eif::{PLACES, Plan, SectionType};
+use std::io;
 
 // ---- the view
 
 // What is shown of a section: the verdict, the length and the bytes.
-fn shown<'a>(base: &'a [u8], replacement: &'a [u8], replaced: u64, section: u64) {
-    labelled(b"replaced ", replaced);
-    labelled(b", shown ", section);
-    text(b": ");
+fn shown<'a>(
+    rt: &impl Print,
+    base: &'a [u8],
+    replacement: &'a [u8],
+    replaced: u64,
+    section: u64,
+) -> io::Result<()> {
+    labelled(rt, b"replaced ", replaced)?;
+    labelled(rt, b", shown ", section)?;
+    text(rt, b": ")?;
     let verdict = staged_view::verdict(base, replacement, replaced, section);
-    say(verdict);
+    say(rt, verdict)?;
     let part = staged_view::section(base, replacement, replaced, section);
     let place = staged_view::place(base, replacement.len() as u64, replaced, section);
-    labelled(b", length ", part.len() as u64);
-    text(b", ");
-    text(part);
-    labelled(b", of the replacement ", place.in_replacement as u64);
-    labelled(b" from ", place.start);
-    labelled(b" length ", place.length.0);
-    text(b"\n");
+    labelled(rt, b", length ", part.len() as u64)?;
+    text(rt, b", ")?;
+    text(rt, part)?;
+    labelled(rt, b", of the replacement ", place.in_replacement as u64)?;
+    labelled(rt, b" from ", place.start)?;
+    labelled(rt, b" length ", place.length.0)?;
+    text(rt, b"\n")
 }
 
 // ---- the base: kernel, command line and two ramdisks
 
-fn views(base: &[u8]) {
-    shown(base, b"mended", 2, 0);
-    shown(base, b"mended", 2, 1);
-    shown(base, b"mended", 2, 2);
-    shown(base, b"mended", 2, 3);
-    shown(base, b"", 3, 3);
-    shown(base, b"mended", 4, 0);
-    shown(base, b"mended", 0, 4);
-    shown(base, b"mended", 18446744073709551615, 0);
+fn views(rt: &impl Print, base: &[u8]) -> io::Result<()> {
+    shown(rt, base, b"mended", 2, 0)?;
+    shown(rt, base, b"mended", 2, 1)?;
+    shown(rt, base, b"mended", 2, 2)?;
+    shown(rt, base, b"mended", 2, 3)?;
+    shown(rt, base, b"", 3, 3)?;
+    shown(rt, base, b"mended", 4, 0)?;
+    shown(rt, base, b"mended", 0, 4)?;
+    shown(rt, base, b"mended", 18446744073709551615, 0)
 }
 
 // The base's refusal comes first.
-fn damaged(base: &[u8]) {
+fn damaged(rt: &impl Print, base: &[u8]) -> io::Result<()> {
     let mut other = [0u8; 614];
     octets::copy(&mut other, 0, base);
     case_images::put_header(&mut other, 9, 1, 4);
-    shown(&other, b"mended", 9, 9);
+    shown(rt, &other, b"mended", 9, 9)
 }
 
 // ---- the roll
 
 // The roll of an image, and the staged roll.
-fn both<'a>(image: &[u8], base: &'a [u8], replacement: &'a [u8], replaced: u64) {
+fn both<'a>(
+    rt: &impl Print,
+    image: &[u8],
+    base: &'a [u8],
+    replacement: &'a [u8],
+    replaced: u64,
+) -> io::Result<()> {
     let mut plain = [238u8; 82];
     let first = roll_writer::write(image, &mut plain);
-    text(b"the image's roll: ");
-    case_lines::written(first);
+    text(rt, b"the image's roll: ")?;
+    case_lines::written(rt, first)?;
     let mut staged = [238u8; 82];
     let second = roll_writer::write_staged(base, replacement, replaced, &mut staged);
-    text(b"; the staged roll: ");
-    case_lines::written(second);
-    text(b", ");
-    hex(&staged);
-    tell(check::same(&plain, &staged), b", equal\n", b", different\n");
+    text(rt, b"; the staged roll: ")?;
+    case_lines::written(rt, second)?;
+    text(rt, b", ")?;
+    hex(rt, &staged)?;
+    tell(
+        rt,
+        check::same(&plain, &staged),
+        b", equal\n",
+        b", different\n",
+    )
 }
 
 // The plan of the image written afresh with `mended` for section 2.
@@ -79,54 +99,54 @@ fn mended_plan() -> Plan {
     }
 }
 
-fn mended(base: &[u8]) {
+fn mended(rt: &impl Print, base: &[u8]) -> io::Result<()> {
     let plan = mended_plan();
     let mut fresh = [0u8; 615];
     let image = eif_writer::write(plan, b"Kerna=1mendedsecond", &mut fresh);
-    text(b"afresh: ");
-    case_lines::written(image);
-    text(b"\n");
-    both(&fresh, base, b"mended", 2);
+    text(rt, b"afresh: ")?;
+    case_lines::written(rt, image)?;
+    text(rt, b"\n")?;
+    both(rt, &fresh, base, b"mended", 2)
 }
 
 // Into a room of 8 bytes, for a section.
-fn small_room(base: &[u8], replaced: u64) {
+fn small_room(rt: &impl Print, base: &[u8], replaced: u64) -> io::Result<()> {
     let mut out = [238u8; 8];
     let answered = roll_writer::write_staged(base, &base[..0], replaced, &mut out);
-    labelled(b"room 8, section ", replaced);
-    text(b": ");
-    case_lines::written(answered);
-    text(b", ");
-    hex(&out);
-    text(b"\n");
+    labelled(rt, b"room 8, section ", replaced)?;
+    text(rt, b": ")?;
+    case_lines::written(rt, answered)?;
+    text(rt, b", ")?;
+    hex(rt, &out)?;
+    text(rt, b"\n")
 }
 
 // What is judged with a replacement of a length, for a section.
-fn judged(label: &[u8], base: &[u8], size: u64, section: u64) {
+fn judged(rt: &impl Print, label: &[u8], base: &[u8], size: u64, section: u64) -> io::Result<()> {
     let answered = staged_view::judge(base, size, 2, section);
     let verdict = answered.verdict;
-    text(label);
-    say(verdict);
-    text(b"\n");
+    text(rt, label)?;
+    say(rt, verdict)?;
+    text(rt, b"\n")
 }
 
 // Over the limit, by the length alone: the base written afresh is 614 bytes, of which the first ramdisk is 5.
-fn limits(base: &[u8]) {
-    judged(b"at the limit: ", base, 1073741215, 2);
-    judged(b"one more: ", base, 1073741216, 2);
-    judged(b"the most: ", base, 18446744073709551615, 2);
-    judged(b"the most, shown 4: ", base, 18446744073709551615, 4);
+fn limits(rt: &impl Print, base: &[u8]) -> io::Result<()> {
+    judged(rt, b"at the limit: ", base, 1073741215, 2)?;
+    judged(rt, b"one more: ", base, 1073741216, 2)?;
+    judged(rt, b"the most: ", base, 18446744073709551615, 2)?;
+    judged(rt, b"the most, shown 4: ", base, 18446744073709551615, 4)
 }
 
-fn main() {
+fn main(rt: HostRuntime) -> io::Result<()> {
     let mut base = [0u8; 614];
     case_images::put_image(&mut base, Shape::BASE, b"Kerna=1firstsecond");
-    views(&base);
-    damaged(&base);
-    mended(&base);
+    views(&rt, &base)?;
+    damaged(&rt, &base)?;
+    mended(&rt, &base)?;
     // a section replaced by its own data
-    both(&base, &base, b"second", 3);
-    small_room(&base, 2);
-    small_room(&base, 4);
-    limits(&base);
+    both(&rt, &base, &base, b"second", 3)?;
+    small_room(&rt, &base, 2)?;
+    small_room(&rt, &base, 4)?;
+    limits(&rt, &base)
 }

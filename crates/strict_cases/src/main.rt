@@ -1,33 +1,36 @@
 // Runs cases of the stricter reading, one line each: an image, the answers of the ordinary and of the stricter reading, and the fields of
 // the latter, which are zero beside a refusal. Section types are FORMAT.md's numbers.
+#![tactic(auto)]
+
 use case_images::Shape;
 use case_lines::{labelled, say, text};
 use eif::{Header, Reading, SectionType};
+use std::io;
 
 // ---- answers
 
-fn fields(reading: Reading) {
-    labelled(b"; version ", reading.version as u64);
-    labelled(b" flags ", reading.flags as u64);
-    labelled(b" count ", reading.count as u64);
+fn fields(rt: &impl Print, reading: Reading) -> io::Result<()> {
+    labelled(rt, b"; version ", reading.version as u64)?;
+    labelled(rt, b" flags ", reading.flags as u64)?;
+    labelled(rt, b" count ", reading.count as u64)?;
     let first = reading.sections[0];
-    labelled(b" first type ", first.kind as u64);
-    labelled(b" position ", first.position.0);
-    labelled(b" length ", first.length.0);
-    text(b"\n");
+    labelled(rt, b" first type ", first.kind as u64)?;
+    labelled(rt, b" position ", first.position.0)?;
+    labelled(rt, b" length ", first.length.0)?;
+    text(rt, b"\n")
 }
 
-fn both(label: &[u8], image: &[u8]) {
+fn both(rt: &impl Print, label: &[u8], image: &[u8]) -> io::Result<()> {
     let ordinary = eif_reader::read(image);
     let strict = strict_reader::read_strict(image);
     let first = ordinary.verdict;
     let second = strict.verdict;
-    text(label);
-    text(b": ");
-    say(first);
-    text(b", strict ");
-    say(second);
-    fields(strict);
+    text(rt, label)?;
+    text(rt, b": ")?;
+    say(rt, first)?;
+    text(rt, b", strict ")?;
+    say(rt, second)?;
+    fields(rt, strict)
 }
 
 // ---- images
@@ -46,19 +49,21 @@ fn put_metadata(image: &mut [u8], lent: &[u8]) {
     case_images::put_section(image, 2, 574, SectionType::METADATA, 0, lent);
 }
 
-fn checksum_first(label: &[u8], image: &mut [u8], size: usize) {
+fn checksum_first(rt: &impl Print, label: &[u8], image: &mut [u8], size: usize) -> io::Result<()> {
     if size <= image.len() {
         case_images::put_checksum(&mut image[0..size]);
-        both(label, &image[0..size]);
+        both(rt, label, &image[0..size])?;
     }
+    Ok(())
 }
 
-fn metadata(label: &[u8], lent: &[u8]) {
+fn metadata(rt: &impl Print, label: &[u8], lent: &[u8]) -> io::Result<()> {
     let mut image = [0u8; 842];
     if lent.len() <= 256 {
         put_metadata(&mut image, lent);
-        checksum_first(label, &mut image, 586 + lent.len());
+        checksum_first(rt, label, &mut image, 586 + lent.len())?;
     }
+    Ok(())
 }
 
 // Three sections with one byte each, at 548, 561 and 574.
@@ -67,72 +72,88 @@ fn put_three(image: &mut [u8], version: u16, kinds: [u16; case_images::MOST], le
     case_images::put_image(image, shape, lent);
 }
 
-fn three(label: &[u8], version: u16, kinds: [u16; case_images::MOST], lent: &[u8]) {
+fn three(
+    rt: &impl Print,
+    label: &[u8],
+    version: u16,
+    kinds: [u16; case_images::MOST],
+    lent: &[u8],
+) -> io::Result<()> {
     let mut image = [0u8; 587];
     put_three(&mut image, version, kinds, lent);
-    both(label, &image);
+    both(rt, label, &image)
 }
 
-fn wrong_checksum(label: &[u8], version: u16, kinds: [u16; case_images::MOST], lent: &[u8]) {
+fn wrong_checksum(
+    rt: &impl Print,
+    label: &[u8],
+    version: u16,
+    kinds: [u16; case_images::MOST],
+    lent: &[u8],
+) -> io::Result<()> {
     let mut image = [0u8; 587];
     put_three(&mut image, version, kinds, lent);
     octets::put_be32(&mut image, Header::CHECKSUM_AT, 0);
-    both(label, &image);
+    both(rt, label, &image)
 }
 
 // ---- the cases
 
-fn accepted() {
-    metadata(b"an empty object", b"{}");
+fn accepted(rt: &impl Print) -> io::Result<()> {
+    metadata(rt, b"an empty object", b"{}")?;
     metadata(
+        rt,
         b"a builder's metadata",
         b"{\"ImageName\":\"station\",\"ImageVersion\":\"1.0\",\"DockerInfo\":{\"Size\":7}}",
-    );
-    metadata(b"white space around", b" \n{ } \n");
-    metadata(b"a number", b"5");
+    )?;
+    metadata(rt, b"white space around", b" \n{ } \n")?;
+    metadata(rt, b"a number", b"5")?;
     metadata(
+        rt,
         b"32 arrays",
         b"[[[[[[[[[[[[[[[[[[[[[[[[[[[[[[[[]]]]]]]]]]]]]]]]]]]]]]]]]]]]]]]]",
-    );
+    )
 }
 
-fn refused() {
-    metadata(b"cut in the middle", b"{\"ImageName\":\"sta");
-    metadata(b"no metadata bytes", b"");
-    metadata(b"two texts", b"{} {}");
-    metadata(b"byte order mark", b"\xef\xbb\xbf{}");
-    metadata(b"zero byte after it", b"{}\0");
+fn refused(rt: &impl Print) -> io::Result<()> {
+    metadata(rt, b"cut in the middle", b"{\"ImageName\":\"sta")?;
+    metadata(rt, b"no metadata bytes", b"")?;
+    metadata(rt, b"two texts", b"{} {}")?;
+    metadata(rt, b"byte order mark", b"\xef\xbb\xbf{}")?;
+    metadata(rt, b"zero byte after it", b"{}\0")?;
     metadata(
+        rt,
         b"bytes that are no UTF-8",
         b"{\"ImageName\":\"\xed\xa0\x80\"}",
-    );
+    )?;
     metadata(
+        rt,
         b"33 arrays",
         b"[[[[[[[[[[[[[[[[[[[[[[[[[[[[[[[[[]]]]]]]]]]]]]]]]]]]]]]]]]]]]]]]]]",
-    );
+    )
 }
 
 // The index is that of the metadata section, and no other section is asked to be JSON.
-fn by_place() {
-    three(b"metadata first", 4, [5, 1, 2, 0, 0, 0], b"{{{");
-    three(b"metadata second", 4, [1, 5, 2, 0, 0, 0], b"{{{");
-    three(b"metadata last", 4, [1, 2, 5, 0, 0, 0], b"{{{");
-    three(b"a digit in each", 4, [1, 5, 2, 0, 0, 0], b"777");
-    three(b"version 3, no metadata", 3, [1, 2, 4, 0, 0, 0], b"{{{");
-    three(b"version 2, a ramdisk", 2, [1, 2, 3, 0, 0, 0], b"{{{");
+fn by_place(rt: &impl Print) -> io::Result<()> {
+    three(rt, b"metadata first", 4, [5, 1, 2, 0, 0, 0], b"{{{")?;
+    three(rt, b"metadata second", 4, [1, 5, 2, 0, 0, 0], b"{{{")?;
+    three(rt, b"metadata last", 4, [1, 2, 5, 0, 0, 0], b"{{{")?;
+    three(rt, b"a digit in each", 4, [1, 5, 2, 0, 0, 0], b"777")?;
+    three(rt, b"version 3, no metadata", 3, [1, 2, 4, 0, 0, 0], b"{{{")?;
+    three(rt, b"version 2, a ramdisk", 2, [1, 2, 3, 0, 0, 0], b"{{{")
 }
 
 // The image's own refusals come first.
-fn after_the_others() {
-    wrong_checksum(b"13, and no JSON", 4, [1, 2, 5, 0, 0, 0], b"{{{");
-    three(b"9, and no JSON", 3, [1, 2, 5, 0, 0, 0], b"{{{");
-    three(b"11, and no JSON", 4, [1, 5, 5, 0, 0, 0], b"{{{");
-    three(b"12, and no JSON", 4, [1, 3, 5, 0, 0, 0], b"{{{");
+fn after_the_others(rt: &impl Print) -> io::Result<()> {
+    wrong_checksum(rt, b"13, and no JSON", 4, [1, 2, 5, 0, 0, 0], b"{{{")?;
+    three(rt, b"9, and no JSON", 3, [1, 2, 5, 0, 0, 0], b"{{{")?;
+    three(rt, b"11, and no JSON", 4, [1, 5, 5, 0, 0, 0], b"{{{")?;
+    three(rt, b"12, and no JSON", 4, [1, 3, 5, 0, 0, 0], b"{{{")
 }
 
-fn main() {
-    accepted();
-    refused();
-    by_place();
-    after_the_others();
+fn main(rt: HostRuntime) -> io::Result<()> {
+    accepted(&rt)?;
+    refused(&rt)?;
+    by_place(&rt)?;
+    after_the_others(&rt)
 }
