@@ -19,7 +19,7 @@ sys.dont_write_bytecode = True
 from map import CRATES, read_crates
 
 README, PROMISES = Path("README.md"), Path("docs/PROMISES.md")
-# crates with public functions that only print: these return nothing and have no contract
+# crates with public functions that only print: these return whether the system took it, and have no contract
 PRINTERS = ("eif_print", "case_lines")
 BEGIN, END = "<!-- written by tools/believe.py -->", "<!-- to here -->"
 
@@ -155,7 +155,7 @@ class Tree:
 
     def without_contract(self):
         """Public functions of any crate that have no contract and do more than print."""
-        printers = {function for function, _ in self.functions(PRINTERS) if "->" not in function and "&mut" not in function}
+        printers = {function for function, _ in self.functions(PRINTERS) if "-> io::Result<()>" in function and "&mut" not in function}
         for function, _ in self.functions(self.crates):
             if "ensures" not in function and function not in printers:
                 yield " ".join(function.split())
