@@ -3,6 +3,8 @@
 // The roll is measured before a byte of it is written, so that a buffer that is too short stays as it was. Of a staged view a section lies in the
 // base or in the replacement; with nothing replaced the view is the image. The calls over a reading or a view take any, also one of no image: a
 // record has the data that lies there, and its head the length of that data.
+#![tactic(auto)]
+
 ghost use Rattle.std.specs.Prelude.{◌≡◌, ◌+◌, ◌≤◌, min, length};
 ghost use Rattle.octets.specs.Over.{over};
 ghost use Rattle.eif.specs.Roll.{record_head_size, flags_record_size, head_of, flags_record, roll_answer, roll_output, roll_length};

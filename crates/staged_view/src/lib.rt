@@ -1,5 +1,7 @@
 // One section of an image replaced, without a second image: what each section's data is, as a part of the base or of the
 // replacement, and whether the image written afresh with the replacement would be one.
+#![tactic(auto)]
+
 ghost use Rattle.std.specs.Prelude.{◌≡◌, map, ◌≤◌, ltb, length, set};
 ghost use Rattle.eif.specs.Numbers.{size_limit, place_count};
 ghost use Rattle.eif.specs.Plan.{place_at, plain_size, place_of, plan_of};
