@@ -3,6 +3,8 @@
 //
 // The base is read and checksummed by `begin` alone. Each step is lent base and replacement again, and takes the data of the section begun last from
 // where it lies. Every public function is total; the laws of a state from `begin` are in staged_writing_laws.
+#![tactic(auto)]
+
 ghost use Rattle.std.specs.Prelude.{◌≡◌, length, take, drop};
 ghost use Rattle.octets.specs.Over.{over};
 ghost use Rattle.writing.specs.Writing.{step_bytes, writing_summed};
@@ -13,14 +15,14 @@ use writing::{Summed, Writing};
 
 // The state of writing, and the number of the replaced section.
 #[repr(C)]
-#[derive(Drop)]
+#[derive(Clone, Copy)]
 pub struct StagedWriting {
     pub writing: Writing,
     pub replaced: u64,
 }
 
 // The answer to `begin`: the state, and the length of the image written afresh or a refusal.
-#[derive(Drop)]
+#[derive(Clone, Copy)]
 pub struct StagedBegun {
     pub state: StagedWriting,
     pub written: Written,
@@ -28,7 +30,7 @@ pub struct StagedBegun {
 
 // The answer to a step: the state after it, and how many bytes it wrote.
 #[repr(C)]
-#[derive(Drop)]
+#[derive(Clone, Copy)]
 pub struct StagedStepped {
     pub state: StagedWriting,
     pub written: u64,
