@@ -102,7 +102,7 @@ module _ (s r : List ℕ) (k : ℕ) (x : Staged) (is : x ≡ staged_view s (leng
 -- the form over a view agrees with the form over base and replacement, for every base of bytes
 pub step_view_agrees : (s r : List ℕ) (k : ℕ) → AreBytes s → view_fingerprint s r (staged_view s (length r) k k) ≡ (staged_fingerprint s r k).digest
 unfolding staged_fingerprint
-step_view_agrees s r k ws = view_is s r k (staged_view s (length r) k k) refl (staging.flags-fit s r k ws)
+step_view_agrees s r k ws = view_is s r k (staged_view s (length r) k k) refl (staging.flags_fit s r k ws)
 
 module _ (s : List ℕ) where
   -- the form over a reading agrees with the form over the image, for every image

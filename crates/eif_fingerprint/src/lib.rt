@@ -2,6 +2,8 @@
 //
 // The roll is hashed record by record from where the sections lie in memory; no roll is built and nothing is copied. In a staged view a section
 // lies in the base or in the replacement; an image is the view with nothing replaced.
+#![tactic(auto)]
+
 ghost use Rattle.std.specs.Prelude.{◌≡◌};
 ghost use Rattle.eif.specs.Roll.{head_of, flags_record};
 ghost use Rattle.sha384.specs.State.{more_hashed};
@@ -14,7 +16,7 @@ use sha384_block::DIGEST_SIZE;
 use staged::Staged;
 
 // An image's verdict and its fingerprint; the fingerprint is zero for a refused image.
-#[derive(Drop)]
+#[derive(Clone, Copy)]
 pub struct Fingerprinted {
     pub verdict: Verdict,
     pub digest: [u8; DIGEST_SIZE],
