@@ -3,6 +3,8 @@
 // The claim that the bytes could make is taken from the places where its parts would stand. Then that claim is written, and the bytes
 // are accepted exactly when they are what was written: no head, name, length or order is judged on the way, and none can be forgotten.
 // Every byte string has an answer, and of a long one no more is looked at than a COSE_Sign1 can have.
+#![tactic(auto)]
+
 ghost use Rattle.std.specs.Prelude.{◌≡◌, ◌+◌, ◌*◌, ◌≤◌, length, get_or};
 ghost use Rattle.cose.specs.Sign1.{register_size, longest, position_limit, signature_size, sign1_bytes};
 ghost use Rattle.octets.specs.Same.{same_bytes};
@@ -73,7 +75,7 @@ fn number_end(s: &[u8], at: usize) -> usize
 // ---- the register's value
 
 // The numbers found, and where the last ends.
-#[derive(Drop)]
+#[derive(Clone, Copy)]
 struct Found {
     value: [u8; REGISTER_SIZE],
     end: usize,
@@ -147,7 +149,7 @@ fn index_start(s: &[u8]) -> usize
 }
 
 // The claim that the bytes could make, and where its signature would start.
-#[derive(Drop)]
+#[derive(Clone, Copy)]
 struct Parts {
     claim: Claim,
     start: usize,

@@ -3,6 +3,8 @@
 // The claim is judged and measured before a byte is written, so that a refusal leaves every byte of the output as it was. Heads are
 // written in their shortest form; with the numbers of a register's value and a signature of 64 to 132 bytes, payload and signature always
 // have a head of two bytes.
+#![tactic(auto)]
+
 ghost use Rattle.std.specs.Prelude.{◌≡◌, ◌+◌, ◌*◌, ◌≤◌, ◌<◌, ◌∷◌, [], length};
 ghost use Rattle.octets.specs.Over.{over};
 ghost use Rattle.eif.specs.Answers.{refuse};
