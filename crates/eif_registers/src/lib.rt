@@ -3,6 +3,8 @@
 //
 // The streams are hashed where they lie in the image, section by section, with no copy. Where Whole and Boot begin alike, that is hashed
 // once for both. Of a staged view a section lies in the base or in the replacement; with nothing replaced the view is the image.
+#![tactic(auto)]
+
 ghost use Rattle.std.specs.Prelude.{◌≡◌, true, ◌≤◌, [], ◌∷◌, take, get_or};
 ghost use Rattle.std.proofs.Math.Seq.{slice};
 ghost use Rattle.eif.specs.Numbers.{place_count};
@@ -16,11 +18,11 @@ use sha384_block::DIGEST_SIZE;
 use staged::Staged;
 
 #[repr(C)]
-#[derive(Drop)]
+#[derive(Clone, Copy)]
 pub struct Digest(pub [u8; DIGEST_SIZE]);
 
 // An image's verdict and its registers 0, 1 and 2.
-#[derive(Drop)]
+#[derive(Clone, Copy)]
 pub struct Measurement {
     pub verdict: Verdict,
     pub registers: [Digest; 3],
@@ -84,7 +86,7 @@ fn alike(a: [Section; PLACES], b: [Section; PLACES], most: usize) -> usize
     i
 }
 
-#[derive(Drop)]
+#[derive(Clone, Copy)]
 struct States {
     whole: State,
     boot: State,
