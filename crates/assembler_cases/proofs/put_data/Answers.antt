@@ -1,7 +1,6 @@
-use Prim.Native.Nat.{◌-◌}
 use mathlib.Core.Path.{refl}
 use native.Mathlib.Omega.{arith}
-use lib.ListN.{length, length-set}
+use lib.ListN.{length-set}
 use Rattle.assembler_cases.proofs.put_data.Goals as goal
 
 -- `assembler_cases::put_data` is safe and ends: the place is within the slice, which keeps its length. Assumes nothing.
