@@ -4,6 +4,8 @@
 // the file. The flags record is hashed once the file's header is whole, the head of a record once the section's own header is whole, the data
 // as it arrives, and the end record at the end. Every public function is total: its contract holds for any state. The laws of runs from the
 // fresh state are in arriving_fingerprint_laws.
+#![tactic(auto)]
+
 ghost use Rattle.std.specs.Prelude.{◌≡◌, ◌<◌};
 ghost use Rattle.eif.specs.Numbers.{place_count};
 ghost use Rattle.arriving_fingerprint.specs.Fingerprinting.{record_begun, data_hashed, roll_more, roll_part_taken, roll_taken_all, fresh_fingerprinting, fed_fingerprinting, fingerprint_beside, finished_fingerprinting};
@@ -16,7 +18,7 @@ use sha384_block::DIGEST_SIZE;
 
 // The state after the bytes taken: what the rules need of them, and the hash state of the roll.
 #[repr(C)]
-#[derive(Drop)]
+#[derive(Clone, Copy)]
 pub struct Fingerprinting {
     pub arriving: Arriving,
     pub roll: State,
@@ -24,14 +26,14 @@ pub struct Fingerprinting {
 
 // The answer to a piece: the state after it, and the number of its bytes that were taken.
 #[repr(C)]
-#[derive(Drop)]
+#[derive(Clone, Copy)]
 pub struct Fed {
     pub state: Fingerprinting,
     pub count: u64,
 }
 
 // The answer at the end: the state after it, the reading of the bytes taken, and their fingerprint, zero for a refused image.
-#[derive(Drop)]
+#[derive(Clone, Copy)]
 pub struct Finished {
     pub state: Fingerprinting,
     pub reading: Reading,
