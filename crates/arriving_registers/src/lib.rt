@@ -3,6 +3,8 @@
 // Each call takes a state by value and returns the next one, as in arriving: `begin`, then `feed` for each piece, then `finish` at the end of
 // the file. A byte is hashed when it arrives, for each stream that contains its section, and is not kept. Every public function is total: its
 // contract holds for any state. The laws of runs from the fresh state are in arriving_registers_laws.
+#![tactic(auto)]
+
 ghost use Rattle.std.specs.Prelude.{◌≡◌, ◌<◌, ◌≤◌};
 ghost use Rattle.eif.specs.Numbers.{place_count};
 ghost use Rattle.arriving_sections.specs.Span.{kept_kind};
@@ -16,7 +18,7 @@ use sha384_block::DIGEST_SIZE;
 
 // The hash states of the streams Whole, Boot and App.
 #[repr(C)]
-#[derive(Drop)]
+#[derive(Clone, Copy)]
 pub struct Streams {
     pub whole: State,
     pub boot: State,
@@ -25,7 +27,7 @@ pub struct Streams {
 
 // The state after the bytes taken: what the rules need of them, and the three hash states.
 #[repr(C)]
-#[derive(Drop)]
+#[derive(Clone, Copy)]
 pub struct Measuring {
     pub arriving: Arriving,
     pub streams: Streams,
@@ -33,14 +35,14 @@ pub struct Measuring {
 
 // The answer to a piece: the state after it, and the number of its bytes that were taken.
 #[repr(C)]
-#[derive(Drop)]
+#[derive(Clone, Copy)]
 pub struct Fed {
     pub state: Measuring,
     pub count: u64,
 }
 
 // The answer at the end: the state after it, the reading of the bytes taken, and the registers 0, 1 and 2, all zero for a refused image.
-#[derive(Drop)]
+#[derive(Clone, Copy)]
 pub struct Finished {
     pub state: Measuring,
     pub reading: Reading,
