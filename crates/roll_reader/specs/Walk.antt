@@ -1,5 +1,5 @@
 -- The rules on one record together, and what the walk over a roll's records hands to the rules on the whole roll: the walk and these rules
--- are functions of their own, where `Roll.read_rest` is one definition. The laws `read-` of proofs/Ending.antt join the two.
+-- are functions of their own, where `Roll.read_rest` is one definition. The laws `read_` of proofs/Ending.antt join the two.
 -- Assumes nothing.
 use Rattle.std.specs.Prelude.{ℕ, suc, List, eqb, replicate}
 use Rattle.eif.specs.Numbers.{place_count}

@@ -22,7 +22,7 @@ use Rattle.staged.specs.declared.Staged.{Staged}
 unfoldable pub roll_part : (Section → List ℕ) → Section → List ℕ
 roll_part held x = choose (boot_type x.kind) (head_of (length (held x)) x.kind ++ held x) []
 
--- the records in file order, and the end record; it is `roll_of (records_by held l)`: `roll-records` of proofs/Steps.antt
+-- the records in file order, and the end record; it is `roll_of (records_by held l)`: `roll_records` of proofs/Steps.antt
 unfoldable pub roll_for : (Section → List ℕ) → List Section → List ℕ
 roll_for held l = joined_by (roll_part held) l ++ head_of 0 end_type
 
