@@ -1,0 +1,8 @@
+use Prim.Native.Nat.{◌-◌, ◌≤◌}
+use Rattle.arriving_cases.proofs.each_damage.Given as goal
+
+abbrev pub invariant-loop-i : goal.invariant-loop-i
+invariant-loop-i g l = l.i ≤ 12
+
+abbrev pub decreases-loop-i : goal.decreases-loop-i
+decreases-loop-i g l = 12 - l.i
