@@ -1,5 +1,5 @@
 -- How what has arrived of a stream grows by a piece whose bytes belong together.
-use Prim.Native.Nat.{ℕ, zero, suc, ◌+◌, ◌*◌, ◌-◌, ◌<◌, ◌≤◌}
+use Prim.Native.Nat.{ℕ, zero, suc, ◌+◌, ◌*◌, ◌<◌, ◌≤◌}
 use mathlib.Core.Path.{◌≡◌, refl, sym, ap, ap₂, ◌∙◌}
 use mathlib.Core.Bool.{Bool, true, false}
 use mathlib.Core.List.{List, [], ◌++◌, append-nil}
@@ -15,7 +15,6 @@ use Rattle.eif.specs.Layout.{header_size, section_header_size, kind_at}
 use Rattle.eif.specs.Reading.{ramdisk_in}
 use Rattle.eif.specs.Stream.{keeps}
 use Rattle.eif.specs.declared.Stream.{Stream}
-use Rattle.eif_lemmas.proofs.Agree as agree
 use Rattle.eif_lemmas.proofs.Table.{join_same}
 use Rattle.arriving.specs.State.{state_of}
 use Rattle.arriving_sections.specs.Span.{kept_kind, span_of}
