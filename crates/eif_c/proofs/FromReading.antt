@@ -124,7 +124,7 @@ module _ (s : List ℕ) where
 
   fingerprinted_is : fingerprinted_by s (read_image s) ≡ fingerprint_answer s
   unfolding fingerprint_answer
-  fingerprinted_is = ap₂ with (reading_verdict s) (fingerprint.step-agrees s)
+  fingerprinted_is = ap₂ with (reading_verdict s) (fingerprint.step_agrees s)
     where
       with : Verdict → List ℕ → Fingerprinted
       with v l = record { verdict = v; digest = l }
@@ -133,15 +133,15 @@ module _ (s : List ℕ) where
   fingerprint_agrees = ap (λ (f : Fingerprinted). flat_fingerprint f) (ap (fingerprinted_by s) given_read ∙ fingerprinted_is)
 
   pub roll_length_agrees : flat_written (listed_roll_length s (given_reading (flat_reading (read_image s)))) ≡ flat_written (roll_length s)
-  roll_length_agrees = ap (λ (w : Written). flat_written w) (ap (listed_roll_length s) given_read ∙ roll.length-agrees s)
+  roll_length_agrees = ap (λ (w : Written). flat_written w) (ap (listed_roll_length s) given_read ∙ roll.length_agrees s)
 
   pub roll_answer_agrees : (room : ℕ) → flat_written (listed_roll_answer s (given_reading (flat_reading (read_image s))) room) ≡ flat_written (roll_answer s room)
   roll_answer_agrees room =
-      ap (λ (w : Written). flat_written w) (ap (λ (x : Reading). listed_roll_answer s x room) given_read ∙ roll.write-agrees s room)
+      ap (λ (w : Written). flat_written w) (ap (λ (x : Reading). listed_roll_answer s x room) given_read ∙ roll.write_agrees s room)
 
   pub roll_output_agrees : (d : List ℕ) → listed_roll_output s (given_reading (flat_reading (read_image s))) d ≡ roll_output s d
-  roll_output_agrees d = ap (λ (x : Reading). listed_roll_output s x d) given_read ∙ roll.output-agrees s d
+  roll_output_agrees d = ap (λ (x : Reading). listed_roll_output s x d) given_read ∙ roll.output_agrees s d
 
   pub staged_part_agrees : (size k j : ℕ) → flat_part (listed_place (given_reading (flat_reading (read_image s))) (length s) size k j) ≡ flat_part (staged_place s size k j)
   staged_part_agrees size k j =
-      ap (λ (p : StagedPart). flat_part p) (ap (λ (x : Reading). listed_place x (length s) size k j) given_read ∙ staged.place-agrees s size k j)
+      ap (λ (p : StagedPart). flat_part p) (ap (λ (x : Reading). listed_place x (length s) size k j) given_read ∙ staged.place_agrees s size k j)

@@ -11,7 +11,7 @@ use arriving_sections::Span;
 
 // The state once the end is told, and the reading of the bytes taken.
 #[repr(C)]
-#[derive(Drop)]
+#[derive(Clone, Copy)]
 pub struct EifArrivingFinished {
     pub state: Arriving,
     pub reading: eif_flat::EifReading,

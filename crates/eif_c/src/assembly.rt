@@ -8,7 +8,7 @@ use assembler::State;
 
 // The answer to a record; beside a refusal, the state is as it was. `length` is the image length that a close reports. `reserved` is 0.
 #[repr(C)]
-#[derive(Drop)]
+#[derive(Clone, Copy)]
 pub struct EifStepped {
     pub number: u8,
     pub reserved: [u8; 7],

@@ -11,7 +11,7 @@ use eif_registers::Digest;
 
 // The fingerprint of an image; zero for a refused image. `reserved` is 0.
 #[repr(C)]
-#[derive(Drop)]
+#[derive(Clone, Copy)]
 pub struct EifFingerprint {
     pub number: u8,
     pub reserved: [u8; 7],
@@ -22,7 +22,7 @@ pub struct EifFingerprint {
 
 // The state after the end, the reading of the bytes taken, and their fingerprint, zero for a refused image.
 #[repr(C)]
-#[derive(Drop)]
+#[derive(Clone, Copy)]
 pub struct EifFingerprintingFinished {
     pub state: Fingerprinting,
     pub reading: eif_flat::EifReading,

@@ -4,6 +4,8 @@
 // The digest and the registers are in measure.rt, the reader of an image that arrives in pieces in arrival.rt, the registers of such an image in
 // measuring.rt, fingerprints in fingerprint.rt, the stricter reading in strict.rt, the COSE_Sign1 of a signature section in signature.rt, the
 // assembler in assembly.rt, streams of an image already read in sections.rt, fingerprint, roll and staged view from a reading in readings.rt, an image with one section replaced in staging.rt, writing in pieces in write_pieces.rt.
+#![tactic(auto)]
+
 mod arrival;
 mod assembly;
 mod fingerprint;

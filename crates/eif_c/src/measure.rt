@@ -9,7 +9,7 @@ use sha384::State;
 
 // The answer to a piece; beside a refusal, the state is as it was. `reserved` is 0.
 #[repr(C)]
-#[derive(Drop)]
+#[derive(Clone, Copy)]
 pub struct EifSha384Fed {
     pub number: u8,
     pub reserved: [u8; 7],
@@ -20,7 +20,7 @@ pub struct EifSha384Fed {
 
 // The registers 0, 1 and 2 of an image; beside a refusal, all zero. `reserved` is 0.
 #[repr(C)]
-#[derive(Drop)]
+#[derive(Clone, Copy)]
 pub struct EifRegisters {
     pub number: u8,
     pub reserved: [u8; 7],

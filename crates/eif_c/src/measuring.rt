@@ -9,7 +9,7 @@ use eif_registers::Digest;
 
 // The state after the end, the reading of the bytes taken, and the registers 0, 1 and 2, all zero for a refused image.
 #[repr(C)]
-#[derive(Drop)]
+#[derive(Clone, Copy)]
 pub struct EifMeasuringFinished {
     pub state: Measuring,
     pub reading: eif_flat::EifReading,

@@ -10,7 +10,7 @@ use eif_flat::{EifAnswer, EifReading, EifSection};
 
 // The sections of a stream, in its order: the first `count` places. The others are zero.
 #[repr(C)]
-#[derive(Drop)]
+#[derive(Clone, Copy)]
 pub struct EifStreamSections {
     pub count: u64,
     pub sections: [EifSection; PLACES],

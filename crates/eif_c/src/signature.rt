@@ -11,7 +11,7 @@ use eif_flat::EifAnswer;
 
 // The claim, and where the signature's own bytes stand; beside a refusal, all zero. `reserved` is 0.
 #[repr(C)]
-#[derive(Drop)]
+#[derive(Clone, Copy)]
 pub struct EifSign1Reading {
     pub number: u8,
     pub reserved: [u8; 7],

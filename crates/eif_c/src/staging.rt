@@ -13,7 +13,7 @@ use staged::StagedPart;
 
 // Where a section's data lies: `in_replacement` is 1 where it is the replacement, whole, and 0 where it is a part of the base. `reserved` is 0.
 #[repr(C)]
-#[derive(Drop)]
+#[derive(Clone, Copy)]
 pub struct EifStagedPart {
     pub number: u8,
     pub in_replacement: u8,

@@ -11,7 +11,7 @@ use json_grammar::JsonVerdict;
 
 // `is_text` is 1 where the bytes are one JSON text, and `place` then 0; else it is 0 and `place` that of the fault.
 #[repr(C)]
-#[derive(Drop)]
+#[derive(Clone, Copy)]
 pub struct EifJson {
     pub is_text: u8,
     pub reserved: [u8; 7],

@@ -13,7 +13,7 @@ use writing::{Stepped, Summed, Writing};
 
 // The state, and the answer to `begin`: its length is the image's length.
 #[repr(C)]
-#[derive(Drop)]
+#[derive(Clone, Copy)]
 pub struct EifWritingBegun {
     pub state: Writing,
     pub answer: EifAnswer,
@@ -21,7 +21,7 @@ pub struct EifWritingBegun {
 
 // The same for a staged view.
 #[repr(C)]
-#[derive(Drop)]
+#[derive(Clone, Copy)]
 pub struct EifStagedWritingBegun {
     pub state: StagedWriting,
     pub answer: EifAnswer,
