@@ -57,7 +57,7 @@ pub extern "C" fn eif_read_strict(image: &[u8]) -> eif_flat::EifReading
 #[unsafe(no_mangle)]
 pub extern "C" fn eif_json_check(text: &[u8]) -> EifJson
     ensures value { result ≡ flat_json (json_verdict text.now) }
-    ensures value_2 { (v : JsonVerdict) → IsVerdict text.now v → result ≡ flat_json v }
+    ensures right_verdict { (v : JsonVerdict) → IsVerdict text.now v → result ≡ flat_json v }
 {
     flat_json(json_check::check(text))
 }
