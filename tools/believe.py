@@ -146,16 +146,22 @@ class Tree:
         for function, scope in self.functions(self.libraries):
             yield from (scope[word] for word in words(function) if word in scope)
 
+    def printers(self):
+        """Public functions that only print, and answer whether the system took it."""
+        return {function for function, _ in self.functions(PRINTERS) if "-> io::Result<()>" in function and "&mut" not in function}
+
     def lacking(self):
         """Public functions that ask something of their caller, or say nothing of their answer or of a buffer that they are lent."""
+        printers = self.printers()
         for function, _ in self.functions(self.libraries):
             head = re.split("requires|ensures", function)[0]
             if "requires" in function or function.count("ensures") < ("->" in head) + head.count("&mut"):
-                yield " ".join(head.split())
+                if function not in printers:
+                    yield " ".join(head.split())
 
     def without_contract(self):
         """Public functions of any crate that have no contract and do more than print."""
-        printers = {function for function, _ in self.functions(PRINTERS) if "-> io::Result<()>" in function and "&mut" not in function}
+        printers = self.printers()
         for function, _ in self.functions(self.crates):
             if "ensures" not in function and function not in printers:
                 yield " ".join(function.split())

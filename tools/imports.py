@@ -30,7 +30,7 @@ def tokens(rest):
     for word in BETWEEN.split(rest):
         yield word
         yield word.lstrip("λ").strip(".⌜⌝&!*")
-        for part in re.split(r"[.:]+", word):
+        for part in re.split(r"[.:<>]+", word):
             yield part.strip("⌜⌝&!*")
 
 
@@ -38,14 +38,14 @@ def unused(path):
     kind = path.suffix
     names, rest = imported(COMMENT[kind].sub("", path.read_text(encoding="utf-8")), kind)
     found = set(tokens(rest))
-    for name in filter(None, names):
+    for name in filter(lambda name: name not in ("", "self"), names):
         operator = name == "[]" or "◌" in name
         if not (all(part in rest for part in name.split("◌")) if operator else name in found):
             yield name
 
 
 def main():
-    files = [path for path in sorted(Path("crates").rglob("*")) if path.suffix in USE]
+    files = [path for path in sorted(Path("crates").rglob("*")) if path.suffix in USE and path.parts[2] != "out"]
     lines = [f"{path}: imports {name} and does not use it" for path in files for name in unused(path)]
     print("\n".join(lines), end="\n" * bool(lines))
     sys.exit(bool(lines))

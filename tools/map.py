@@ -5,11 +5,12 @@ Run in the repository's root: python3 tools/map.py writes docs/map.svg. With --c
 file differs.
 
 A crate stands above all that it stands on. Of what crates.txt lists, only what is not reached by way of another crate is drawn as a line.
-Apart, below, are the programs (what stands on the kit's `io`) and what programs alone stand on. Crates of the kit are left out.
+Apart, below, are the programs (what has a src/main.rt) and what programs alone stand on. Crates of the kit are left out.
 """
 
 import sys
 from html import escape
+from pathlib import Path
 
 CRATES, MAP = "crates.txt", "docs/map.svg"
 
@@ -34,8 +35,8 @@ def read_crates(text):
     return crates
 
 
-def is_program(below):
-    return "io" in below
+def is_program(name):
+    return Path("crates", name, "src/main.rt").exists()
 
 
 def direct(crates):
@@ -59,8 +60,8 @@ def reach(crates, name, reached):
 
 def apart(crates):
     """The programs, and what programs alone stand on."""
-    names = [name for name, below in crates.items() if is_program(below)]
-    for name in crates:
+    names = [name for name in crates if is_program(name)]
+    for name in reversed(crates):
         users = [user for user, below in crates.items() if name in below]
         if users and all(user in names for user in users) and name not in names:
             names.append(name)

@@ -14,7 +14,7 @@ fn part<W: Write>(out: &mut W, bytes: &[u8], length: usize) -> io::Result<()>
     out.write_all(&bytes[..octets::lesser(length, bytes.len())])
 }
 
-pub fn put<W: Write>(out: &mut W, text: Text) -> io::Result<()>
+fn put<W: Write>(out: &mut W, text: Text) -> io::Result<()>
     ensures { OnOk result (Appends (W.contents out.old) (W.contents out.new) (take text.length text.bytes)) }
 {
     let bytes = text.bytes;
