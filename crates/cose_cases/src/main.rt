@@ -12,10 +12,9 @@ const ROOM: usize = 300;
 
 fn answer(rt: &impl Print, verdict: Verdict) -> io::Result<()> {
     match verdict {
-        Verdict::Accepted => text(rt, b"accepted")?,
-        Verdict::Refused(r) => refusal(rt, r)?,
+        Verdict::Accepted => text(rt, b"accepted"),
+        Verdict::Refused(r) => refusal(rt, r),
     }
-    Ok(())
 }
 
 // ---- claims and signatures
@@ -244,8 +243,7 @@ fn outer_arrays(rt: &impl Print, s: &[u8]) -> io::Result<()> {
     // array of five
     spliced(rt, s, 0, 1, b"\x85")?;
     // tag 18
-    spliced(rt, s, 0, 0, b"\xd2")?;
-    Ok(())
+    spliced(rt, s, 0, 0, b"\xd2")
 }
 
 fn protected_headers(rt: &impl Print, s: &[u8]) -> io::Result<()> {
@@ -262,8 +260,7 @@ fn protected_headers(rt: &impl Print, s: &[u8]) -> io::Result<()> {
     // algorithm -8
     spliced(rt, s, 4, 1, b"\x27")?;
     // algorithm in two bytes
-    spliced(rt, s, 1, 4, b"\x44\xa1\x01\x38\x06")?;
-    Ok(())
+    spliced(rt, s, 1, 4, b"\x44\xa1\x01\x38\x06")
 }
 
 fn algorithms_and_second_map(rt: &impl Print, s: &[u8]) -> io::Result<()> {
@@ -276,8 +273,7 @@ fn algorithms_and_second_map(rt: &impl Print, s: &[u8]) -> io::Result<()> {
     // a pair in the second map
     spliced(rt, s, 5, 1, b"\xa1\x04\x40")?;
     // second map of two-byte head
-    spliced(rt, s, 5, 1, b"\xb8\x00")?;
-    Ok(())
+    spliced(rt, s, 5, 1, b"\xb8\x00")
 }
 
 fn payloads(rt: &impl Print, s: &[u8]) -> io::Result<()> {
@@ -294,8 +290,7 @@ fn payloads(rt: &impl Print, s: &[u8]) -> io::Result<()> {
     // payload of one pair
     spliced(rt, s, 8, 1, b"\xa1")?;
     // payload as text
-    spliced(rt, s, 6, 1, b"\x78")?;
-    Ok(())
+    spliced(rt, s, 6, 1, b"\x78")
 }
 
 fn first_names_and_indexes(rt: &impl Print, s: &[u8]) -> io::Result<()> {
@@ -312,8 +307,7 @@ fn first_names_and_indexes(rt: &impl Print, s: &[u8]) -> io::Result<()> {
     // index 255 in three bytes
     resized(rt, s, 0x6c, 24, 1, b"\x19\x00\xff")?;
     // index 256 in three bytes
-    resized(rt, s, 0x6c, 24, 1, b"\x19\x01\x00")?;
-    Ok(())
+    resized(rt, s, 0x6c, 24, 1, b"\x19\x01\x00")
 }
 
 fn index_types_and_value_lengths(rt: &impl Print, s: &[u8]) -> io::Result<()> {
@@ -330,8 +324,7 @@ fn index_types_and_value_lengths(rt: &impl Print, s: &[u8]) -> io::Result<()> {
     // value of 49 numbers
     spliced(rt, s, 41, 1, b"\x31")?;
     // value as bytes
-    spliced(rt, s, 40, 1, b"\x58")?;
-    Ok(())
+    spliced(rt, s, 40, 1, b"\x58")
 }
 
 fn value_numbers(rt: &impl Print, s: &[u8]) -> io::Result<()> {
@@ -344,8 +337,7 @@ fn value_numbers(rt: &impl Print, s: &[u8]) -> io::Result<()> {
     // a number 23 in two bytes
     resized(rt, s, 0x6b, 65, 1, b"\x18\x17")?;
     // a number -1
-    spliced(rt, s, 42, 1, b"\x20")?;
-    Ok(())
+    spliced(rt, s, 42, 1, b"\x20")
 }
 
 fn signatures_and_ends(rt: &impl Print, s: &[u8]) -> io::Result<()> {
@@ -366,8 +358,7 @@ fn signatures_and_ends(rt: &impl Print, s: &[u8]) -> io::Result<()> {
     // the first half
     spliced(rt, s, 90, 90, b"")?;
     // nothing
-    spliced(rt, s, 0, 180, b"")?;
-    Ok(())
+    spliced(rt, s, 0, 180, b"")
 }
 
 fn damaged(rt: &impl Print, s: &[u8]) -> io::Result<()> {

@@ -146,27 +146,27 @@ fn step(rt: &impl Print, run: Run, lent: &[u8], room: usize) -> io::Result<Run> 
     if room == 0 {
         let mut none = [0xeeu8; 0];
         let answer = writing::step(state, lent, &mut none);
-        return Ok(after(rt, run, answer, &none)?);
+        return after(rt, run, answer, &none);
     }
     if room == 11 {
         let mut eleven = [0xeeu8; 11];
         let answer = writing::step(state, lent, &mut eleven);
-        return Ok(after(rt, run, answer, &eleven)?);
+        return after(rt, run, answer, &eleven);
     }
     if room == 12 {
         let mut twelve = [0xeeu8; 12];
         let answer = writing::step(state, lent, &mut twelve);
-        return Ok(after(rt, run, answer, &twelve)?);
+        return after(rt, run, answer, &twelve);
     }
     if room == 13 {
         let mut thirteen = [0xeeu8; 13];
         let answer = writing::step(state, lent, &mut thirteen);
-        return Ok(after(rt, run, answer, &thirteen)?);
+        return after(rt, run, answer, &thirteen);
     }
     if room == 300 {
         let mut some = [0xeeu8; 300];
         let answer = writing::step(state, lent, &mut some);
-        return Ok(after(rt, run, answer, &some)?);
+        return after(rt, run, answer, &some);
     }
     let mut wide = [0xeeu8; 1000];
     let answer = writing::step(state, lent, &mut wide);

@@ -1,0 +1,9 @@
+-- The steps are counted up to the most of a run.
+use Prim.Native.Nat.{◌-◌, ◌≤◌}
+use Rattle.writing_cases.proofs.steps.Given as goal
+
+abbrev pub invariant-loop-i : goal.invariant-loop-i
+invariant-loop-i g l = l.i ≤ 60
+
+abbrev pub decreases-loop-i : goal.decreases-loop-i
+decreases-loop-i g l = 60 - l.i
