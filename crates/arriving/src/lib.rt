@@ -10,7 +10,7 @@ ghost use Rattle.crc32.specs.Crc.{crc_from};
 ghost use Rattle.eif.specs.Numbers.{place_count};
 ghost use Rattle.eif.specs.Layout.{section_header_size};
 ghost use Rattle.arriving.specs.State.{count_limit, kept_from, checked_after, state_of};
-ghost use Rattle.arriving.specs.Calls.{kept_over, headers_over, grown, fed, finished};
+ghost use Rattle.arriving.specs.Calls.{answer_of, kept_over, headers_over, grown, fed, finished};
 
 use eif::{Header, Reading, SectionHeader};
 
@@ -168,22 +168,28 @@ pub fn feed(state: Arriving, piece: &[u8], allowance: u64) -> Fed
     }
 }
 
+// The reading of the bytes taken, by the rules of the whole reader.
+pub fn answer(state: &Arriving) -> Reading
+    ensures { result ≡ answer_of state.now }
+{
+    let none = [0u8; 0];
+    eif_judge::read(
+        &state.header,
+        &state.headers,
+        state.taken,
+        state.checksum,
+        &none,
+    )
+}
+
 // The file has ended. Nothing is answered before: a longer file is refused for its length, and one that ends too soon for that,
 // whatever the bytes that came.
 pub fn finish(state: Arriving) -> Finished
     ensures { result ≡ finished state }
 {
-    let header = state.header;
-    let headers = state.headers;
-    let none = [0u8; 0];
-    let reading = eif_judge::read(&header, &headers, state.taken, state.checksum, &none);
-    let told = Arriving {
-        taken: state.taken,
-        header,
-        headers,
-        checksum: state.checksum,
-        ended: 1,
-    };
+    let reading = answer(&state);
+    let mut told = state;
+    told.ended = 1;
     Finished {
         state: told,
         reading,

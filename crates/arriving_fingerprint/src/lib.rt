@@ -97,48 +97,37 @@ fn hash_part(
     roll
 }
 
-// The state after bytes that belong together.
-fn take_part(from: Fingerprinting, span: Span, bytes: &[u8]) -> Fingerprinting
-    ensures { result ≡ roll_part_taken from span bytes.now }
+// Takes bytes that belong together.
+fn take_part(state: &mut Fingerprinting, span: Span, bytes: &[u8])
+    ensures { state.new ≡ roll_part_taken state.old span bytes.now }
 {
-    let state = from.arriving;
-    let roll = from.roll;
-    let answer = arriving::feed(state, bytes, bytes.len() as u64);
-    let next = answer.state;
-    let then = arriving_sections::next(next, 0);
-    let header = next.header;
-    let headers = next.headers;
-    let more = hash_part(
-        roll,
-        &header,
-        &headers,
-        state.taken,
-        next.taken,
+    let before = state.arriving.taken;
+    let answer = arriving::feed(state.arriving, bytes, bytes.len() as u64);
+    state.arriving = answer.state;
+    let then = arriving_sections::next(state.arriving, 0);
+    state.roll = hash_part(
+        state.roll,
+        &state.arriving.header,
+        &state.arriving.headers,
+        before,
+        state.arriving.taken,
         span,
         then.begun,
         bytes,
     );
-    Fingerprinting {
-        arriving: next,
-        roll: more,
-    }
 }
 
-// The state after a piece, taken part by part.
-fn take_bytes(from: Fingerprinting, piece: &[u8]) -> Fingerprinting
-    ensures { result ≡ roll_taken_all from piece.now }
+// Takes a piece, part by part. The state is changed where it lies, since each copy of it takes stack.
+fn take_bytes(state: &mut Fingerprinting, piece: &[u8])
+    ensures { state.new ≡ roll_taken_all state.old piece.now }
 {
-    let mut m = from;
     let mut at: usize = 0;
     while at < piece.len() {
-        let state = m.arriving;
-        let span = arriving_sections::next(state, (piece.len() - at) as u64);
+        let span = arriving_sections::next(state.arriving, (piece.len() - at) as u64);
         let end = at + span.length as usize;
-        let next = take_part(m, span, &piece[at..end]);
-        m = next;
+        take_part(state, span, &piece[at..end]);
         at = end;
     }
-    m
 }
 
 // ---- the three calls
@@ -156,17 +145,16 @@ pub fn begin() -> Fingerprinting
 }
 
 // Takes at most `allowance` bytes of a piece; takes none after `finish`.
-pub fn feed(state: Fingerprinting, piece: &[u8], allowance: u64) -> Fed
+pub fn feed(mut state: Fingerprinting, piece: &[u8], allowance: u64) -> Fed
     ensures { result ≡ fed_fingerprinting state piece.now allowance }
 {
-    let kept = state.arriving;
-    if kept.ended != 0 {
+    if state.arriving.ended != 0 {
         return Fed { state, count: 0 };
     }
     let count = octets::lesser(allowance as usize, piece.len());
-    let next = take_bytes(state, &piece[..count]);
+    take_bytes(&mut state, &piece[..count]);
     Fed {
-        state: next,
+        state,
         count: count as u64,
     }
 }

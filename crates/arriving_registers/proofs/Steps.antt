@@ -18,7 +18,8 @@ use Rattle.eif_registers.specs.Registers.{register_from, no_registers, as_digest
 use Rattle.eif_registers.specs.declared.Digest.{Digest}
 use Rattle.arriving.specs.Calls as arriving
 use Rattle.arriving.specs.declared.Fed.{Fed as ArrivingFed}
-use Rattle.arriving.specs.declared.Finished.{Finished as Told}
+use Rattle.arriving.specs.Calls.{answer_of, told_end}
+use Rattle.eif.specs.declared.Reading.{Reading}
 use Rattle.arriving_sections.specs.Span.{kept_kind}
 use Rattle.arriving_registers.specs.Measuring.{ramdisks_at, streams_of, streams_after, measuring_of, part_taken, taken_all, fed_measuring_with, fed_measuring, three_digests, finished_measuring}
 use Rattle.arriving_registers.specs.declared.Streams.{Streams}
@@ -100,11 +101,11 @@ module _ (verdict : Verdict) (d : Streams) where
   unfolding three_digests
   registers_beside_holds e p q r = simp e (one_each p q r)
 
-pub finished_is : (m : Measuring) {f : Told} {l : List Digest} → f ≡ arriving.finished m.arriving → l ≡ three_digests f.reading.verdict m.streams
-    → ◌≡◌ {A = Finished} (record { state = measuring_of f.state m.streams; reading = f.reading; registers = l }) (finished_measuring m)
-unfolding finished_measuring arriving.finished
-finished_is m {f} {l} e h =
-    ap (λ (x : List Digest). with f x) h ∙ ap (λ (x : Told). with x (three_digests x.reading.verdict m.streams)) e
+pub finished_is : (m : Measuring) {r : Reading} {l : List Digest} → r ≡ answer_of m.arriving → l ≡ three_digests r.verdict m.streams
+    → ◌≡◌ {A = Finished} (record { state = measuring_of (told_end m.arriving) m.streams; reading = r; registers = l }) (finished_measuring m)
+unfolding finished_measuring
+finished_is m {r} {l} e h =
+    ap (λ (x : List Digest). with r x) h ∙ ap (λ (x : Reading). with x (three_digests x.verdict m.streams)) e
   where
-    with : Told → List Digest → Finished
-    with f l = record { state = measuring_of f.state m.streams; reading = f.reading; registers = l }
+    with : Reading → List Digest → Finished
+    with r l = record { state = measuring_of (told_end m.arriving) m.streams; reading = r; registers = l }

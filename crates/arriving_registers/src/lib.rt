@@ -100,49 +100,35 @@ fn ramdisks_before(headers: &[u8], place: usize) -> usize
     ramdisks
 }
 
-// The state after bytes of the data of the section at `place`, or of no section.
-fn take_part(from: Measuring, place: u64, bytes: &[u8]) -> Measuring
-    ensures { result ≡ part_taken from place bytes.now }
+// Takes bytes of the data of the section at `place`, or of no section.
+fn take_part(state: &mut Measuring, place: u64, bytes: &[u8])
+    ensures { state.new ≡ part_taken state.old place bytes.now }
 {
-    let state = from.arriving;
-    let streams = from.streams;
-    let answer = arriving::feed(state, bytes, bytes.len() as u64);
-    let next = answer.state;
+    let answer = arriving::feed(state.arriving, bytes, bytes.len() as u64);
     if eif::PLACES as u64 <= place {
-        return Measuring {
-            arriving: next,
-            streams,
-        };
+        state.arriving = answer.state;
+        return;
     }
-    let headers = state.headers;
-    let i = place as usize;
-    let more = hash(
-        streams,
-        arriving_sections::kind_at(&headers, place as u8),
-        ramdisks_before(&headers, i),
+    state.streams = hash(
+        state.streams,
+        arriving_sections::kind_at(&state.arriving.headers, place as u8),
+        ramdisks_before(&state.arriving.headers, place as usize),
         bytes,
     );
-    Measuring {
-        arriving: next,
-        streams: more,
-    }
+    state.arriving = answer.state;
 }
 
-// The state after a piece, taken part by part.
-fn take_bytes(from: Measuring, piece: &[u8]) -> Measuring
-    ensures { result ≡ taken_all from piece.now }
+// Takes a piece, part by part. The state is changed where it lies, since each copy of it takes stack.
+fn take_bytes(state: &mut Measuring, piece: &[u8])
+    ensures { state.new ≡ taken_all state.old piece.now }
 {
-    let mut m = from;
     let mut at: usize = 0;
     while at < piece.len() {
-        let state = m.arriving;
-        let span = arriving_sections::next(state, (piece.len() - at) as u64);
+        let span = arriving_sections::next(state.arriving, (piece.len() - at) as u64);
         let end = at + span.length as usize;
-        let next = take_part(m, span.place, &piece[at..end]);
-        m = next;
+        take_part(state, span.place, &piece[at..end]);
         at = end;
     }
-    m
 }
 
 // ---- the three calls
@@ -164,54 +150,43 @@ pub fn begin() -> Measuring
 }
 
 // Takes at most `allowance` bytes of a piece; takes none after `finish`.
-pub fn feed(state: Measuring, piece: &[u8], allowance: u64) -> Fed
+pub fn feed(mut state: Measuring, piece: &[u8], allowance: u64) -> Fed
     ensures { result ≡ fed_measuring state piece.now allowance }
 {
-    let kept = state.arriving;
-    if kept.ended != 0 {
+    if state.arriving.ended != 0 {
         return Fed { state, count: 0 };
     }
     let count = octets::lesser(allowance as usize, piece.len());
-    let next = take_bytes(state, &piece[..count]);
+    take_bytes(&mut state, &piece[..count]);
     Fed {
-        state: next,
+        state,
         count: count as u64,
     }
 }
 
 // The registers of the three hash states; all zero for a refused image.
-fn digests(verdict: Verdict, streams: Streams) -> [Digest; 3]
-    ensures { result ≡ three_digests verdict streams }
+pub fn digests(verdict: Verdict, streams: &Streams) -> [Digest; 3]
+    ensures { result ≡ three_digests verdict streams.now }
 {
     let Verdict::Accepted = verdict else {
         let none = [0u8; DIGEST_SIZE];
         return [Digest(none), Digest(none), Digest(none)];
     };
-    let whole = streams.whole;
-    let boot = streams.boot;
-    let app = streams.app;
-    let zeroth = eif_registers::register(whole);
-    let first = eif_registers::register(boot);
-    let second = eif_registers::register(app);
+    let zeroth = eif_registers::register(streams.whole);
+    let first = eif_registers::register(streams.boot);
+    let second = eif_registers::register(streams.app);
     [Digest(zeroth), Digest(first), Digest(second)]
 }
 
 // Ends the file and answers its reading and its registers.
-pub fn finish(state: Measuring) -> Finished
+pub fn finish(mut state: Measuring) -> Finished
     ensures { result ≡ finished_measuring state }
 {
-    let kept = state.arriving;
-    let streams = state.streams;
-    let told = arriving::finish(kept);
-    let ended = told.state;
-    let reading = told.reading;
-    let verdict = reading.verdict;
-    let registers = digests(verdict, streams);
+    let reading = arriving::answer(&state.arriving);
+    let registers = digests(reading.verdict, &state.streams);
+    state.arriving.ended = 1;
     Finished {
-        state: Measuring {
-            arriving: ended,
-            streams,
-        },
+        state,
         reading,
         registers,
     }

@@ -32,15 +32,14 @@ pub extern "C" fn eif_measuring_feed(state: Measuring, piece: &[u8], allowance: 
 }
 
 #[unsafe(no_mangle)]
-pub extern "C" fn eif_measuring_finish(state: Measuring) -> EifMeasuringFinished
+pub extern "C" fn eif_measuring_finish(mut state: Measuring) -> EifMeasuringFinished
     ensures { result ≡ flat_measured (finished_measuring state) }
 {
-    let done = arriving_registers::finish(state);
-    let ended = done.state;
-    let reading = done.reading;
-    let registers = done.registers;
+    let reading = arriving::answer(&state.arriving);
+    let registers = arriving_registers::digests(reading.verdict, &state.streams);
+    state.arriving.ended = 1;
     EifMeasuringFinished {
-        state: ended,
+        state,
         reading: eif_flat::flat_reading(reading),
         registers,
     }

@@ -77,11 +77,9 @@ pub extern "C" fn eif_staged_writing_begin(
     ensures { result ≡ flat_staged_begun (staged_begun base.now replacement.now replaced checksum) }
 {
     let begun = staged_writing::begin(base, replacement, replaced, checksum);
-    let state = begun.state;
-    let written = begun.written;
     EifStagedWritingBegun {
-        state,
-        answer: eif_flat::flat_written(written),
+        state: begun.state,
+        answer: eif_flat::flat_written(begun.written),
     }
 }
 

@@ -7,10 +7,13 @@
 
 ghost use Rattle.std.specs.Prelude.{◌≡◌, length, take, drop};
 ghost use Rattle.octets.specs.Over.{over};
+ghost use Rattle.eif.specs.Plan.{plan_of};
+ghost use Rattle.staged.specs.Listed.{listed_verdict};
+ghost use Rattle.staged.specs.Staged.{with_place};
 ghost use Rattle.writing.specs.Writing.{step_bytes, writing_summed};
 ghost use Rattle.staged_writing.specs.StagedWriting.{refused_begun, listed_begun, staged_begun, base_data, whole_data, due_data, staged_stepped};
 
-use eif::{PLACES, Place, Reading, SectionHeader, Verdict, Written};
+use eif::{PLACES, Place, Plan, Reading, SectionHeader, Verdict, Written};
 use writing::{Summed, Writing};
 
 // The state of writing, and the number of the replaced section.
@@ -52,26 +55,50 @@ fn refused(verdict: Verdict) -> StagedBegun
     }
 }
 
+// The verdict on the view, and below the plan of its image. Both take the reading where it lies and are called apart, since each copy of it takes
+// stack.
+#[inline(never)]
+fn verdict_over(reading: &Reading, size: u64, replaced: u64) -> Verdict
+    ensures { result ≡ listed_verdict reading.now size replaced replaced }
+{
+    staged_view::verdict_listed(*reading, size, replaced, replaced)
+}
+
+#[inline(never)]
+fn plan_over(reading: &Reading, replaced: u64, size: u64) -> Plan
+    ensures { result ≡ with_place (plan_of reading.now) replaced size }
+{
+    staged_view::plan_listed(*reading, replaced, size)
+}
+
+// Begins from a reading of the base.
+#[inline(never)]
+fn begin_over(reading: &Reading, size: u64, replaced: u64, checksum: u32) -> StagedBegun
+    ensures { result ≡ listed_begun reading.now size replaced checksum }
+{
+    let verdict = verdict_over(reading, size, replaced);
+    let Verdict::Accepted = verdict else {
+        return refused(verdict);
+    };
+    let begun = writing::begin(plan_over(reading, replaced, size), checksum);
+    let planned = begun.written.verdict;
+    let Verdict::Accepted = planned else {
+        return refused(planned);
+    };
+    StagedBegun {
+        state: StagedWriting {
+            writing: begun.state,
+            replaced,
+        },
+        written: begun.written,
+    }
+}
+
 // Begins from a reading of the base, with a replacement of `size` bytes for one section; `checksum` is the number for the checksum field.
 pub fn begin_listed(reading: Reading, size: u64, replaced: u64, checksum: u32) -> StagedBegun
     ensures { result ≡ listed_begun reading size replaced checksum }
 {
-    let verdict = staged_view::verdict_listed(reading, size, replaced, replaced);
-    let Verdict::Accepted = verdict else {
-        return refused(verdict);
-    };
-    let begun = writing::begin(staged_view::plan_listed(reading, replaced, size), checksum);
-    let started = begun.state;
-    let written = begun.written;
-    let planned = written.verdict;
-    let Verdict::Accepted = planned else {
-        return refused(planned);
-    };
-    let state = StagedWriting {
-        writing: started,
-        replaced,
-    };
-    StagedBegun { state, written }
+    begin_over(&reading, size, replaced, checksum)
 }
 
 // Reads the base and begins.
@@ -79,7 +106,7 @@ pub fn begin(base: &[u8], replacement: &[u8], replaced: u64, checksum: u32) -> S
     ensures { result ≡ staged_begun base.now replacement.now replaced checksum }
 {
     let reading = eif_reader::read(base);
-    begin_listed(reading, replacement.len() as u64, replaced, checksum)
+    begin_over(&reading, replacement.len() as u64, replaced, checksum)
 }
 
 // ---- a step

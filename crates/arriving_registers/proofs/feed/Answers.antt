@@ -8,8 +8,8 @@ use Rattle.arriving_registers.proofs.Steps.{fed_open, fed_ended}
 use Rattle.arriving_registers.proofs.feed.Goals as goal
 
 -- `arriving_registers::feed` meets its contract: it takes the allowed bytes before the end, and none after it.
-pub returns-then-kept-ne0 : goal.returns-then-kept-ne0
-returns-then-kept-ne0 c = let a = c.args in
+pub returns-then-state-ne0 : goal.returns-then-state-ne0
+returns-then-state-ne0 c = let a = c.args in
     sym (fed_ended a.state a.piece.now a.allowance (λ e. omega arith))
 
 pub returns : goal.returns
@@ -17,7 +17,7 @@ returns c = let a = c.args in
     let piece = a.piece.now in
     let n = c.lesser-count.ensures in
     ap₂ fed_measuring_with
-    (c.take_bytes-next.ensures ∙ ap (λ (k : ℕ). taken_all a.state (take k piece)) n ∙ ap (taken_all a.state) (take_min a.allowance piece))
+    (c.take_bytes.ensures ∙ ap (λ (k : ℕ). taken_all a.state (take k piece)) n ∙ ap (taken_all a.state) (take_min a.allowance piece))
     n
     ∙ sym (fed_open a.state piece a.allowance (omega arith))
 

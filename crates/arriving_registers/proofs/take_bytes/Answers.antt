@@ -12,21 +12,21 @@ use Rattle.arriving_registers.proofs.take_bytes.Goals.{After-next-span}
 -- a part has at least one byte, and ends inside the piece
 module _ (c : After-next-span) where
   fits : c.next-span.result.length ≤ length c.args.piece.now - c.loop-at.at
-  fits = part_fits c.loop-at.m.arriving _ (omega arith) c.next-span.ensures
+  fits = part_fits c.loop-at.state.arriving _ (omega arith) c.next-span.ensures
 
   least : 0 < c.next-span.result.length
-  least = part_least c.loop-at.m.arriving _ (omega arith) c.next-span.ensures
+  least = part_least c.loop-at.state.arriving _ (omega arith) c.next-span.ensures
 
 pub loop-at-preserved : goal.loop-at-preserved
 loop-at-preserved c = let n = (goal.at.loop-at-preserved c).After-next-span in
     let l = n.loop-at in
     let piece = n.args.piece.now in
-    (omega (arith, fits n), parts_step _ _ l.m piece l.at (omega arith) n.next-span.ensures c.take_part-next.ensures ∙ l.invariant.1)
+    (omega (arith, fits n), parts_step _ _ l.state piece l.at (omega arith) n.next-span.ensures c.take_part.ensures ∙ l.invariant.1)
 
 pub returns : goal.returns
 returns c = let l = c.loop-at in
     let piece = c.args.piece.now in
-    sym (parts_none _ _ l.m (drop l.at piece) (length-drop l.at piece ∙ omega arith)) ∙ l.invariant.1
+    sym (parts_none _ _ l.state (drop l.at piece) (length-drop l.at piece ∙ omega arith)) ∙ l.invariant.1
 
 pub loop-at-init : goal.loop-at-init
 loop-at-init c = (omega arith, refl)

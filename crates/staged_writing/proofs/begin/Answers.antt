@@ -10,6 +10,6 @@ use Rattle.staged_writing.proofs.begin.Goals.{After-read-reading}
 pub returns : goal.returns
 returns c = let r = (goal.at.returns c).After-read-reading in
     let a = r.args in
-    c.begin_listed.ensures
+    c.begin_over.ensures
     ∙ ap (λ (x : Reading). listed_begun x (length a.replacement.now) a.replaced a.checksum) r.read-reading.ensures
     ∙ begun_agrees a.base.now a.replacement.now a.replaced a.checksum
