@@ -13,7 +13,7 @@ use Rattle.assembler.specs.ByKind.{close_fault}
 use Rattle.assembler.specs.declared.State.{State}
 use Rattle.assembler.proofs.Faults.{long_enough, pick_yes, pick_no}
 use Rattle.assembler_judge.proofs.close_fault.Goals as goal
-use Rattle.assembler_judge.proofs.close_fault.Goals.{After-all_held, After-is_short, Else-is_short}
+use Rattle.assembler_judge.proofs.close_fault.Goals.{After-all_held, Else-is_short}
 
 -- `assembler_judge::close_fault` meets its contract: each return is the first rule on a close that applies. Assumes nothing.
 pub returns-then-is_short : goal.returns-then-is_short
