@@ -1,8 +1,8 @@
 #!/usr/bin/env python3
 """Sees that what the documents name and quote is there.
 
-Run in the repository's root: tools/names.py --check prints each name that is not there, and the exit status is then 1. docs/changes, which
-speaks of how things were, is left out.
+Run in the repository's root: tools/names.py --check prints each name that is not there, and the exit status is then 1. docs/changes and
+docs/PORT.md, which speak of how things were, are left out.
 
     `eif_judge::judge`              a function, a constant or a type of a crate
     `eif_laws/Acceptance.NAME`      a name in a file of a crate's proofs or specs; `eif_flat/specs/Flat.NAME` too, and with no NAME the file
@@ -21,7 +21,7 @@ import re
 import sys
 from pathlib import Path
 
-DOCUMENTS = ["README.md", "CONTRIBUTING.md", "rust/README.md", *sorted(str(p) for p in Path("docs").glob("*.md"))]
+DOCUMENTS = ["README.md", "CONTRIBUTING.md", "rust/README.md", *sorted(str(p) for p in Path("docs").glob("*.md") if p.name != "PORT.md")]
 SOURCES = ["crates", "rust", "tests", "include", "tools", "samples"]
 SPLIT = re.compile(r"[^\w\-→']+")
 WORD = re.compile(r"[^\W\d][\w\-→']*\Z")
