@@ -25,13 +25,13 @@ ROLES = [("_laws", "#dff0df", "laws"), ("_lemmas", "#fbf0d0", "lemmas"), ("", "#
 
 
 def read_crates(text):
-    """Each crate with all that it stands on, in the order of crates.txt."""
+    """Each crate with all that it stands on, in the order of crates.txt. After a name can stand that it is a static library."""
     crates = {}
     for line in text.splitlines():
         line = line.split("#")[0].strip()
         if line:
             name, _, below = line.partition(":")
-            crates[name.strip()] = below.split()
+            crates[name.split()[0]] = below.split()
     return crates
 
 

@@ -10,6 +10,8 @@ is_fresh() {
 }
 if ! is_fresh; then
     echo "proving and building $2 first: some minutes" >&2
+    rm -f "$built"
+    # The program runs too, on no input, and may end with any status: it was built where its file is there.
     (cd "crates/$2" && "$1" run </dev/null >"$home/$3/$2.log" 2>&1) || [ -x "$built" ] || { cat "$3/$2.log"; exit 1; }
 fi
 install -m 755 "$built" "$3/$2"
