@@ -1,5 +1,5 @@
 -- The same order for each kind of record, the rules left out that cannot apply to it: what is left after its form and turn. That it is the
--- same order is said by `fault-open`, `fault-piece` and `fault-close` of proofs/Faults.antt. Assumes nothing.
+-- same order is said by `fault_open`, `fault_piece` and `fault_close` of proofs/Faults.antt. Assumes nothing.
 use Rattle.std.specs.Prelude.{ℕ, not, List, ltb, length, take}
 use Rattle.eif.specs.Numbers.{size_limit, image_too_long, piece_record_wrong, buffer_too_short, piece_differs, piece_missing}
 use Rattle.octets.specs.Logic.{choose}

@@ -1,5 +1,5 @@
 -- The order of the refusals of a record, as a list like those of eif's Order. That a step's verdict is that of the first rule of the list
--- that applies is `step-first` of proofs/Order.antt. Assumes nothing.
+-- that applies is `step_first` of proofs/Order.antt. Assumes nothing.
 use Rattle.std.specs.Prelude.{ℕ, Bool, not, List, [], ◌∷◌}
 use Rattle.eif.specs.Numbers.{image_too_long, piece_record_wrong, piece_out_of_turn, buffer_too_short, piece_differs, piece_missing}
 use Rattle.eif.specs.Order.{Rule, rule}

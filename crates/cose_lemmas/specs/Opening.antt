@@ -1,5 +1,5 @@
 -- What only the writer's shape needs: a COSE_Sign1 up to its payload's head, which one function writes. That a COSE_Sign1 begins with it is
--- `sign-parts` of proofs/Parts.antt.
+-- `sign_parts` of proofs/Parts.antt.
 -- Assumes nothing.
 use Rattle.std.specs.Prelude.{ℕ, List, ◌++◌}
 use Rattle.cose.specs.Cbor.{elements, pairs, byte_string, head_bytes, string_bytes}

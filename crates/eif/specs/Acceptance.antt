@@ -1,5 +1,5 @@
 -- What an accepted image is, with no order of rules and no walk: each rule of FORMAT.md, Reading an image, once, in plain arithmetic.
--- That an image is accepted exactly when it meets these rules: `eif_laws/Acceptance.accepted-exactly-when`. Assumes nothing.
+-- That an image is accepted exactly when it meets these rules: `eif_laws/Acceptance.accepted_exactly_when`. Assumes nothing.
 use Rattle.std.specs.Prelude.{ℕ, ◌<◌, ◌≤◌, ◌≡◌, List, ◌⊎◌, length}
 use Rattle.eif.specs.Numbers.{size_limit, place_count, fewest_sections, oldest_version, newest_version, signature_version, metadata_version, kernel, command_line, ramdisk, signature, metadata}
 use Rattle.eif.specs.Layout.{magic_number, header_size, view_of, magic, checksum, version_of, count_of, offset_at, size_at, start_at, end_at, kind_at, own_size_at}

@@ -62,7 +62,7 @@ roll_of (r ∷ rs) = head_of (length r.bytes) r.kind ++ (r.bytes ++ roll_of rs)
 
 -- ---- the roll of an image
 
--- the sections of type kernel, command line or ramdisk, in file order; the stream Whole has them too: `whole-kept` of eif_lemmas/proofs/Types.antt
+-- the sections of type kernel, command line or ramdisk, in file order; the stream Whole has them too: `whole_kept` of eif_lemmas/proofs/Types.antt
 unfoldable pub measured_in : List Section → List Section
 measured_in [] = []
 measured_in (x ∷ xs) =

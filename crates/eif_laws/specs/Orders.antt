@@ -4,7 +4,7 @@
 --
 -- Neighbours that never apply to one input, or never first:
 -- - 1 and 2 of an image: it would be longer than the longest image and shorter than a header. An image to which 1 applies is too long to compute:
---   1 and 3 are computed of a view alone, and law `eif_lemmas/Reading.read-too-long` says that 1 comes before every other rule;
+--   1 and 3 are computed of a view alone, and law `eif_lemmas/Reading.read_too_long` says that 1 comes before every other rule;
 -- - 9 and 10 at one section: a ramdisk is allowed in every version;
 -- - 9 and 11 at one section: an earlier section has the type that is not allowed, and its 9 comes first;
 -- - 10 and 11 at one section or record: 10 is about a ramdisk, 11 about any other type.

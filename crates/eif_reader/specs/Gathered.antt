@@ -1,4 +1,4 @@
--- What a reader gathers of an image before it is judged. That the reading of it is the image's reading is `read-parts` of
+-- What a reader gathers of an image before it is judged. That the reading of it is the image's reading is `read_parts` of
 -- proofs/Headers.antt.
 -- Assumes nothing.
 use Rattle.std.specs.Prelude.{ℕ, ◌+◌, ◌*◌, ◌<◌, ◌≤◌, ◌≡◌, List, length, take, drop}

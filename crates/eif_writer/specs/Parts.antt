@@ -1,5 +1,5 @@
 -- What single functions of the writer write: the header's fixed fields in two parts, as one function that writes all seven is more than
--- its proof can be searched for. That the two parts, the tables and a reserved field are the header of Plan.antt of eif is `header-parts`, in
+-- its proof can be searched for. That the two parts, the tables and a reserved field are the header of Plan.antt of eif is `header_parts`, in
 -- proofs/Image.antt.
 -- Assumes nothing.
 use Rattle.std.specs.Prelude.{ℕ, List, ◌++◌, eqb, replicate}

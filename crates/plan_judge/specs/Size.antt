@@ -1,5 +1,5 @@
 -- The size of a plan's image, as the code gives it: 0 where there is none within the limit, since `Plan.plain_size` of any lengths need not
--- fit a number of the code. Within the limit the two are one: `image-limited` and `limited-in` of proofs/Size.antt.
+-- fit a number of the code. Within the limit the two are one: `image_limited` and `limited_in` of proofs/Size.antt.
 -- Assumes nothing.
 use Rattle.std.specs.Prelude.{ℕ, ltb, eqb}
 use Rattle.eif.specs.Numbers.{size_limit, place_count}

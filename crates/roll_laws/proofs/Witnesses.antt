@@ -73,7 +73,7 @@ begins_holds = record { shorter = lit≤ tt; same = refl }
 begins_rejects : (Begins (1 ∷ 2 ∷ 3 ∷ []) (1 ∷ 2 ∷ []) → ⊥) × (Begins (1 ∷ 3 ∷ []) (1 ∷ 2 ∷ 3 ∷ []) → ⊥)
 begins_rejects = (λ b. let h = b.shorter in omega arith, λ b. let h = ap (λ (l : List ℕ). get_or l 1 0) b.same in omega arith)
 
--- ---- room of exactly the roll's length is enough; with a byte less it is refused: `eif/specs/Worked.roll-refused`
+-- ---- room of exactly the roll's length is enough; with a byte less it is refused: `eif/proofs/Worked.roll_refused`
 
 roll_fits : roll_verdict worked_image 54 ≡ Accepted
 unfolding roll_verdict roll_bytes flags_record roll_of head_of measured_in field be_value

@@ -1,5 +1,5 @@
 -- The staged view as the code has it: a section list in which the replaced section stands as if the replacement followed the base, and
--- the data of a section of such a list. Its records and streams are those of the image written afresh: `records_are` and `stream-is` of
+-- the data of a section of such a list. Its records and streams are those of the image written afresh: `records_are` and `stream_is` of
 -- proofs/Held.antt.
 -- Assumes nothing.
 use Rattle.std.specs.Prelude.{ℕ, ◌+◌, ◌-◌, min, Bool, true, false, List, ltb, eqb, length, set, replicate}

@@ -1,4 +1,4 @@
--- The verdicts of copies one after the other, by computation: of the worked image, whose stream has the two bytes 4b 61. So `all-accepted` is not
+-- The verdicts of copies one after the other, by computation: of the worked image, whose stream has the two bytes 4b 61. So `all_accepted` is not
 -- about an empty list. Numbers are written out.
 use Prim.Native.Nat.{ℕ, ◌+◌}
 use mathlib.Core.Path.{◌≡◌, ap, ◌∙◌}

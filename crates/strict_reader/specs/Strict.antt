@@ -1,5 +1,5 @@
 -- The stricter reading (FORMAT.md, Stricter reading): the ordinary one, and then 21 for a metadata section whose data is not one JSON
--- text. What is a text is said by the grammar of the crate json_grammar; that the test here says the same: `strict_laws/Strict.strict-exactly-when`.
+-- text. What is a text is said by the grammar of the crate json_grammar; that the test here says the same: `strict_laws/Strict.strict_exactly_when`.
 -- Assumes nothing.
 use Rattle.std.specs.Prelude.{ℕ, ◌<◌, ◌≡◌, Bool, true, false, not, List, [], ◌∷◌, ◌++◌, ◌⊎◌, eqb}
 use Rattle.eif.specs.Table.{join_from}
