@@ -5,7 +5,7 @@
 
 ghost use Rattle.std.specs.Prelude.{◌+◌, ◌≤◌, ◌<◌, length};
 
-use json_grammar::JsonVerdict;
+use json_grammar::JsonFault;
 use std::io::{self, Write};
 
 // The most bytes to a line; more get no answer.
@@ -17,15 +17,10 @@ fn write<W: Write>(out: &mut W, bytes: &[u8]) -> io::Result<()> {
     out.write_all(bytes)
 }
 
-fn place<W: Write>(out: &mut W, at: usize) -> io::Result<()> {
-    write!(out, "fault at {at}")
-}
-
 fn answer<W: Write>(out: &mut W, text: &[u8]) -> io::Result<()> {
-    let verdict = json_check::check(text);
-    match verdict {
-        JsonVerdict::Text => write(out, b"text")?,
-        JsonVerdict::Fault(at) => place(out, at)?,
+    match json_check::check(text) {
+        Ok(()) => write(out, b"text")?,
+        Err(JsonFault { place }) => write!(out, "fault at {place}")?,
     }
     write(out, b"\n")
 }
@@ -36,19 +31,11 @@ fn answer<W: Write>(out: &mut W, text: &[u8]) -> io::Result<()> {
 fn digit(b: u8) -> u8
     ensures { result < 16 }
 {
-    if b < b'0' {
-        return 0;
+    match b {
+        b'0'..=b'9' => b - b'0',
+        b'A'..=b'F' => b - b'A' + 10,
+        _ => 0,
     }
-    if b <= b'9' {
-        return b - b'0';
-    }
-    if b < b'A' {
-        return 0;
-    }
-    if b <= b'F' {
-        return b - b'A' + 10;
-    }
-    0
 }
 
 // A byte, and in how many it was written.
@@ -101,40 +88,20 @@ fn check<W: Write>(out: &mut W, line: &[u8]) -> io::Result<()> {
 
 // ---- the lines
 
-// The first place from a place on that has a byte, or the end.
-fn find(bytes: &[u8], from: usize, byte: u8) -> usize
-    requires { from ≤ length bytes.now }
-    ensures { (from ≤ result) × (result ≤ length bytes.now) }
-{
-    let mut i = from;
-    while i < bytes.len() {
-        if bytes[i] == byte {
-            return i;
-        }
-        i += 1;
-    }
-    i
-}
-
 fn row<W: Write>(out: &mut W, line: &[u8]) -> io::Result<()> {
-    let end = find(line, 0, b'\t');
-    write(out, &line[0..end])?;
+    let label = line.iter().position(|b| *b == b'\t');
+    let Some(end) = label else {
+        write(out, line)?;
+        return write(out, b": ");
+    };
+    write(out, &line[..end])?;
     write(out, b": ")?;
-    if end < line.len() {
-        check(out, &line[end + 1..])?;
-    }
-    Ok(())
+    check(out, &line[end + 1..])
 }
 
 fn rows<W: Write>(out: &mut W, input: &[u8]) -> io::Result<()> {
-    let mut at: usize = 0;
-    while at < input.len() {
-        let end = find(input, at, b'\n');
-        row(out, &input[at..end])?;
-        if end == input.len() {
-            return Ok(());
-        }
-        at = end + 1;
+    for line in input.split_inclusive(|b| *b == b'\n') {
+        row(out, line.strip_suffix(b"\n").unwrap_or(line))?;
     }
     Ok(())
 }

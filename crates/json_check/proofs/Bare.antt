@@ -2,19 +2,18 @@
 --
 use Prim.Native.Nat.{ℕ, zero, suc, ◌+◌, ◌-◌, ◌<◌, ◌≤◌}
 use mathlib.Core.Path.{◌≡◌, refl, sym, ap, subst, ◌∙◌}
-use mathlib.Core.Bool.{Bool, true, not}
+use mathlib.Core.Bool.{Bool, true, false, not, ◌||◌, false≢true}
 use mathlib.Core.List.{List}
 use mathlib.Core.Logic.{⊎_elim}
 use native.Mathlib.Omega.{arith}
 use borrow.Author.Tests.{lt-ltb, ne_eqb, ltb-true}
-use lib.Bits.{bit_or, or_add_and, and_le_r, and_le_l}
 use lib.Dec.{eqb, ltb}
 use lib.ListN.{get_or, length, drop}
 use Rattle.octets.specs.Logic.{both, choose}
 use native.Mathlib.Nat.{add-zero}
 use Rattle.octets.proofs.Logic.{le_or_lt, both_true}
 use Rattle.octets.proofs.Lists.{each_below}
-use Rattle.json_grammar.specs.declared.JsonVerdict.{JsonVerdict}
+use Rattle.json_grammar.specs.Verdict.{JsonVerdict}
 use Rattle.json_machine.specs.Table.{classes, rows}
 use Rattle.json_machine.specs.Machine.{fault_entry, entry_of, walk_from}
 use Rattle.json_check.specs.Bare.{bare, BareRun, char_mode, name_char_mode}
@@ -42,9 +41,10 @@ module _ (s : List ℕ) where
   pub run_same : (i j l : ℕ) → BareRun s i j → l ≡ j → BareRun s i l
   run_same i j l f z = subst (λ (x : ℕ). BareRun s i x) (sym z) f
 
--- if the or of two numbers is 0, both are 0
-pub no_bits : (a b : ℕ) → bit_or a b ≡ 0 → (a ≡ 0) × (b ≡ 0)
-no_bits a b e = (omega (arith, or_add_and a b, and_le_r a b), omega (arith, or_add_and a b, and_le_l a b))
+-- if the or of two is false, both are
+pub neither : (a b : Bool) → a || b ≡ false → (a ≡ false) × (b ≡ false)
+neither false b e = (refl, e)
+neither true b e = absurd (false≢true (sym e))
 
 -- ---- the machine
 

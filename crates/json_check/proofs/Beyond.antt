@@ -9,7 +9,7 @@ use native.Mathlib.Nat.{add-zero}
 use lib.ListN.{get_or, length, drop}
 use Rattle.octets.proofs.Logic.{le_or_lt}
 use Rattle.octets.proofs.Lists.{each_below}
-use Rattle.json_grammar.specs.declared.JsonVerdict.{JsonVerdict}
+use Rattle.json_grammar.specs.Verdict.{JsonVerdict}
 use Rattle.json_machine.specs.Table.{classes, rows}
 use Rattle.json_machine.specs.Machine.{fault_entry, entry_of, walk_from}
 use Rattle.json_check.specs.Bare.{BareRun, char_mode, name_char_mode, Skipped}

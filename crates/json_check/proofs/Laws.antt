@@ -7,17 +7,14 @@ use mathlib.Core.List.{List, [], ◌∷◌}
 use native.Mathlib.Numerals.{add-one}
 use native.Mathlib.Omega.{arith}
 use borrow.Author.Tests.{lt-ltb, le-ltb, eq-eqb, ne_eqb}
-use lib.Dec.{eqb}
 use lib.ListN.{get_or, length, drop, drop_of_length-le}
 use lib.Seq.{drop-cons}
 use Rattle.octets.specs.Lists.{joined}
 use Rattle.octets.proofs.Lists.{each_below}
 use Rattle.json_check.specs.Columns.{columns}
-use Rattle.json_grammar.specs.Verdict.{IsVerdict}
-use Rattle.json_grammar.specs.declared.JsonVerdict.{JsonVerdict}
-use Rattle.json_grammar.specs.declared.JsonVerdict.TheVariants.{Text, Fault}
+use Rattle.json_grammar.specs.Verdict.{IsVerdict, JsonVerdict, Text, Fault}
 use Rattle.json_machine.specs.Table.{classes, rows}
-use Rattle.json_machine.specs.Machine.{value_mode, first_item_mode, after_text_mode, after_item_mode, after_member_mode, zero_mode, whole_mode, fraction_mode, power_mode, fault_entry, stop_entry, again_entry, open_array_entry, open_object_entry, close_entry, class_count, nothing_open, stack_limit, after_of, entry_of, act_of, Kind, goes, stops, closes, faults, opens, kind_of, bit, turn_mode, turn_stack, ends_of, walk_from, json_verdict}
+use Rattle.json_machine.specs.Machine.{value_mode, first_item_mode, after_text_mode, after_item_mode, after_member_mode, fault_entry, stop_entry, again_entry, open_array_entry, open_object_entry, close_entry, class_count, nothing_open, stack_limit, after_of, entry_of, act_of, Kind, goes, stops, closes, opens, kind_of, bit, turn_mode, turn_stack, ends_of, walk_from, json_verdict}
 use Rattle.json_laws.proofs.Coded.{bit_small}
 use Rattle.json_laws.proofs.Laws.{right_verdict}
 
@@ -77,66 +74,35 @@ module _ (act : ℕ) where
 
 module _ (act stack : ℕ) where
   abbrev pub TurnIs : ℕ → ℕ → Type 0
-  TurnIs mode next = (mode ≡ turn_mode (kind_of act) act stack) × (next ≡ turn_stack (kind_of act) stack) × (mode ≤ fault_entry)
+  TurnIs mode next = (mode ≡ turn_mode (kind_of act) act stack) × (next ≡ turn_stack (kind_of act) stack) × (mode < fault_entry)
 
-  of_kind : (k : Kind) (mode next : ℕ) → kind_of act ≡ k → mode ≡ turn_mode k act stack → next ≡ turn_stack k stack → mode ≤ fault_entry → TurnIs mode next
+  of_kind : (k : Kind) (mode next : ℕ) → kind_of act ≡ k → mode ≡ turn_mode k act stack → next ≡ turn_stack k stack → mode < fault_entry → TurnIs mode next
   of_kind k mode next e p q l = rw e (p, q, l)
 
   pub turn_goes : act < fault_entry → TurnIs act stack
   unfolding kind_of
-  turn_goes h = of_kind goes act stack (simp (lt-ltb _ _ h)) refl refl (omega arith)
+  turn_goes h = of_kind goes act stack (simp (lt-ltb _ _ h)) refl refl h
 
   pub turn_stops : act ≡ stop_entry → (mode : ℕ) → mode ≡ after_of stack → mode < fault_entry → TurnIs mode stack
   unfolding kind_of
-  turn_stops e mode i l = of_kind stops mode stack (rw e refl) i refl (omega arith)
+  turn_stops e mode i l = of_kind stops mode stack (rw e refl) i refl l
 
   module _ (object : Bool) (e : kind_of act ≡ opens object) where
     pub turn_opens : stack < stack_limit → (next : ℕ) → next ≡ stack * 2 + bit object → TurnIs (first_item_mode + bit object) next
     turn_opens room next i =
         of_kind (opens object) (first_item_mode + bit object) next e (simp (lt-ltb _ _ room)) (i ∙ simp (lt-ltb _ _ room)) (omega (arith, bit_small object))
 
-    pub turn_deep : stack_limit ≤ stack → TurnIs fault_entry stack
-    turn_deep full = of_kind (opens object) fault_entry stack e (simp (le-ltb _ _ full)) (simp (le-ltb _ _ full)) (omega arith)
+    pub turn_deep : stack_limit ≤ stack → turn_mode (kind_of act) act stack ≡ fault_entry
+    turn_deep full = simp (e, le-ltb _ _ full)
 
   pub turn_closes : act ≡ close_entry → (mode : ℕ) → mode ≡ after_of (stack / 2) → mode < fault_entry → TurnIs mode (stack / 2)
   unfolding kind_of
-  turn_closes e mode i l = of_kind closes mode (stack / 2) (rw e refl) i refl (omega arith)
+  turn_closes e mode i l = of_kind closes mode (stack / 2) (rw e refl) i refl l
 
-  pub turn_faults : fault_entry ≤ act → (act ≡ stop_entry → ⊥) → (act ≡ open_array_entry → ⊥) → (act ≡ open_object_entry → ⊥) → (act ≡ close_entry → ⊥) → TurnIs fault_entry stack
+  pub turn_faults : fault_entry ≤ act → (act ≡ stop_entry → ⊥) → (act ≡ open_array_entry → ⊥) → (act ≡ open_object_entry → ⊥) → (act ≡ close_entry → ⊥)
+      → turn_mode (kind_of act) act stack ≡ fault_entry
   unfolding kind_of
-  turn_faults h p q r s =
-      of_kind faults fault_entry stack (simp (le-ltb _ _ h, ne_eqb _ _ p, ne_eqb _ _ q, ne_eqb _ _ r, ne_eqb _ _ s)) refl refl (omega arith)
-
--- ---- the end
-
-module _ (mode stack : ℕ) where
-  pub ends_open : (stack ≡ nothing_open → ⊥) → false ≡ ends_of mode stack
-  unfolding ends_of
-  ends_open h = rw (ne_eqb _ _ h) refl
-
-  module _ (top : stack ≡ nothing_open) where
-    pub ends_after_text : mode ≡ after_text_mode → true ≡ ends_of mode stack
-    unfolding ends_of
-    ends_after_text e = rw (eq-eqb _ _ top, eq-eqb _ _ e) refl
-
-    module _ (not-text : mode ≡ after_text_mode → ⊥) where
-      pub ends_zero : mode ≡ zero_mode → true ≡ ends_of mode stack
-      unfolding ends_of
-      ends_zero e = rw (eq-eqb _ _ top, ne_eqb _ _ not-text, eq-eqb _ _ e) refl
-
-      module _ (not-zero : mode ≡ zero_mode → ⊥) where
-        pub ends_whole : mode ≡ whole_mode → true ≡ ends_of mode stack
-        unfolding ends_of
-        ends_whole e = rw (eq-eqb _ _ top, ne_eqb _ _ not-text, ne_eqb _ _ not-zero, eq-eqb _ _ e) refl
-
-        module _ (not-whole : mode ≡ whole_mode → ⊥) where
-          pub ends_fraction : mode ≡ fraction_mode → true ≡ ends_of mode stack
-          unfolding ends_of
-          ends_fraction e = rw (eq-eqb _ _ top, ne_eqb _ _ not-text, ne_eqb _ _ not-zero, ne_eqb _ _ not-whole, eq-eqb _ _ e) refl
-
-          pub ends_power : (mode ≡ fraction_mode → ⊥) → eqb mode power_mode ≡ ends_of mode stack
-          unfolding ends_of
-          ends_power not-fraction = rw (eq-eqb _ _ top, ne_eqb _ _ not-text, ne_eqb _ _ not-zero, ne_eqb _ _ not-whole, ne_eqb _ _ not-fraction) refl
+  turn_faults h p q r s = simp (le-ltb _ _ h, ne_eqb _ _ p, ne_eqb _ _ q, ne_eqb _ _ r, ne_eqb _ _ s)
 
 -- ---- the walk: the rest from here gives the verdict of the whole
 

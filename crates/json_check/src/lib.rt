@@ -8,14 +8,14 @@
 
 mod tables;
 
-ghost use Rattle.std.specs.Prelude.{◌≡◌, ℕ, ◌+◌, ◌<◌, ◌≤◌, true, length, drop};
+ghost use Rattle.std.specs.Prelude.{◌≡◌, ℕ, ◌+◌, ◌<◌, ◌≤◌, true, false, length, drop, MatchOption};
 ghost use Rattle.json_grammar.specs.Verdict.{IsVerdict};
 ghost use Rattle.json_machine.specs.Table.{classes};
 ghost use Rattle.json_machine.specs.Machine.{fault_entry, after_of, act_of, kind_of, turn_mode, turn_stack, ends_of, walk_from, json_verdict};
 ghost use Rattle.json_check.specs.Columns.{columns};
 ghost use Rattle.json_check.specs.Bare.{bare, BareRun, Skipped};
 
-use json_grammar::JsonVerdict;
+use json_grammar::JsonFault;
 
 // With a stack below this, one more array or object may be opened: a bit for each of those open, and one in front.
 const STACK_LIMIT: u64 = 1 << json_grammar::DEPTH_LIMIT;
@@ -120,101 +120,80 @@ fn act<'a>(
     first
 }
 
-// Where an entry of the tables leads: to a mode, or where it says one of the others; any that is none of these is a fault.
-fn turn(act: usize, stack: u64) -> State
-    ensures { (result.mode ≡ turn_mode (kind_of act) act stack) × (result.stack ≡ turn_stack (kind_of act) stack) × (result.mode ≤ fault_entry) }
+// Where an entry of the tables leads: to a mode, or where it says one of the others. Nowhere at a fault, and at an array or object too many.
+fn turn(act: usize, stack: u64) -> Option<State>
+    ensures { MatchOption result
+        (turn_mode (kind_of act) act stack ≡ fault_entry)
+        (λ to. (to.mode ≡ turn_mode (kind_of act) act stack) × (to.stack ≡ turn_stack (kind_of act) stack) × (to.mode < fault_entry)) }
 {
     if act < FAULT {
-        return State { mode: act, stack };
+        return Some(State { mode: act, stack });
     }
     if act == STOP {
-        return State {
+        return Some(State {
             mode: after(stack),
             stack,
-        };
+        });
     }
     if act == OPEN_ARRAY {
         if stack < STACK_LIMIT {
-            return State {
+            return Some(State {
                 mode: FIRST_ITEM,
                 stack: stack * 2,
-            };
+            });
         }
-        return State { mode: FAULT, stack };
+        return None;
     }
     if act == OPEN_OBJECT {
         if stack < STACK_LIMIT {
-            return State {
+            return Some(State {
                 mode: FIRST_MEMBER,
                 stack: stack * 2 + 1,
-            };
+            });
         }
-        return State { mode: FAULT, stack };
+        return None;
     }
     if act == CLOSE {
         let outer = stack / 2;
-        return State {
+        return Some(State {
             mode: after(outer),
             stack: outer,
-        };
+        });
     }
-    State { mode: FAULT, stack }
+    None
 }
 
 // Whether a text may end here: nothing is open, and a value has ended, or is a number that may end.
+#[tactic(auto, unfolding(json_machine::specs::Machine::ends_of))]
 fn ends(mode: usize, stack: u64) -> bool
     ensures { result ≡ ends_of mode stack }
 {
-    if stack == NOTHING_OPEN {
-        if mode == AFTER_TEXT {
-            return true;
-        }
-        if mode == ZERO {
-            return true;
-        }
-        if mode == WHOLE {
-            return true;
-        }
-        if mode == FRACTION {
-            return true;
-        }
-        return mode == POWER;
-    }
-    false
+    stack == NOTHING_OPEN
+        && (mode == AFTER_TEXT
+            || mode == ZERO
+            || mode == WHOLE
+            || mode == FRACTION
+            || mode == POWER)
 }
 
 // ---- in a string
 
-// 1 for a byte that does not stand for itself in a string: a control byte, a quotation mark, a backslash, or a byte beyond ASCII. Such a byte
+// Whether a byte does not stand for itself in a string: a control byte, a quotation mark, a backslash, or a byte beyond ASCII. Such a byte
 // is called odd below.
-fn odd(b: u8) -> u8
-    ensures { result ≡ 0 → bare b ≡ true }
+fn odd(b: u8) -> bool
+    ensures { result ≡ false → bare b ≡ true }
 {
-    if b < 0x20 {
-        return 1;
-    }
-    if 0x80 <= b {
-        return 1;
-    }
-    if b == b'"' {
-        return 1;
-    }
-    if b == b'\\' {
-        return 1;
-    }
-    0
+    b < 0x20 || 0x80 <= b || b == b'"' || b == b'\\'
 }
 
-// 0 if none of the eight bytes from place i on is odd. The compiler makes vector code of the loop.
-fn odd8(s: &[u8], i: usize) -> u8
+// Whether one of the eight bytes from place i on is odd. The compiler makes vector code of the loop.
+fn odd8(s: &[u8], i: usize) -> bool
     requires { i + 8 ≤ length s.now }
-    ensures { result ≡ 0 → BareRun s.now i (i + 8) }
+    ensures { result ≡ false → BareRun s.now i (i + 8) }
 {
-    let mut bad: u8 = 0;
-    let mut k: usize = 0;
-    while k < 8 {
-        bad = bad | odd(s[i + k]);
-        k += 1;
+    let mut bad = false;
+    for k in 0..8 {
+        bad |= odd(s[i + k]);
     }
     bad
 }
@@ -226,7 +205,7 @@ fn past_blocks(s: &[u8], from: usize) -> usize
 {
     let mut i = from;
     while 8 <= s.len() - i {
-        if odd8(s, i) != 0 {
+        if odd8(s, i) {
             return i;
         }
         i += 8;
@@ -239,31 +218,23 @@ fn past_bare(s: &[u8], from: usize) -> usize
     requires { from ≤ length s.now }
     ensures { (from ≤ result) × (result ≤ length s.now) × BareRun s.now from result }
 {
-    let mut i = past_blocks(s, from);
-    while i < s.len() {
-        if odd(s[i]) != 0 {
+    for i in past_blocks(s, from)..s.len() {
+        if odd(s[i]) {
             return i;
         }
-        i += 1;
     }
-    i
+    s.len()
 }
 
-// 0 if a byte is a continuation byte of UTF-8.
-fn stray(b: u8) -> u8
-    ensures { result ≡ 0 → (128 ≤ b) × (b < 192) }
+// Whether a byte is no continuation byte of UTF-8.
+fn stray(b: u8) -> bool
+    ensures { result ≡ false → (128 ≤ b) × (b < 192) }
 {
-    if b < 0x80 {
-        return 1;
-    }
-    if 0xC0 <= b {
-        return 1;
-    }
-    0
+    b < 0x80 || 0xC0 <= b
 }
 
 // The size of the character beyond ASCII at place i. 0 if there is none, if it begins with F4, or if fewer than four bytes are left: then the
-// tables decide.
+// tables decide. An Option of the size makes the check of text beyond ASCII a fifth slower (measured), and so does the place after it.
 #[tactic(auto, using(crate::proofs::Beyond::passed_none))]
 fn wide_char(s: &[u8], i: usize) -> usize
     requires { i ≤ length s.now }
@@ -277,13 +248,13 @@ fn wide_char(s: &[u8], i: usize) -> usize
         return 0;
     }
     let b = s[i + 1];
-    if stray(b) != 0 {
+    if stray(b) {
         return 0;
     }
     if a < 0xE0 {
         return 2;
     }
-    if stray(s[i + 2]) != 0 {
+    if stray(s[i + 2]) {
         return 0;
     }
     if a == 0xE0 {
@@ -301,7 +272,7 @@ fn wide_char(s: &[u8], i: usize) -> usize
     if a < 0xF0 {
         return 3;
     }
-    if stray(s[i + 3]) != 0 {
+    if stray(s[i + 3]) {
         return 0;
     }
     if a == 0xF0 {
@@ -322,17 +293,13 @@ fn past_few(s: &[u8], from: usize) -> usize
     requires { from ≤ length s.now }
     ensures { (from ≤ result) × (result ≤ length s.now) × BareRun s.now from result }
 {
-    let mut i = from;
-    while i - from < 8 {
-        if s.len() <= i {
+    for k in 0..8 {
+        let i = from + k;
+        if s.len() <= i || odd(s[i]) {
             return i;
         }
-        if odd(s[i]) != 0 {
-            return i;
-        }
-        i += 1;
     }
-    past_blocks(s, i)
+    past_blocks(s, from + 8)
 }
 
 // The place of the first odd byte from `from` on, or the end. It tests one byte before it looks for blocks, as a string is often empty.
@@ -340,10 +307,8 @@ fn past_run(s: &[u8], from: usize) -> usize
     requires { from ≤ length s.now }
     ensures { (from ≤ result) × (result ≤ length s.now) × BareRun s.now from result }
 {
-    if from < s.len() {
-        if odd(s[from]) == 0 {
-            return past_bare(s, from);
-        }
+    if from < s.len() && !odd(s[from]) {
+        return past_bare(s, from);
     }
     from
 }
@@ -369,41 +334,43 @@ fn onward(s: &[u8], mode: usize, from: usize) -> usize
     requires { from ≤ length s.now }
     ensures { (from ≤ result) × (result ≤ length s.now) × ((stack : ℕ) → walk_from mode stack result (drop result s.now) ≡ walk_from mode stack from (drop from s.now)) }
 {
-    if mode == CHAR {
-        return past_chars(s, from);
-    }
-    if mode == NAME_CHAR {
+    if mode == CHAR || mode == NAME_CHAR {
         return past_chars(s, from);
     }
     from
 }
 
 // The walk over the bytes.
-fn walk<'a>(class: &'a [u8; BYTES], next: &'a [u8; MODES * CLASSES], text: &'a [u8]) -> JsonVerdict
+fn walk<'a>(
+    class: &'a [u8; BYTES],
+    next: &'a [u8; MODES * CLASSES],
+    text: &[u8],
+) -> Result<(), JsonFault>
     requires { (class.now ≡ classes) × (next.now ≡ columns) }
     ensures { result ≡ json_verdict text.now }
 {
-    let mut mode: usize = VALUE;
-    let mut stack: u64 = NOTHING_OPEN;
+    let mut state = State {
+        mode: VALUE,
+        stack: NOTHING_OPEN,
+    };
     let mut i = 0;
     while i < text.len() {
-        let state = turn(act(class, next, mode, stack, text[i]), stack);
-        if state.mode == FAULT {
-            return JsonVerdict::Fault(i);
-        }
-        mode = state.mode;
-        stack = state.stack;
-        i = onward(text, mode, i + 1);
+        let entry = act(class, next, state.mode, state.stack, text[i]);
+        let Some(to) = turn(entry, state.stack) else {
+            return Err(JsonFault { place: i });
+        };
+        state = to;
+        i = onward(text, state.mode, i + 1);
     }
-    if ends(mode, stack) {
-        return JsonVerdict::Text;
+    if ends(state.mode, state.stack) {
+        return Ok(());
     }
-    JsonVerdict::Fault(i)
+    Err(JsonFault { place: i })
 }
 
 // Whether bytes are one JSON text within the depth limit, or the place of the first fault: what the grammar says is the right verdict.
 // The tables are locals, as a constant would be built anew at each use.
-pub fn check(text: &[u8]) -> JsonVerdict
+pub fn check(text: &[u8]) -> Result<(), JsonFault>
     ensures value { result ≡ json_verdict text.now }
     ensures verdict { IsVerdict text.now result }
 {

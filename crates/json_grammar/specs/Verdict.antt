@@ -1,10 +1,9 @@
 -- Which verdict on bytes is the right one: said of the grammar, and of nothing that computes.
 -- Assumes nothing.
-use Rattle.std.specs.Prelude.{ℕ, suc, ◌≤◌, ◌<◌, List, ◌++◌, length, take}
+use Rattle.std.specs.Prelude.{ℕ, suc, ◌≤◌, ◌<◌, ⊤, List, ◌++◌, length, take, Result, Ok, Err}
 use Rattle.json_grammar.specs.Abnf.{Is}
 use Rattle.json_grammar.specs.Grammar.{json_text}
-use Rattle.json_grammar.specs.declared.JsonVerdict.{JsonVerdict}
-use Rattle.json_grammar.specs.declared.JsonVerdict.TheVariants.{Text, Fault}
+use Rattle.json_grammar.specs.declared.JsonFault.{JsonFault}
 
 -- the most arrays or objects that may be open at once
 abbrev pub depth_limit : ℕ
@@ -26,6 +25,16 @@ pub record FaultsFirstAt (s : List ℕ) (p : ℕ) : Type 0 where
   pub before : CanBegin (take p s)
   pub there : p < length s → CanBegin (take (suc p) s) → ⊥
 
+-- what a checker answers: the bytes are a text, or the place of the fault
+abbrev pub JsonVerdict : Type 0
+JsonVerdict = Result ⊤ JsonFault
+
+abbrev pub Text : JsonVerdict
+Text = Ok tt
+
+abbrev pub Fault : ℕ → JsonVerdict
+Fault p = Err (record { place = p })
+
 abbrev pub IsVerdict : List ℕ → JsonVerdict → Type 0
-IsVerdict s Text = IsText s
-IsVerdict s (Fault p) = FaultsFirstAt s p
+IsVerdict s (Ok _) = IsText s
+IsVerdict s (Err fault) = FaultsFirstAt s fault.place

@@ -9,10 +9,9 @@ use native.Mathlib.Omega.{arith}
 use native.Mathlib.Nat.{eq-or-lt_of_le}
 use lib.ListN.{length, take, drop, take-append-drop}
 use lib.Seq.{take-take, take-length}
+use Rattle.std.specs.declared.result.Result.TheVariants.{Ok, Err}
 use Rattle.octets.proofs.Logic.{le_or_lt}
-use Rattle.json_grammar.specs.Verdict.{IsText, CanBegin, FaultsFirstAt, IsVerdict}
-use Rattle.json_grammar.specs.declared.JsonVerdict.{JsonVerdict}
-use Rattle.json_grammar.specs.declared.JsonVerdict.TheVariants.{Text, Fault}
+use Rattle.json_grammar.specs.Verdict.{IsText, CanBegin, FaultsFirstAt, IsVerdict, JsonVerdict, Text, Fault}
 use Rattle.json_machine.specs.Machine.{value_mode, nothing_open, json_verdict}
 use Rattle.json_laws.proofs.Coded.{stack_of}
 use Rattle.json_laws.proofs.Walk.{right_from}
@@ -46,10 +45,10 @@ module _ (s : List ℕ) where
       (le_or_lt p q)
 
   pub only_verdict : (v w : JsonVerdict) → IsVerdict s v → IsVerdict s w → v ≡ w
-  only_verdict Text Text a b = refl
-  only_verdict Text (Fault q) a b = absurd (b.no_text a)
-  only_verdict (Fault p) Text a b = absurd (a.no_text b)
-  only_verdict (Fault p) (Fault q) a b = ap Fault (same_place p q a b)
+  only_verdict (Ok x) (Ok y) a b = refl
+  only_verdict (Ok x) (Err g) a b = absurd (b.no_text a)
+  only_verdict (Err f) (Ok y) a b = absurd (a.no_text b)
+  only_verdict (Err f) (Err g) a b = ap Fault (same_place f.place g.place a b)
 
 -- ---- of the checker
 

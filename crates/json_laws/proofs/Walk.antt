@@ -9,9 +9,7 @@ use borrow.Author.Tests.{eqb-true, eqb-false}
 use lib.Dec.{eqb}
 use lib.ListN.{length, take, drop, take-append-drop, length-append}
 use lib.Seq.{take_at}
-use Rattle.json_grammar.specs.Verdict.{IsText, CanBegin, FaultsFirstAt, IsVerdict}
-use Rattle.json_grammar.specs.declared.JsonVerdict.{JsonVerdict}
-use Rattle.json_grammar.specs.declared.JsonVerdict.TheVariants.{Text, Fault}
+use Rattle.json_grammar.specs.Verdict.{IsText, CanBegin, FaultsFirstAt, IsVerdict, JsonVerdict, Text, Fault}
 use Rattle.octets.specs.Logic.{choose}
 use Rattle.octets.proofs.Lists.{taken_append}
 use Rattle.json_machine.specs.Machine.{fault_entry, act_of, kind_of, turn_mode, turn_stack, ends_of, walk_from}

@@ -3,9 +3,7 @@
 use mathlib.Core.Path.{◌≡◌, ap, subst}
 use mathlib.Core.List.{List, [], ◌∷◌, map, head_d, tail}
 use Rattle.octets.specs.Lists.{All}
-use Rattle.json_grammar.specs.Verdict.{IsVerdict}
-use Rattle.json_grammar.specs.declared.JsonVerdict.{JsonVerdict}
-use Rattle.json_grammar.specs.declared.JsonVerdict.TheVariants.{Text}
+use Rattle.json_grammar.specs.Verdict.{IsVerdict, JsonVerdict, Text}
 use Rattle.json_machine.specs.Machine.{json_verdict}
 use Rattle.json_laws.specs.Worked.{WorkedText, worked_texts, verdicts_hold, boundary_texts, boundaries_hold}
 use Rattle.json_laws.proofs.Laws.{right_verdict}

@@ -3,9 +3,7 @@
 -- A stack is 1, and then a bit for each open array (0) or object (1), the innermost last. Assumes nothing.
 use Rattle.std.specs.Prelude.{ℕ, suc, ◌+◌, ◌*◌, ◌/◌, ◌%◌, ◌^◌, Bool, true, false, List, [], ◌∷◌, eqb, ltb, get_or}
 use Rattle.octets.specs.Logic.{both, either, choose}
-use Rattle.json_grammar.specs.Verdict.{depth_limit}
-use Rattle.json_grammar.specs.declared.JsonVerdict.{JsonVerdict}
-use Rattle.json_grammar.specs.declared.JsonVerdict.TheVariants.{Text, Fault}
+use Rattle.json_grammar.specs.Verdict.{depth_limit, JsonVerdict, Text, Fault}
 use Rattle.octets.specs.Lists.{joined}
 use Rattle.json_machine.specs.Table.{classes, rows}
 

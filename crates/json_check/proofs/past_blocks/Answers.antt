@@ -6,12 +6,6 @@ use Rattle.json_check.proofs.past_blocks.Goals as goal
 pub loop-i-init : goal.loop-i-init
 loop-i-init c = (omega arith, omega arith, run_none _ _ _ (omega arith))
 
-pub returns-then-odd8-ne0 : goal.returns-then-odd8-ne0
-returns-then-odd8-ne0 c = c.loop-i.invariant
-
 pub loop-i-preserved : goal.loop-i-preserved
 loop-i-preserved c = let l = c.loop-i in
-    (omega arith, omega arith, run_join _ _ _ _ l.invariant.2 (c.odd8.ensures c.if-odd8-ne0.false))
-
-pub returns : goal.returns
-returns c = c.loop-i.invariant
+    (omega arith, omega arith, run_join _ _ _ _ l.invariant.2 (c.odd8.ensures c.if-odd8.false))
