@@ -1,16 +1,16 @@
 -- The stricter reading, said of the grammar: where it is the ordinary one, and where it is 21.
 use Prim.Native.Nat.{ℕ, zero, suc, ◌+◌, ◌<◌, ◌≤◌}
 use mathlib.Core.Path.{◌≡◌, refl, sym, ap, ◌∙◌}
-use mathlib.Core.Bool.{Bool, true, false, not, false≢true}
+use mathlib.Core.Bool.{Bool, true, false, false≢true}
 use mathlib.Core.List.{List}
 use mathlib.Core.Logic.{◌⊎◌, inl, inr, ⊎_elim}
 use native.Mathlib.Omega.{arith}
 use native.Mathlib.Nat.{eq-or-lt_of_le}
-use borrow.Author.Tests.{eq-eqb, eqb-true, not-true, not-false}
+use borrow.Author.Tests.{eq-eqb, eqb-true}
 use lib.Dec.{eqb}
-use Rattle.json_grammar.specs.Verdict.{IsText}
-use Rattle.json_grammar.specs.declared.JsonVerdict.{JsonVerdict}
-use Rattle.json_grammar.specs.declared.JsonVerdict.TheVariants.{Text, Fault}
+use Rattle.std.specs.Prelude.{is_err}
+use Rattle.std.specs.declared.result.Result.TheVariants.{Ok, Err}
+use Rattle.json_grammar.specs.Verdict.{IsText, JsonVerdict, Text}
 use Rattle.json_machine.specs.Machine.{json_verdict}
 use Rattle.json_laws.proofs.Laws.{accepted_exactly_when}
 use Rattle.octets.specs.Logic.{both}
@@ -23,13 +23,13 @@ use Rattle.eif.specs.declared.Section.{Section}
 use Rattle.eif.specs.declared.Verdict.{Verdict}
 use Rattle.eif.specs.declared.Verdict.TheVariants.{Accepted, Refused}
 use Rattle.eif_lemmas.proofs.Verdicts.{never, then_accepted, refused_not, refusal_none→, →refusal-none}
-use Rattle.strict_reader.specs.Strict.{MetadataIsJson, tells_text, not_json, refuse_metadata, metadata_verdict, strict_verdict, read_strict, text_verdict, FirstNotText, StrictlyRead}
+use Rattle.strict_reader.specs.Strict.{MetadataIsJson, not_json, refuse_metadata, metadata_verdict, strict_verdict, read_strict, text_verdict, FirstNotText, StrictlyRead}
 
 -- ---- one section: the test says what the grammar says
 
-text_true : (v : JsonVerdict) → tells_text v ≡ true → v ≡ Text
-text_true Text e = refl
-text_true (Fault p) e = absurd (false≢true e)
+text_if_ok : (v : JsonVerdict) → is_err v ≡ false → v ≡ Text
+text_if_ok (Ok x) e = refl
+text_if_ok (Err f) e = absurd (false≢true (sym e))
 
 module _ (s : List ℕ) (x : Section) where
   abbrev verdict : JsonVerdict
@@ -38,14 +38,14 @@ module _ (s : List ℕ) (x : Section) where
   passed→ : not_json s x ≡ false → x.kind ≡ metadata → IsText (data_of s x)
   unfolding not_json
   passed→ e k =
-      let n : not (tells_text verdict) ≡ false = simp (eq-eqb _ _ k) at e in
-      (accepted_exactly_when (data_of s x)).0 (text_true verdict (not-false _ n))
+      let n : is_err verdict ≡ false = simp (eq-eqb _ _ k) at e in
+      (accepted_exactly_when (data_of s x)).0 (text_if_ok verdict n)
 
   →passed : (x.kind ≡ metadata → IsText (data_of s x)) → not_json s x ≡ false
   unfolding not_json
   →passed f = go (eqb x.kind metadata) refl
     where
-      go : (b : Bool) → eqb x.kind metadata ≡ b → both b (not (tells_text (json_verdict (data_of s x)))) ≡ false
+      go : (b : Bool) → eqb x.kind metadata ≡ b → both b (is_err (json_verdict (data_of s x))) ≡ false
       go true e = simp ((accepted_exactly_when (data_of s x)).1 (f (eqb-true _ _ e)))
       go false e = refl
 
@@ -53,7 +53,7 @@ module _ (s : List ℕ) (x : Section) where
   unfolding not_json
   failed→ e =
       let b = both_true _ _ e in
-      (eqb-true _ _ b.0, λ t. let i = (accepted_exactly_when (data_of s x)).1 t in false≢true (sym (not-true _ b.1) ∙ ap tells_text i))
+      (eqb-true _ _ b.0, λ t. let i = (accepted_exactly_when (data_of s x)).1 t in false≢true (sym (ap is_err i) ∙ b.1))
 
 -- ---- the sections
 

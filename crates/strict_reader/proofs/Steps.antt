@@ -2,11 +2,12 @@
 -- Assumes nothing.
 use Prim.Native.Nat.{ℕ, ◌+◌, ◌-◌, ◌<◌, ◌≤◌}
 use mathlib.Core.Path.{◌≡◌, refl, sym, ap, ◌∙◌}
-use mathlib.Core.Bool.{true, false, not}
+use mathlib.Core.Bool.{true, false}
 use mathlib.Core.List.{List}
 use native.Mathlib.Omega.{arith}
 use borrow.Author.Tests.{eq-eqb, ne_eqb}
-use Rattle.json_grammar.specs.declared.JsonVerdict.{JsonVerdict}
+use Rattle.std.specs.Prelude.{is_err}
+use Rattle.json_grammar.specs.Verdict.{JsonVerdict}
 use Rattle.json_machine.specs.Machine.{json_verdict}
 use Rattle.eif.specs.Numbers.{place_count, metadata}
 use Rattle.eif.specs.Layout.{view_of, count_of}
@@ -20,7 +21,7 @@ use Rattle.eif_lemmas.proofs.Accept.{passes}
 use Rattle.eif_lemmas.proofs.Reading.{reading_section, verdict_is, told_accepted, reading_is, count_is}
 use Rattle.eif_lemmas.proofs.Verdicts.{refusal_stop, refusal_on, refusal_same}
 use Rattle.eif.specs.Rules.{first_refusal}
-use Rattle.strict_reader.specs.Strict.{tells_text, not_json, refuse_metadata, metadata_verdict, strict_verdict, read_strict, text_verdict}
+use Rattle.strict_reader.specs.Strict.{not_json, refuse_metadata, metadata_verdict, strict_verdict, read_strict, text_verdict}
 
 -- ---- one section
 
@@ -29,7 +30,7 @@ module _ (s : List ℕ) (x : Section) where
   unfolding not_json
   other_type n = simp (ne_eqb _ _ n)
 
-  pub metadata_by : x.kind ≡ metadata → (v : JsonVerdict) → v ≡ json_verdict (data_of s x) → not (tells_text v) ≡ not_json s x
+  pub metadata_by : x.kind ≡ metadata → (v : JsonVerdict) → v ≡ json_verdict (data_of s x) → is_err v ≡ not_json s x
   unfolding not_json
   metadata_by e v i = simp (eq-eqb _ _ e, sym i)
 

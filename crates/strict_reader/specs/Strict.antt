@@ -1,11 +1,9 @@
 -- The stricter reading (FORMAT.md, Stricter reading): the ordinary one, and then 21 for a metadata section whose data is not one JSON
 -- text. What is a text is said by the grammar of the crate json_grammar; that the test here says the same: `strict_laws/Strict.strict_exactly_when`.
 -- Assumes nothing.
-use Rattle.std.specs.Prelude.{ℕ, ◌<◌, ◌≡◌, Bool, true, false, not, List, [], ◌∷◌, ◌++◌, ◌⊎◌, eqb}
+use Rattle.std.specs.Prelude.{ℕ, ◌<◌, ◌≡◌, Bool, is_err, List, [], ◌∷◌, ◌++◌, ◌⊎◌, eqb}
 use Rattle.eif.specs.Table.{join_from}
 use Rattle.json_grammar.specs.Verdict.{IsText}
-use Rattle.json_grammar.specs.declared.JsonVerdict.{JsonVerdict}
-use Rattle.json_grammar.specs.declared.JsonVerdict.TheVariants.{Text, Fault}
 use Rattle.json_machine.specs.Machine.{json_verdict}
 use Rattle.eif.specs.Numbers.{metadata, metadata_not_json}
 use Rattle.octets.specs.Logic.{both, choose}
@@ -27,13 +25,9 @@ MetadataIsJson s = (i : ℕ) → i < count_of s → kind_at s i ≡ metadata →
 
 -- ---- the rule
 
-abbrev pub tells_text : JsonVerdict → Bool
-tells_text Text = true
-tells_text (Fault p) = false
-
 -- the test of 21
 unfoldable pub not_json : List ℕ → Section → Bool
-not_json s x = both (eqb x.kind metadata) (not (tells_text (json_verdict (data_of s x))))
+not_json s x = both (eqb x.kind metadata) (is_err (json_verdict (data_of s x)))
 
 -- 21 at a section, with its index and where its data stands
 abbrev pub refuse_metadata : Section → ℕ → Verdict

@@ -8,7 +8,6 @@ ghost use Rattle.eif.specs.Numbers.{place_count};
 ghost use Rattle.strict_reader.specs.Strict.{not_json, metadata_verdict, read_strict, StrictlyRead};
 
 use eif::{PLACES, Reading, Refusal, Section, SectionType, Verdict};
-use json_grammar::JsonVerdict;
 
 // Whether a section is metadata and its data is no JSON text.
 fn not_json(image: &[u8], section: Section) -> bool
@@ -17,11 +16,7 @@ fn not_json(image: &[u8], section: Section) -> bool
     if section.kind != SectionType::METADATA {
         return false;
     }
-    let verdict = json_check::check(stream_reader::section_data(image, section));
-    match verdict {
-        JsonVerdict::Text => false,
-        JsonVerdict::Fault(_) => true,
-    }
+    json_check::check(stream_reader::section_data(image, section)).is_err()
 }
 
 // Rule 21 at the sections in ascending index, up to the first that it refuses.
@@ -29,13 +24,11 @@ fn judge(image: &[u8], sections: [Section; PLACES], count: usize) -> Verdict
     requires { count ≤ place_count }
     ensures { result ≡ metadata_verdict image.now (section_in sections) count 0 }
 {
-    let mut i: usize = 0;
-    while i < count {
+    for i in 0..count {
         let section = sections[i];
         if not_json(image, section) {
             return Verdict::refuse_at(Refusal::METADATA_NOT_JSON, i as u64, section.position.0);
         }
-        i += 1;
     }
     Verdict::Accepted
 }

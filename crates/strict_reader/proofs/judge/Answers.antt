@@ -11,7 +11,7 @@ use Rattle.strict_reader.proofs.judge.Goals.{After-not_json, At-loop-i}
 pub loop-i-init : goal.loop-i-init
 loop-i-init c = let a = c.args in
     let z : a.count - 0 ≡ a.count = omega arith in
-    (omega arith, ap (λ (n : ℕ). metadata_verdict a.image.now (section_in a.sections) n 0) z)
+    ap (λ (n : ℕ). metadata_verdict a.image.now (section_in a.sections) n 0) z
 
 pub returns-then-not_json : goal.returns-then-not_json
 returns-then-not_json c = let n = (goal.at.returns-then-not_json c).After-not_json in
@@ -19,18 +19,16 @@ returns-then-not_json c = let n = (goal.at.returns-then-not_json c).After-not_js
     let a = w.args in
     c.refuse_at.ensures
     ∙ metadata_stop a.image.now (section_in a.sections) a.count w.loop-i.i n.loop-i-test.true (sym c.if-not_json.true ∙ n.not_json.ensures)
-    ∙ w.loop-i.invariant.1
+    ∙ w.loop-i.invariant
 
 pub loop-i-preserved : goal.loop-i-preserved
 loop-i-preserved c = let n = (goal.at.loop-i-preserved c).After-not_json in
     let w = (goal.at.After-not_json n).At-loop-i in
-    let a = w.args in (
-      omega arith,
-      sym (metadata_on a.image.now (section_in a.sections) a.count w.loop-i.i n.loop-i-test.true (sym c.if-not_json.false ∙ n.not_json.ensures))
-          ∙ w.loop-i.invariant.1,
-    )
+    let a = w.args in
+    sym (metadata_on a.image.now (section_in a.sections) a.count w.loop-i.i n.loop-i-test.true (sym c.if-not_json.false ∙ n.not_json.ensures))
+    ∙ w.loop-i.invariant
 
 pub returns : goal.returns
 returns c = let l = c.loop-i in
     let a = c.args in
-    metadata_none a.image.now (section_in a.sections) a.count l.i c.loop-i-test.false ∙ l.invariant.1
+    metadata_none a.image.now (section_in a.sections) a.count l.i c.loop-i-test.false ∙ l.invariant
