@@ -2,7 +2,7 @@
 -- Assumes nothing.
 use Rattle.std.specs.Prelude.{◌≡◌, refl, [], ◌∷◌, replicate}
 use Rattle.eif.specs.Answers.{refuse_at}
-use Rattle.json_grammar.specs.declared.JsonVerdict.TheVariants.{Text, Fault}
+use Rattle.json_grammar.specs.Verdict.{Text, Fault}
 use Rattle.eif_flat.specs.Worked.{one_section, one_flat}
 use Rattle.eif_c.specs.Measure.{flat_fed, flat_registers}
 use Rattle.eif_c.specs.Fingerprint.{flat_fingerprint}

@@ -1,13 +1,12 @@
 // The stricter reading of an image, and the check of JSON that it makes, for programs in C and Rust (FORMAT.md, Stricter reading).
 ghost use Rattle.std.specs.Prelude.{◌≡◌};
-ghost use Rattle.json_grammar.specs.Verdict.{IsVerdict};
-ghost use Rattle.json_grammar.specs.declared.JsonVerdict.{JsonVerdict};
+ghost use Rattle.json_grammar.specs.Verdict.{IsVerdict, JsonVerdict};
 ghost use Rattle.json_machine.specs.Machine.{json_verdict};
 ghost use Rattle.strict_reader.specs.Strict.{read_strict};
 ghost use Rattle.eif_flat.specs.Flat.{flat_reading};
 ghost use Rattle.eif_c.specs.Strict.{text_flag, fault_place, flat_json};
 
-use json_grammar::JsonVerdict;
+use json_grammar::JsonFault;
 
 // `is_text` is 1 where the bytes are one JSON text, and `place` then 0; else it is 0 and `place` that of the fault.
 #[repr(C)]
@@ -18,25 +17,25 @@ pub struct EifJson {
     pub place: u64,
 }
 
-fn text_flag(verdict: JsonVerdict) -> u8
+fn text_flag(verdict: Result<(), JsonFault>) -> u8
     ensures { result ≡ text_flag verdict }
 {
     match verdict {
-        JsonVerdict::Text => 1,
-        JsonVerdict::Fault(_) => 0,
+        Ok(()) => 1,
+        Err(_) => 0,
     }
 }
 
-fn fault_place(verdict: JsonVerdict) -> u64
+fn fault_place(verdict: Result<(), JsonFault>) -> u64
     ensures { result ≡ fault_place verdict }
 {
     match verdict {
-        JsonVerdict::Text => 0,
-        JsonVerdict::Fault(place) => place as u64,
+        Ok(()) => 0,
+        Err(fault) => fault.place as u64,
     }
 }
 
-fn flat_json(verdict: JsonVerdict) -> EifJson
+fn flat_json(verdict: Result<(), JsonFault>) -> EifJson
     ensures { result ≡ flat_json verdict }
 {
     EifJson {
