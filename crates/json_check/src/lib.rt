@@ -30,6 +30,7 @@ struct State {
     stack: u64,
 }
 
+// Modes and entries of the tables are numbers and no enum: an index is computed from a mode at each byte, and json_machine's definitions number them.
 // The modes that the code names, of those of tables.rt: where a value, an array and an object begin, after a value with nothing open, in an
 // array and in an object, and in a number that may end.
 const VALUE: usize = 0;
