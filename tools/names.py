@@ -21,7 +21,7 @@ import re
 import sys
 from pathlib import Path
 
-DOCUMENTS = ["README.md", "CONTRIBUTING.md", "rust/README.md", *sorted(str(p) for p in Path("docs").glob("*.md") if p.name != "PORT.md")]
+DOCUMENTS = ["README.md", "CONTRIBUTING.md", "rust/README.md", *sorted(str(p) for p in Path("docs").glob("*.md") if p.name not in ("DESIGN-PASS.md", "PORT.md"))]
 SOURCES = ["crates", "rust", "tests", "include", "tools", "samples"]
 SPLIT = re.compile(r"[^\w\-→']+")
 WORD = re.compile(r"[^\W\d][\w\-→']*\Z")
