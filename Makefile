@@ -2,7 +2,7 @@
 SHELL := /bin/sh
 .DEFAULT_GOAL := help
 .NOTPARALLEL:
-.PHONY: help run test test-large prove kit python staticlib sharedlib eif map written-test show-test c-test rust-test rust-lint install-test bench doc install
+.PHONY: help run test test-large prove no-links kit python staticlib sharedlib eif map written-test show-test c-test rust-test rust-lint install-test bench doc install
 
 IMAGE ?= samples/worked.eif
 PREFIX ?= /usr/local
@@ -67,7 +67,7 @@ run: kit
 
 # The proofs come first, and the tests use what they built; the archive is built once. The last line says the kit's verdict again; where there is
 # no cargo that is new enough, and none could be installed, all the rest is tried and the last line says what is missing.
-test: kit
+test: kit no-links
 	@tests/prove.sh $(RT) target
 	@tests/edits.sh target/ci.log
 	@$(MAKE) --no-print-directory written-test show-test $(archive)
@@ -77,8 +77,12 @@ test: kit
 	@tests/cargo.sh $(CARGO)
 	@cat target/verdict
 
-prove: kit
+prove: kit no-links
 	@$(RT) ci
+
+# `rt ci` takes no tree that has links. Both folders are made anew by the tests that need them.
+no-links:
+	@rm -rf target/sharedlib target/install
 
 staticlib: target/staticlib/libeif_c.a
 
