@@ -34,7 +34,7 @@ def all_words():
     found = set()
     for root in SOURCES:
         for path in Path(root).rglob("*"):
-            if "target" not in path.parts and path.is_file():
+            if not {"target", "out"} & set(path.parts) and path.is_file():
                 found |= {path.name, path.stem, *path.parts}
                 if path.suffix not in (".eif", ".pyc"):
                     found |= set(SPLIT.split(path.read_text(encoding="utf-8", errors="replace")))
