@@ -289,7 +289,7 @@ fn wide_char(s: &[u8], i: usize) -> usize
 }
 
 // A place up to which no byte from `from` on is odd. It tests up to eight bytes one by one before it looks for blocks, as a character beyond
-// ASCII often follows another soon. With a `for` loop, text in characters of two bytes takes 1.6 times as long or more (measured).
+// ASCII often follows another soon. With a `for` loop, text in characters of two bytes took up to 1.6 times as long, by where it was linked.
 fn past_few(s: &[u8], from: usize) -> usize
     requires { from ≤ length s.now }
     ensures { (from ≤ result) × (result ≤ length s.now) × BareRun s.now from result }
