@@ -2,8 +2,8 @@
 // being one. What it answers is said of the grammar, in the crate json_grammar.
 //
 // Outside strings each byte takes one lookup for its class and one for the entry of its class and mode; the byte after a number takes a
-// third. Inside strings, blocks of eight bytes that stand for themselves are passed at once, and so is each character beyond ASCII. The open
-// arrays and objects are a stack of bits in one number: there is no recursion, and the time is linear.
+// third. Inside strings, blocks of eight bytes that stand for themselves are passed at once, and so is a character beyond ASCII, but near the
+// end of the text. The open arrays and objects are a stack of bits in one number: there is no recursion, and the time is linear.
 #![tactic(auto)]
 
 mod tables;
@@ -71,6 +71,10 @@ const OPEN_ARRAY: usize = 54;
 const OPEN_OBJECT: usize = 55;
 
 const CLOSE: usize = 56;
+
+// How many bytes must be left for a character beyond ASCII to be passed at once: its own, at most four, and the eight after it, which are tested
+// with no look at the end of the text. Where fewer are left, the tables decide.
+const ROOM_SIZE: usize = 12;
 
 // How many values a byte has, each of one class.
 const BYTES: usize = 256;
@@ -234,28 +238,25 @@ fn stray(b: u8) -> bool
     b < 0x80 || 0xC0 <= b
 }
 
-// The size of the character beyond ASCII at place i. 0 if there is none, if it begins with F4, or if fewer than four bytes are left: then the
-// tables decide. An Option of the size makes the check of text beyond ASCII a fifth slower (measured), and so does the place after it.
+// The size of the character beyond ASCII at place i. 0 if there is none, or if it begins with F4: then the tables decide. An Option of the size
+// made the check of text beyond ASCII a fifth slower (measured before ROOM_SIZE was there), and so did the place after it.
 #[tactic(auto, using(crate::proofs::Beyond::passed_none))]
 fn wide_char(s: &[u8], i: usize) -> usize
-    requires { i ≤ length s.now }
-    ensures { (i + result ≤ length s.now) × Skipped s.now i (i + result) }
+    requires { i + 4 ≤ length s.now }
+    ensures { (result ≤ 4) × Skipped s.now i (i + result) }
 {
-    if s.len() - i < 4 {
-        return 0;
-    }
     let a = s[i];
-    if a < 0xC2 {
+    if 0xC2 <= a && a < 0xE0 {
+        if stray(s[i + 1]) {
+            return 0;
+        }
+        return 2;
+    }
+    if a < 0xE0 {
         return 0;
     }
     let b = s[i + 1];
-    if stray(b) {
-        return 0;
-    }
-    if a < 0xE0 {
-        return 2;
-    }
-    if stray(s[i + 2]) {
+    if stray(b) || stray(s[i + 2]) {
         return 0;
     }
     if a == 0xE0 {
@@ -289,19 +290,18 @@ fn wide_char(s: &[u8], i: usize) -> usize
 }
 
 // A place up to which no byte from `from` on is odd. It tests up to eight bytes one by one before it looks for blocks, as a character beyond
-// ASCII often follows another soon. With a `for` loop, text in characters of two bytes took up to 1.6 times as long, by where it was linked.
+// ASCII often follows another soon.
 fn past_few(s: &[u8], from: usize) -> usize
-    requires { from ≤ length s.now }
+    requires { from + 8 ≤ length s.now }
     ensures { (from ≤ result) × (result ≤ length s.now) × BareRun s.now from result }
 {
-    let mut i = from;
-    while i - from < 8 {
-        if s.len() <= i || odd(s[i]) {
+    for k in 0..8 {
+        let i = from + k;
+        if odd(s[i]) {
             return i;
         }
-        i += 1;
     }
-    past_blocks(s, i)
+    past_blocks(s, from + 8)
 }
 
 // The place of the first odd byte from `from` on, or the end. It tests one byte before it looks for blocks, as a string is often empty.
@@ -315,15 +315,17 @@ fn past_run(s: &[u8], from: usize) -> usize
     from
 }
 
-// The place after a run of bytes that are not odd and characters beyond ASCII. It is called apart: inlined into the walk, it takes longer for text in
-// characters of two bytes, and so does the walk for numbers and white space (measured).
+// The place after a run of bytes that are not odd and characters beyond ASCII. It is called apart: inlined, it makes the walk over numbers slower, by
+// where the code is linked (measured).
 #[inline(never)]
 fn past_chars(s: &[u8], from: usize) -> usize
     requires { from ≤ length s.now }
     ensures { (from ≤ result) × (result ≤ length s.now) × Skipped s.now from result }
 {
+    // From here on, fewer than ROOM_SIZE bytes are left.
+    let end = (s.len() + 1).saturating_sub(ROOM_SIZE);
     let mut i = past_run(s, from);
-    while i < s.len() {
+    while i < end {
         let n = wide_char(s, i);
         if n == 0 {
             return i;
